@@ -1,0 +1,7 @@
+pub mod Bools
+pub mod Lists
+pub mod Counts
+pub mod Cases
+pub mod Tabulate
+pub mod Segments
+pub mod Each

@@ -1,0 +1,121 @@
+-- Laws of tests over lists, and of membership. Assumes nothing.
+use mathlib.Core.Path.{_≡_, refl, sym, _∙_}
+use mathlib.Core.Logic.{_⊎_, inl, inr}
+use mathlib.Core.Bool.{Bool, true, false, not, _&&_, _||_, cond}
+use mathlib.Core.List.{List, [], _∷_, _++_, reverse, reverse-cons}
+use Prim.Native.Nat.{ℕ}
+use lib.Dec.{eqb}
+use borrow.Author.Tests.{eqb-true}
+use Rattle.lists.specs.Tests.{any, all, keepIf, concatMap, In, elem}
+use Rattle.lists.proofs.Bools.{tf, and-l, and-r, and-in, or-cases, or-l, or-r, never-true, same-test, split, eqb-self}
+
+module _ {A : Type 0} where
+  pub any-in : (f : A → Bool) (l : List A) (x : A) → In x l → f x ≡ true → any f l ≡ true
+  any-in f [] x m e = absurd m
+  any-in f (y ∷ l) x (inl p) e = or-l (f y) (any f l) (rw p at e)
+  any-in f (y ∷ l) x (inr m) e = or-r (f y) (any f l) (any-in f l x m e)
+
+  pub any-out : (f : A → Bool) (l : List A) → any f l ≡ true → (x : A) × In x l × (f x ≡ true)
+  any-out f [] e = tf false e refl
+  any-out f (y ∷ l) e = go (or-cases (f y) (any f l) e) (any-out f l)
+    where
+      go : (f y ≡ true) ⊎ (any f l ≡ true) → (any f l ≡ true → (x : A) × In x l × (f x ≡ true)) → (x : A) × In x (y ∷ l) × (f x ≡ true)
+      go (inl p) ih = (y, inl refl, p)
+      go (inr p) ih = (ih p .0, inr (ih p .1), ih p .2)
+
+  pub any-none : (f : A → Bool) (l : List A) (x : A) → any f l ≡ false → In x l → f x ≡ false
+  any-none f l x e m = never-true (f x) (λ p. tf (any f l) (any-in f l x m p) e)
+
+  pub all-out : (f : A → Bool) (l : List A) (x : A) → all f l ≡ true → In x l → f x ≡ true
+  all-out f [] x e m = absurd m
+  all-out f (y ∷ l) x e (inl p) = rw p (and-l (f y) (all f l) e)
+  all-out f (y ∷ l) x e (inr m) = all-out f l x (and-r (f y) (all f l) e) m
+
+  pub in-left : (l m : List A) (x : A) → In x l → In x (l ++ m)
+  in-left [] m x h = absurd h
+  in-left (y ∷ l) m x (inl p) = inl p
+  in-left (y ∷ l) m x (inr h) = inr (in-left l m x h)
+
+  pub in-right : (l m : List A) (x : A) → In x m → In x (l ++ m)
+  in-right [] m x h = h
+  in-right (y ∷ l) m x h = inr (in-right l m x h)
+
+  pub in-cases : (l m : List A) (x : A) → In x (l ++ m) → In x l ⊎ In x m
+  in-cases [] m x h = inr h
+  in-cases (y ∷ l) m x (inl p) = inl (inl p)
+  in-cases (y ∷ l) m x (inr h) = go (in-cases l m x h)
+    where
+      go : In x l ⊎ In x m → In x (y ∷ l) ⊎ In x m
+      go (inl q) = inl (inr q)
+      go (inr q) = inr q
+
+pub elem-in : (c : ℕ) (l : List ℕ) → elem c l ≡ true → In c l
+elem-in c [] e = tf false e refl
+elem-in c (x ∷ l) e = go (or-cases (eqb c x) (elem c l) e) (elem-in c l)
+  where
+    go : (eqb c x ≡ true) ⊎ (elem c l ≡ true) → (elem c l ≡ true → In c l) → In c (x ∷ l)
+    go (inl p) ih = inl (eqb-true c x p)
+    go (inr p) ih = inr (ih p)
+
+pub in-elem : (c : ℕ) (l : List ℕ) → In c l → elem c l ≡ true
+in-elem c l m = any-in (eqb c) l c m (eqb-self c)
+
+pub elem-keep : (f : ℕ → Bool) (c : ℕ) (l : List ℕ) → elem c (keepIf f l) ≡ true → (f c ≡ true) × (elem c l ≡ true)
+elem-keep f c [] e = tf false e refl
+elem-keep f c (x ∷ l) e = go (split (f x)) (split (eqb c x)) (elem-keep f c l)
+  where
+    go : (f x ≡ true) ⊎ (f x ≡ false) → (eqb c x ≡ true) ⊎ (eqb c x ≡ false)
+        → (elem c (keepIf f l) ≡ true → (f c ≡ true) × (elem c l ≡ true)) → (f c ≡ true) × (elem c (x ∷ l) ≡ true)
+    go (inl p) (inl q) ih = (rw (eqb-true c x q) p, or-l (eqb c x) (elem c l) q)
+    go (inl p) (inr q) ih = let h = ih (rw q at (rw p at e)) in (h .0, or-r (eqb c x) (elem c l) (h .1))
+    go (inr p) q ih = let h = ih (rw p at e) in (h .0, or-r (eqb c x) (elem c l) (h .1))
+
+pub keep-elem : (f : ℕ → Bool) (c : ℕ) (l : List ℕ) → f c ≡ true → elem c l ≡ true → elem c (keepIf f l) ≡ true
+keep-elem f c [] p e = e
+keep-elem f c (x ∷ l) p e = go (split (f x)) (or-cases (eqb c x) (elem c l) e) (keep-elem f c l p)
+  where
+    go : (f x ≡ true) ⊎ (f x ≡ false) → (eqb c x ≡ true) ⊎ (elem c l ≡ true)
+        → (elem c l ≡ true → elem c (keepIf f l) ≡ true) → elem c (keepIf f (x ∷ l)) ≡ true
+    go (inl q) (inl r) ih = rw q (or-l (eqb c x) (elem c (keepIf f l)) r)
+    go (inl q) (inr r) ih = rw q (or-r (eqb c x) (elem c (keepIf f l)) (ih r))
+    go (inr q) (inl r) ih = tf (f x) (rw (eqb-true c x r) at p) q
+    go (inr q) (inr r) ih = rw q (ih r)
+
+-- all the members of a list that is not empty have one value
+pub any-same : (f : ℕ → Bool) (b : Bool) (l : List ℕ) (c : ℕ) → elem c l ≡ true → ((x : ℕ) → elem x l ≡ true → f x ≡ b) → any f l ≡ b
+any-same f b l c m h = same-test (any f l) b up down
+  where
+    up : any f l ≡ true → b ≡ true
+    up e = let t = any-out f l e in sym (h (t .0) (in-elem (t .0) l (t .1))) ∙ t .2
+
+    down : b ≡ true → any f l ≡ true
+    down e = any-in f l c (elem-in c l m) (h c m ∙ e)
+
+module _ {A : Type 0} where
+  pub all-in : (f : A → Bool) (l : List A) → ((x : A) → In x l → f x ≡ true) → all f l ≡ true
+  all-in f [] h = refl
+  all-in f (x ∷ l) h = and-in (f x) (all f l) (h x (inl refl)) (all-in f l (λ y m. h y (inr m)))
+
+  pub in-reverse : (l : List A) (x : A) → In x (reverse l) → In x l
+  in-reverse [] x m = m
+  in-reverse (y ∷ l) x m = go (in-cases (reverse l) (y ∷ []) x (rw (reverse-cons y l) at m)) (in-reverse l x)
+    where
+      go : In x (reverse l) ⊎ In x (y ∷ []) → (In x (reverse l) → In x l) → In x (y ∷ l)
+      go (inl h) ih = inr (ih h)
+      go (inr (inl e)) ih = inl e
+      go (inr (inr e)) ih = absurd e
+
+-- a number in the lists that f gives, one behind the other
+module _ {A : Type 0} (f : A → List ℕ) where
+  pub concat-out : (l : List A) (c : ℕ) → In c (concatMap f l) → (p : A) × In p l × (elem c (f p) ≡ true)
+  concat-out [] c m = absurd m
+  concat-out (p ∷ l) c m = go (in-cases (f p) (concatMap f l) c m) (concat-out l c)
+    where
+      go : In c (f p) ⊎ In c (concatMap f l) → (In c (concatMap f l) → (q : A) × In q l × (elem c (f q) ≡ true)) → (q : A) × In q (p ∷ l) × (elem c (f q) ≡ true)
+      go (inl i) ih = (p, inl refl, in-elem c (f p) i)
+      go (inr i) ih = (ih i .0, inr (ih i .1), ih i .2)
+
+  pub concat-in : (l : List A) (c : ℕ) (p : A) → In p l → elem c (f p) ≡ true → In c (concatMap f l)
+  concat-in [] c p m e = absurd m
+  concat-in (q ∷ l) c p (inl i) e = in-left (f q) (concatMap f l) c (elem-in c (f q) (rw i at e))
+  concat-in (q ∷ l) c p (inr i) e = in-right (f q) (concatMap f l) c (concat-in l c p i e)
