@@ -1,0 +1,101 @@
+-- The image: document 01, "The image". The counts, the ranges and the sizes stand here and nowhere else; the fields of
+-- the control part, of a block's first byte and of a slot's 40 bits stand with their codecs.
+--
+--   offset in the image      size     what
+--   0                        32       control part
+--   32 + card × 2,624        2,624    the card's table: 64 blocks of 41 bytes, block 0 first
+--
+--   offset in a block        size     what
+--   0                        1        highest bit: held
+--   1 + place × 5            5        slot: present 1 bit, value 16, lock 4, pending present 1 and value 16, unnamed 2
+-- Assumes nothing.
+use mathlib.Core.Path.{_≡_}
+use mathlib.Core.List.{List}
+use Prim.Native.Nat.{ℕ, _+_, _*_}
+use lib.ListN.{length, replicate}
+use Rattle.lists.specs.Segments.{segment, splice}
+
+-- Cards 0 to 7, blocks 0 to 63, records 0 to 511, transactions 1 to 15; a value has 16 bits; every record lies on two
+-- cards.
+abbrev pub cardCount : ℕ
+cardCount = 8
+
+abbrev pub blockCount : ℕ
+blockCount = 64
+
+abbrev pub slotCount : ℕ
+slotCount = 8
+
+abbrev pub recordCount : ℕ
+recordCount = blockCount * slotCount
+
+abbrev pub tranBound : ℕ
+tranBound = 16
+
+abbrev pub valueBound : ℕ
+valueBound = 65536
+
+abbrev pub copyCount : ℕ
+copyCount = 2
+
+-- Sizes in bytes. A table may have bytes behind its blocks and the image bytes behind its tables: none today.
+abbrev pub controlSize : ℕ
+controlSize = 32
+
+abbrev pub slotSize : ℕ
+slotSize = 5
+
+abbrev pub blockSize : ℕ
+blockSize = 1 + slotCount * slotSize
+
+abbrev pub blocksSize : ℕ
+blocksSize = blockCount * blockSize
+
+abbrev pub tableTail : ℕ
+tableTail = 0
+
+abbrev pub tableSize : ℕ
+tableSize = blocksSize + tableTail
+
+abbrev pub imageTail : ℕ
+imageTail = 0
+
+abbrev pub imageSize : ℕ
+imageSize = controlSize + cardCount * tableSize + imageTail
+
+-- Where a slot starts in its block, a block in its table, a table in the image and a block in the image.
+abbrev pub slotStart : ℕ → ℕ
+slotStart i = 1 + i * slotSize
+
+abbrev pub blockStart : ℕ → ℕ
+blockStart b = b * blockSize
+
+abbrev pub tableStart : ℕ → ℕ
+tableStart c = controlSize + c * tableSize
+
+abbrev pub blockAddress : ℕ → ℕ → ℕ
+blockAddress c b = tableStart c + blockStart b
+
+-- An image of the right length; its control part; the table of card c.
+abbrev pub Whole : List ℕ → Type 0
+Whole image = length image ≡ imageSize
+
+abbrev pub controlBytes : List ℕ → List ℕ
+controlBytes image = segment image 0 controlSize
+
+abbrev pub tableAt : List ℕ → ℕ → List ℕ
+tableAt image c = segment image (tableStart c) tableSize
+
+-- n zero bytes, and the image with another table of card c.
+unfoldable pub zeros : ℕ → List ℕ
+zeros n = replicate n 0
+
+unfoldable pub putTable : List ℕ → ℕ → List ℕ → List ℕ
+putTable image c bytes = splice image (tableStart c) bytes
+
+-- The 41 bytes of block b of card c, and the image with other bytes there.
+unfoldable pub blockAt : List ℕ → ℕ → ℕ → List ℕ
+blockAt image c b = segment image (blockAddress c b) blockSize
+
+unfoldable pub putBlock : List ℕ → ℕ → ℕ → List ℕ → List ℕ
+putBlock image c b bytes = splice image (blockAddress c b) bytes

@@ -1,0 +1,149 @@
+// The image: a lent list of bytes, its layout, the four namings, and the one writer of blocks.
+ghost use mathlib.Core.Path.{_≡_};
+ghost use Prim.Native.Nat.{_+_, _≤_, _<_};
+ghost use lib.ListN.{length};
+ghost use Rattle.lists.specs.Segments.{segment, splice};
+ghost use Rattle.image.specs.Layout.{
+  Whole,
+  blockAt,
+  blockCount,
+  blockSize,
+  blockStart,
+  cardCount,
+  putBlock,
+  putTable,
+  tableSize,
+  tableStart,
+  zeros,
+};
+
+// The layout: counts, and sizes in bytes.
+pub const CARD_COUNT: usize = 8;
+
+pub const BLOCK_COUNT: usize = 64;
+
+pub const SLOT_COUNT: usize = 8;
+
+pub const COPY_COUNT: usize = 2;
+
+pub const CONTROL_SIZE: usize = 32;
+
+pub const SLOT_SIZE: usize = 5;
+
+pub const BLOCK_SIZE: usize = 1 + SLOT_COUNT * SLOT_SIZE;
+
+pub const TABLE_SIZE: usize = BLOCK_COUNT * BLOCK_SIZE;
+
+pub const IMAGE_SIZE: usize = CONTROL_SIZE + CARD_COUNT * TABLE_SIZE;
+
+// A card, 0 to 7.
+pub struct Card(pub u8);
+
+// A block of a card's table, 0 to 63.
+pub struct Block(pub u8);
+
+// A record, 0 to 511.
+pub struct Rec(pub u16);
+
+// A transaction, 1 to 15.
+pub struct Tran(pub u8);
+
+// Writes bytes into s from index at.
+pub fn write_at(s: &mut [u8], at: usize, bytes: &[u8])
+    requires { ⌜ at + length (now bytes) ≤ length (now s) ⌝ }
+    ensures { λ _. ⌜ now (s .exit) ≡ splice (now (s .entry)) at (now (bytes .entry)) ⌝ }
+{
+    let mut i = 0;
+    while i < bytes.len() {
+        s[at + i] = bytes[i];
+        i += 1;
+    }
+}
+
+// The 41 bytes of s from index at.
+pub fn read_at(s: &[u8], at: usize) -> [u8; 41]
+    requires { ⌜ at + blockSize ≤ length (now s) ⌝ }
+    ensures { λ r. ⌜ r ≡ segment (now (s .entry)) at blockSize ⌝ }
+{
+    let mut bytes = [0u8; 41];
+    let mut i = 0;
+    while i < BLOCK_SIZE {
+        bytes[i] = s[at + i];
+        i += 1;
+    }
+    bytes
+}
+
+// The block writer: writes one block of a card's table.
+pub fn write_block(table: &mut [u8], block: Block, bytes: [u8; 41])
+    requires { ⌜ (length (now table) ≡ tableSize) × (block .0 < blockCount) ⌝ }
+    ensures { λ _. ⌜ now (table .exit) ≡ splice (now (table .entry)) (blockStart (block .0)) bytes ⌝ }
+{
+    write_at(table, block.0 as usize * BLOCK_SIZE, &bytes);
+}
+
+// Where the card's table starts in the image.
+fn table_start(card: Card) -> usize
+    requires { ⌜ card .0 < cardCount ⌝ }
+    ensures { λ r. ⌜ r ≡ tableStart (card .0) ⌝ }
+{
+    CONTROL_SIZE + card.0 as usize * TABLE_SIZE
+}
+
+// Writes one block of a card: the card's table, a part from the middle of the image, is lent on to the block writer.
+pub fn put_block(image: &mut [u8], card: Card, block: Block, bytes: [u8; 41])
+    requires { ⌜ Whole (now image) × (card .0 < cardCount) × (block .0 < blockCount) ⌝ }
+    ensures { λ _. ⌜ now (image .exit) ≡ putBlock (now (image .entry)) (card .0) (block .0) bytes ⌝ }
+{
+    let start = table_start(card);
+    let end = start + TABLE_SIZE;
+    write_block(&mut image[start..end], block, bytes);
+}
+
+// One block of a card.
+pub fn get_block(image: &[u8], card: Card, block: Block) -> [u8; 41]
+    requires { ⌜ Whole (now image) × (card .0 < cardCount) × (block .0 < blockCount) ⌝ }
+    ensures { λ r. ⌜ r ≡ blockAt (now (image .entry)) (card .0) (block .0) ⌝ }
+{
+    let start = table_start(card);
+    read_at(image, start + block.0 as usize * BLOCK_SIZE)
+}
+
+// Copies one block from a card to another.
+pub fn copy_block(image: &mut [u8], from: Card, to: Card, block: Block)
+    requires { ⌜ Whole (now image) × (from .0 < cardCount) × (to .0 < cardCount) × (block .0 < blockCount) ⌝ }
+    ensures { λ _. ⌜ now (image .exit)
+        ≡ putBlock (now (image .entry)) (to .0) (block .0) (blockAt (now (image .entry)) (from .0) (block .0)) ⌝ }
+{
+    let bytes = get_block(image, from, block);
+    put_block(image, to, block, bytes);
+}
+
+// Writes one block of a card with zeros.
+pub fn clear_block(image: &mut [u8], card: Card, block: Block)
+    requires { ⌜ Whole (now image) × (card .0 < cardCount) × (block .0 < blockCount) ⌝ }
+    ensures { λ _. ⌜ now (image .exit) ≡ putBlock (now (image .entry)) (card .0) (block .0) (zeros blockSize) ⌝ }
+{
+    put_block(image, card, block, [0u8; 41]);
+}
+
+// Writes zeros over s.
+pub fn clear(s: &mut [u8])
+    ensures { λ _. ⌜ now (s .exit) ≡ zeros (length (now (s .entry))) ⌝ }
+{
+    let mut i = 0;
+    while i < s.len() {
+        s[i] = 0;
+        i += 1;
+    }
+}
+
+// Writes zeros over a card's table.
+pub fn clear_table(image: &mut [u8], card: Card)
+    requires { ⌜ Whole (now image) × (card .0 < cardCount) ⌝ }
+    ensures { λ _. ⌜ now (image .exit) ≡ putTable (now (image .entry)) (card .0) (zeros tableSize) ⌝ }
+{
+    let start = table_start(card);
+    let end = start + TABLE_SIZE;
+    clear(&mut image[start..end]);
+}
