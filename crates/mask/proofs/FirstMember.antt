@@ -1,0 +1,60 @@
+-- The first member of a mask, and the mask without it. Assumes nothing.
+use mathlib.Core.Path.{_≡_, refl, ap₂}
+use mathlib.Core.Bool.{Bool, true, false, not, _&&_, _||_}
+use mathlib.Core.List.{List, [], _∷_}
+use Prim.Native.Nat.{ℕ, _<_}
+use lib.Count.{leadingZeros}
+use lib.Dec.{ltb, eqb}
+use lib.ListN.{length, getD, drop}
+use borrow.Author.Tests.{eqb-true, ltb-true, lt-ltb}
+use Rattle.lists.specs.Tests.{allBelow}
+use Rattle.lists.proofs.Bools.{tf, and-l, and-r, imp-out}
+use Rattle.lists.proofs.Counts.{below-all}
+use Rattle.image.specs.Layout.{cardCount}
+use Rattle.mask.specs.Masks.{byte, hasCard, withoutCard, members}
+
+-- Equality of two lists of numbers, as a test.
+sameList : List ℕ → List ℕ → Bool
+sameList [] [] = true
+sameList [] (y ∷ m) = false
+sameList (x ∷ l) [] = false
+sameList (x ∷ l) (y ∷ m) = eqb x y && sameList l m
+
+same-list : (l m : List ℕ) → sameList l m ≡ true → l ≡ m
+unfolding sameList
+same-list [] [] e = refl
+same-list [] (y ∷ m) e = tf false e refl
+same-list (x ∷ l) [] e = tf false e refl
+same-list (x ∷ l) (y ∷ m) e = ap₂ _∷_ (eqb-true x y (and-l (eqb x y) _ e)) (same-list l m (and-r (eqb x y) _ e))
+
+-- The count of leading zeros is the first member, of a mask that has one.
+firstIs : ℕ → Bool
+firstIs n = not (ltb 0 (length (members (byte n))))
+    || (ltb (leadingZeros 8 n) cardCount && eqb (leadingZeros 8 n) (getD (members (byte n)) 0 0))
+
+test-first : allBelow 256 firstIs ≡ true
+unfolding firstIs leadingZeros members hasCard
+test-first = refl
+
+module _ (n : ℕ) (h : n < 256) (some : 0 < length (members (byte n))) where
+  first-both : (ltb (leadingZeros 8 n) cardCount && eqb (leadingZeros 8 n) (getD (members (byte n)) 0 0)) ≡ true
+  unfolding firstIs
+  first-both = imp-out _ _ (below-all 256 firstIs n test-first h) (lt-ltb 0 (length (members (byte n))) some)
+
+  pub first-card : leadingZeros 8 n < cardCount
+  first-card = ltb-true _ _ (and-l (ltb (leadingZeros 8 n) cardCount) _ first-both)
+
+  pub first-is : leadingZeros 8 n ≡ getD (members (byte n)) 0 0
+  first-is = eqb-true _ _ (and-r (ltb (leadingZeros 8 n) cardCount) _ first-both)
+
+-- Without it, the others are left.
+restIs : ℕ → Bool
+restIs n = sameList (members (withoutCard (byte n) (leadingZeros 8 n))) (drop 1 (members (byte n)))
+
+test-rest : allBelow 256 restIs ≡ true
+unfolding restIs sameList leadingZeros members hasCard withoutCard
+test-rest = refl
+
+pub rest-is : (n : ℕ) → n < 256 → members (withoutCard (byte n) (leadingZeros 8 n)) ≡ drop 1 (members (byte n))
+unfolding restIs
+rest-is n h = same-list _ _ (below-all 256 restIs n test-rest h)
