@@ -1,0 +1,16 @@
+-- The proof of `Slot::drop`. Assumes nothing.
+use borrow.Author.Needs.{needs}
+use Rattle.slot.proofs.Slot.drop.Statement.{statement}
+use Rattle.slot.proofs.Slot.drop.Tie as tie
+use Rattle.slot.proofs.Slot.drop.Reads as reads
+use Rattle.slot.proofs.Slot.drop.Lts as lts
+use Rattle.slot.proofs.Entry.absent.Reads as absent-reads
+
+absent-requires : tie.Need-absent-requires
+absent-requires c κs = search needs
+
+returns : tie.Need-returns
+returns c = cc
+
+pub drop-spec : {M : Type 1} → statement M
+drop-spec = tie.close (tie.spec absent-requires returns)

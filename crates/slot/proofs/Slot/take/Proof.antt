@@ -1,0 +1,20 @@
+-- The proof of `Slot::take`. Assumes nothing.
+use borrow.Author.Needs.{needs}
+use Rattle.slot.proofs.Slot.take.Statement.{statement}
+use Rattle.slot.proofs.Slot.take.Tie as tie
+use Rattle.slot.proofs.Slot.take.Reads as reads
+use Rattle.slot.proofs.Slot.take.Lts as lts
+use Rattle.slot.proofs.Entry.absent.Reads as absent-reads
+use Rattle.slot.proofs.Entry.plain.Reads as plain-reads
+
+plain-requires : tie.Need-plain-requires
+plain-requires c κs = search needs
+
+absent-requires : tie.Need-absent-requires
+absent-requires c κs = search needs
+
+returns : tie.Need-returns
+returns c = cc
+
+pub take-spec : {M : Type 1} → statement M
+take-spec = tie.close (tie.spec plain-requires absent-requires returns)
