@@ -1,0 +1,13 @@
+pub mod Laws
+pub mod Refusals
+pub mod Slots
+pub mod StopRule
+pub mod Invariant
+pub mod Keeping
+pub mod ControlForms
+pub mod MoveEffect
+pub mod Calls
+pub mod Capacity
+pub mod Sight
+pub mod Run
+pub mod Reached

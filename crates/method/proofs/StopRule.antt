@@ -1,0 +1,49 @@
+-- The stop rule of the store and that of the plain record list are one. Assumes nothing.
+use Prim.Native.Nat.{_<_, _≤_, ℕ}
+use borrow.Author.Tests.{le-ltb, leb-false, lt-leb, ltb-false}
+use lib.Dec.{leb, ltb}
+use mathlib.Core.Bool.{Bool, _&&_, _||_, false, true}
+use mathlib.Core.Path.{_≡_, ap, ap₂, fun-ext}
+use Rattle.lists.specs.Tests.{any, count}
+use Rattle.lists.proofs.Bools.{nor-l, nor-r}
+use Rattle.method.specs.Changes.{Control}
+use Rattle.method.specs.ControlPart.{active}
+use Rattle.method.specs.Parameters.{Parameters}
+use Rattle.method.specs.PlainList.{stopsNow}
+use Rattle.method.specs.Rules.{lostOf, stopping}
+use Rattle.method.proofs.Laws.{Laws}
+
+-- ---- what the stop rule says of one placement
+module _ (P : Parameters) (σ : P .Setting) (working failed : P .Mask) (p : P .Placement) where
+  open Parameters P using (cards, copies, has, mask)
+
+  -- a placement that is not lost has fewer failed members than copies, and as many working members as copies
+  pub few-failed : lostOf P σ working failed p ≡ false → count cards (λ c. has (mask p) c && has failed c) < copies σ
+  unfolding lostOf
+  few-failed e =
+      let n : ℕ = count cards (λ c. has (mask p) c && has failed c) in
+      let m : ℕ = count cards (λ c. has (mask p) c && has working c) in
+      leb-false (copies σ) n (nor-l (leb (copies σ) n) (ltb m (copies σ)) e)
+
+  pub enough-work : lostOf P σ working failed p ≡ false → copies σ ≤ count cards (λ c. has (mask p) c && has working c)
+  unfolding lostOf
+  enough-work e =
+      let n : ℕ = count cards (λ c. has (mask p) c && has failed c) in
+      let m : ℕ = count cards (λ c. has (mask p) c && has working c) in
+      ltb-false m (copies σ) (nor-r (leb (copies σ) n) (ltb m (copies σ)) e)
+
+  -- and one of which both hold is not lost
+  pub not-lost : count cards (λ c. has (mask p) c && has failed c) < copies σ → copies σ ≤ count cards (λ c. has (mask p) c && has working c)
+      → lostOf P σ working failed p ≡ false
+  unfolding lostOf
+  not-lost a b = rw (lt-leb (copies σ) (count cards (λ c. has (mask p) c && has failed c)) a, le-ltb (count cards (λ c. has (mask p) c && has working c)) (copies σ) b)
+
+-- ---- the two writings of the stop rule
+module _ (P : Parameters) (L : Laws P) where
+  open Parameters P using (Placement, cards, copies)
+  open Laws L using (has-insert, has-remove)
+
+  pub stop-same : (k : Control P) (c : ℕ) → ltb c cards ≡ true → stopsNow P k c ≡ stopping P k c
+  unfolding stopsNow stopping lostOf
+  stop-same k c c-ok = ap (λ (f : Placement → Bool). any f (active k)) (fun-ext (λ p. ap₂ (λ (x y : ℕ → Bool). leb (copies (k .setting)) (count cards x) || ltb (count cards y) (copies (k .setting)))
+      (fun-ext (λ x. rw (has-insert (k .failed) c x c-ok))) (fun-ext (λ x. rw (has-remove (k .working) c x)))))

@@ -1,0 +1,75 @@
+-- The control part: what the store keeps beside its card tables, and what the plain record list keeps beside its
+-- records. Every change yields a whole new control part; those that both sides make stand here. Assumes nothing.
+use mathlib.Core.Bool.{Bool, true, false, cond}
+use mathlib.Core.Option.{Option, some, none}
+use mathlib.Core.List.{List, [], _∷_, _++_}
+use Prim.Native.Nat.{ℕ}
+use lib.Dec.{eqb}
+use Rattle.method.specs.Slots.{isSome}
+
+-- The active placements are the older ones, oldest first, and then the newest; each open transaction has its home
+-- card; the setting is what a start fixes until the next.
+pub record ControlPart (Mask Placement Setting : Type 0) : Type 0 where
+  pub stopped : Bool
+  pub older : List Placement
+  pub newest : Placement
+  pub working : Mask
+  pub failed : Mask
+  pub home : ℕ → Option ℕ
+  pub setting : Setting
+
+abbrev pub isCard : Option ℕ → ℕ → Bool
+isCard none c = false
+isCard (some h) c = eqb h c
+
+module _ {Mask Placement Setting : Type 0} where
+  abbrev pub active : ControlPart Mask Placement Setting → List Placement
+  active k = k .older ++ (k .newest ∷ [])
+
+  -- Transaction t is open.
+  abbrev pub isOpen : ControlPart Mask Placement Setting → ℕ → Bool
+  isOpen k t = isSome (k .home t)
+
+  -- Transaction t was begun at card c.
+  abbrev pub begunAt : ControlPart Mask Placement Setting → ℕ → ℕ → Bool
+  begunAt k c t = isCard (k .home t) c
+
+  -- A whole control part, field by field.
+  abbrev pub part : Bool → List Placement → Placement → Mask → Mask → (ℕ → Option ℕ) → Setting
+      → ControlPart Mask Placement Setting
+  part s o n w f h σ = record { stopped = s; older = o; newest = n; working = w; failed = f; home = h; setting = σ }
+
+  -- One placement and its cards, none failed, none open.
+  abbrev pub started : Placement → Mask → Mask → Setting → ControlPart Mask Placement Setting
+  started p cards nobody σ = part false [] p cards nobody (λ t. none) σ
+
+  -- Other homes; other working and failed cards; other placements.
+  abbrev pub withHome : ControlPart Mask Placement Setting → (ℕ → Option ℕ) → ControlPart Mask Placement Setting
+  withHome k h = part (k .stopped) (k .older) (k .newest) (k .working) (k .failed) h (k .setting)
+
+  abbrev pub withCards : ControlPart Mask Placement Setting → Mask → Mask → ControlPart Mask Placement Setting
+  withCards k w f = part (k .stopped) (k .older) (k .newest) w f (k .home) (k .setting)
+
+  abbrev pub withPlacements : ControlPart Mask Placement Setting → List Placement → Placement
+      → ControlPart Mask Placement Setting
+  withPlacements k o n = part (k .stopped) o n (k .working) (k .failed) (k .home) (k .setting)
+
+  -- The transaction opens with its home.
+  abbrev pub opened : ControlPart Mask Placement Setting → ℕ → ℕ → ControlPart Mask Placement Setting
+  opened k t h = withHome k (λ x. cond (eqb x t) (some h) (k .home x))
+
+  -- The transactions that f picks close.
+  abbrev pub closed : ControlPart Mask Placement Setting → (ℕ → Bool) → ControlPart Mask Placement Setting
+  closed k f = withHome k (λ x. cond (f x) none (k .home x))
+
+  -- The placement becomes the newest.
+  abbrev pub added : ControlPart Mask Placement Setting → Placement → ControlPart Mask Placement Setting
+  added k p = withPlacements k (active k) p
+
+  -- Only the newest placement remains.
+  abbrev pub onlyNewest : ControlPart Mask Placement Setting → ControlPart Mask Placement Setting
+  onlyNewest k = withPlacements k [] (k .newest)
+
+  -- The stopped bit is set and no transaction is open.
+  abbrev pub halted : ControlPart Mask Placement Setting → ControlPart Mask Placement Setting
+  halted k = part true (k .older) (k .newest) (k .working) (k .failed) (λ t. none) (k .setting)

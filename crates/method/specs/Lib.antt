@@ -1,0 +1,7 @@
+pub mod Slots
+pub mod ControlPart
+pub mod Parameters
+pub mod Changes
+pub mod Rules
+pub mod PlainList
+pub mod OneRecordList

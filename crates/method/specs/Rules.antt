@@ -1,0 +1,305 @@
+-- The rules of the store, call by call: document 01, "Sites and trail" and "The calls". Assumes nothing.
+use Prim.Native.Nat.{suc, zero, ℕ}
+use lib.Dec.{eqb, leb, ltb}
+use lib.ListN.{length, take}
+use mathlib.Core.Bool.{Bool, _&&_, _||_, cond, false, not, true}
+use mathlib.Core.List.{List, [], _∷_}
+use mathlib.Core.Option.{Option, none, some}
+use Rattle.lists.specs.Tests.{all, allBelow, any, anyBelow, concatMap, count, countNot, elem, keepIf, sumBelow}
+use Rattle.method.specs.Changes.{Control, marked, replaced, startedBy}
+use Rattle.method.specs.ControlPart.{active, added, begunAt, closed, halted, isOpen, onlyNewest, opened}
+use Rattle.method.specs.ControlPart.{withCards}
+use Rattle.method.specs.Parameters.{Parameters}
+use Rattle.method.specs.Slots.{Slot, blank, isNone, isSome, lockedByOther, readBy}
+
+-- A row of the refusal table: its number where its condition applies, else what the rows below it say. 0 is accepted.
+abbrev pub row : ℕ → Bool → ℕ → ℕ
+row n true below = n
+row n false below = below
+
+-- A block as a call leaves it: what it writes there, else as found.
+abbrev pub updated : {A : Type 0} → Option A → A → A
+updated none x = x
+updated (some y) x = y
+
+module _ (P : Parameters) where
+  open Parameters P using (Mask, Placement, Setting, Block, StartArgument, PlaceArgument, cards, transactions, slots)
+  open Parameters P using (copies, blocks, tranInRange, recInRange, valueInRange, blockOf, placeOf, has, insert, remove)
+  open Parameters P using (mask, sites, without, startRefusal, places, placeInRange, placeRefusal, empty, fresh, held)
+  open Parameters P using (slot, lockSlot, endSlots)
+
+  pub data Call : Type 0 where
+    start : StartArgument → Call
+    -- transaction, home card
+    begin : ℕ → ℕ → Call
+    -- transaction, record; store also a value
+    get : ℕ → ℕ → Call
+    store : ℕ → ℕ → ℕ → Call
+    delete : ℕ → ℕ → Call
+    -- transaction
+    commit : ℕ → Call
+    rollback : ℕ → Call
+    -- card
+    fit : ℕ → Call
+    withdraw : ℕ → Call
+    place : PlaceArgument → Call
+    fail : ℕ → Call
+    -- card, block
+    move : ℕ → ℕ → Call
+    settle : Call
+    state : Call
+    load : ℕ → Call
+
+  pub data Answer : Type 0 where
+    ok : Answer
+    value : ℕ → Answer
+    absent : Answer
+    placed : Placement → Answer
+    unplaced : Answer
+    stops : Answer
+    copied : ℕ → Answer
+    retired : ℕ → Answer
+    protected : Answer
+    unprotected : Answer
+    loaded : ℕ → Answer
+    refused : ℕ → Answer
+
+  -- The card tables: the block of a card.
+  abbrev pub View : Type 0
+  View = ℕ → ℕ → Block
+
+  pub record State : Type 0 where
+    pub control : Control P
+    pub block : View
+
+  -- ---- what a call may read
+  -- A card that does not work is not read, nor a block above the setting: such a block is as one that is not held.
+  abbrev pub visible : Control P → ℕ → ℕ → Bool
+  visible k c b = has (k .working) c && ltb b (blocks (k .setting))
+
+  unfoldable pub look : State → View
+  look s c b = cond (visible (s .control) c b) (s .block c b) empty
+
+  -- ---- sites and trail
+  abbrev pub newestSites : Control P → ℕ → List ℕ
+  newestSites k b = sites (k .setting) (k .newest) b
+
+  -- The trail of a block is the sites of all active placements, oldest first, failed cards skipped.
+  unfoldable pub trail : Control P → ℕ → List ℕ
+  trail k b = keepIf (λ c. not (has (k .failed) c)) (concatMap (λ p. sites (k .setting) p b) (active k))
+
+  -- A holder is a card on the trail that holds the block.
+  unfoldable pub holders : Control P → View → ℕ → List ℕ
+  holders k v b = keepIf (λ c. held (v c b)) (trail k b)
+
+  -- The first holder's slot; with no holder the record is absent.
+  abbrev pub firstSlot : View → ℕ → List ℕ → Slot
+  firstSlot v r [] = blank
+  firstSlot v r (c ∷ l) = slot (v c (blockOf r)) (placeOf r)
+
+  abbrev pub seenSlot : Control P → View → ℕ → Slot
+  seenSlot k v r = firstSlot v r (holders k v (blockOf r))
+
+  -- ---- conditions that the calls name
+  -- Some holder's slot is locked by another number.
+  abbrev pub lockedOut : Control P → View → ℕ → ℕ → Bool
+  lockedOut k v t r = any (λ c. lockedByOther t (slot (v c (blockOf r)) (placeOf r))) (holders k v (blockOf r))
+
+  -- The card is in an active placement.
+  abbrev pub inActive : Control P → ℕ → Bool
+  inActive k c = any (λ p. has (mask p) c) (active k)
+
+  -- The stop rule of one placement: as many failed members as copies, or fewer working members than copies.
+  unfoldable pub lostOf : Setting → Mask → Mask → Placement → Bool
+  lostOf σ working failed p =
+      leb (copies σ) (count cards (λ c. has (mask p) c && has failed c))
+      || ltb (count cards (λ c. has (mask p) c && has working c)) (copies σ)
+
+  abbrev pub lost : Control P → Placement → Bool
+  lost k p = lostOf (k .setting) (k .working) (k .failed) p
+
+  -- With the card marked failed, some active placement is lost.
+  unfoldable pub stopping : Control P → ℕ → Bool
+  stopping k c = any (lost (marked P k c)) (active k)
+
+  -- Some slot of the block is locked.
+  unfoldable pub anyLocked : Block → Bool
+  anyLocked x = anyBelow slots (λ p. not (eqb ((slot x p) .lock) 0))
+
+  -- A block held on a working card is held by all its newest sites and by no other working card.
+  unfoldable pub settledAt : Control P → View → ℕ → Bool
+  settledAt k v b =
+      allBelow cards (λ c. not (held (v c b))
+      || (elem c (newestSites k b) && all (λ x. held (v x b)) (newestSites k b)))
+
+  unfoldable pub settled : Control P → View → Bool
+  settled k v = allBelow (blocks (k .setting)) (settledAt k v)
+
+  -- Protected exactly when one placement is active (003, section 5).
+  unfoldable pub isProtected : Control P → Bool
+  isProtected k = elim (k .older) [ [] ↦ true | p ∷ l ↦ false ]
+
+  -- ---- the refusal table from 3 on: the lowest number that applies, 0 where none does
+  -- start gives only 9 (and 1); every other call is refused 4 when stopped.
+  unfoldable pub refusal : Call → Control P → View → ℕ
+  refusal (start a) k v = startRefusal a
+  refusal (begin t h) k v =
+      row 3 (not (tranInRange t && ltb h cards)) (
+      row 4 (k .stopped) (
+      row 6 (isOpen k t) (
+      row 8 (not (has (mask (k .newest)) h)) 0)))
+  refusal (get t r) k v =
+      row 3 (not (tranInRange t && recInRange (k .setting) r)) (
+      row 4 (k .stopped) (
+      row 5 (not (isOpen k t)) (
+      row 7 (lockedOut k v t r) 0)))
+  refusal (store t r n) k v =
+      row 3 (not (tranInRange t && recInRange (k .setting) r && valueInRange n)) (
+      row 4 (k .stopped) (
+      row 5 (not (isOpen k t)) (
+      row 7 (lockedOut k v t r) 0)))
+  refusal (delete t r) k v =
+      row 3 (not (tranInRange t && recInRange (k .setting) r)) (
+      row 4 (k .stopped) (
+      row 5 (not (isOpen k t)) (
+      row 7 (lockedOut k v t r) 0)))
+  refusal (commit t) k v =
+      row 3 (not (tranInRange t)) (
+      row 4 (k .stopped) (
+      row 5 (not (isOpen k t)) 0))
+  refusal (rollback t) k v =
+      row 3 (not (tranInRange t)) (
+      row 4 (k .stopped) (
+      row 5 (not (isOpen k t)) 0))
+  refusal (fit c) k v =
+      row 3 (not (ltb c cards)) (
+      row 4 (k .stopped) (
+      row 8 (has (k .working) c || inActive k c) 0))
+  refusal (withdraw c) k v =
+      row 3 (not (ltb c cards)) (
+      row 4 (k .stopped) (
+      row 8 (not (has (k .working) c) || inActive k c) (
+      row 14 (anyBelow transactions (begunAt k c)) 0)))
+  refusal (place a) k v =
+      row 3 (not (placeInRange a)) (
+      row 4 (k .stopped) (
+      placeRefusal k a))
+  refusal (fail c) k v =
+      row 3 (not (ltb c cards)) (
+      row 4 (k .stopped) (
+      row 8 (not (has (k .working) c)) 0))
+  refusal (move c b) k v =
+      row 3 (not (ltb c cards && ltb b (blocks (k .setting)))) (
+      row 4 (k .stopped) (
+      row 8 (not (has (k .working) c)) (
+      row 11 (not (held (v c b))) (
+      row 12 (anyLocked (v c b)) 0))))
+  refusal settle k v =
+      row 4 (k .stopped) (
+      row 13 (not (settled k v)) 0)
+  refusal state k v =
+      row 4 (k .stopped) 0
+  refusal (load c) k v =
+      row 3 (not (ltb c cards)) (
+      row 4 (k .stopped) (
+      row 8 (not (has (k .working) c)) 0))
+
+  -- ---- what an accepted call answers and leaves
+  -- The answer, the control part after it, and for each card and block what is written there, if anything.
+  pub record Plan : Type 0 where
+    pub answer : Answer
+    pub after : Control P
+    pub write : ℕ → ℕ → Option Block
+
+  -- A plan that writes no block, and one that writes some.
+  abbrev pub unwritten : Answer → Control P → Plan
+  unwritten a k = record { answer = a; after = k; write = λ c b. none }
+
+  abbrev pub writing : Answer → Control P → (ℕ → ℕ → Option Block) → Plan
+  writing a k w = record { answer = a; after = k; write = w }
+
+  -- get: a value, or absent.
+  abbrev pub reply : Option ℕ → Answer
+  reply none = absent
+  reply (some n) = value n
+
+  -- Every holder's slot is locked and given the pending state.
+  unfoldable pub lockHolders : Control P → View → ℕ → ℕ → Option ℕ → ℕ → ℕ → Option Block
+  lockHolders k v t r x c b =
+      cond (eqb b (blockOf r)) (cond (elem c (holders k v b)) (some (lockSlot (v c b) (placeOf r) t x)) none) none
+
+  -- With no holder, all sites of the newest placement get the block, all else in it zero.
+  unfoldable pub layBlock : Control P → ℕ → ℕ → Option ℕ → ℕ → ℕ → Option Block
+  layBlock k t r x c b =
+      cond (eqb b (blockOf r) && elem c (newestSites k b)) (some (lockSlot fresh (placeOf r) t x)) none
+
+  abbrev pub storeWrites : Control P → View → ℕ → ℕ → ℕ → List ℕ → ℕ → ℕ → Option Block
+  storeWrites k v t r n [] = layBlock k t r (some n)
+  storeWrites k v t r n (h ∷ l) = lockHolders k v t r (some n)
+
+  -- commit, rollback: on all working cards, in all held blocks, slots locked by the transactions that f picks take or
+  -- drop the pending state.
+  unfoldable pub endHeld : Bool → (ℕ → Bool) → View → ℕ → ℕ → Option Block
+  endHeld take f v c b = cond (held (v c b)) (some (endSlots take f (v c b))) none
+
+  -- fail: those that f picks are rolled back on the cards that still work.
+  unfoldable pub dropHeld : (ℕ → Bool) → ℕ → View → ℕ → ℕ → Option Block
+  dropHeld f out v c b = cond (held (v c b) && not (eqb c out)) (some (endSlots false f (v c b))) none
+
+  -- fit, withdraw: the card's table is zeroed.
+  unfoldable pub clearCard : ℕ → ℕ → ℕ → Option Block
+  clearCard out c b = cond (eqb c out) (some empty) none
+
+  -- move: each site of the newest placement that lacks the block gets a copy; one that has it keeps its own. The
+  -- origin drops it unless it is a site.
+  unfoldable pub moveWrites : Control P → View → ℕ → ℕ → ℕ → ℕ → Option Block
+  moveWrites k v origin m c b =
+      cond (eqb b m) (
+      cond (elem c (newestSites k b))
+      (cond (held (v c b)) none (some (v origin b)))
+      (cond (eqb c origin) (some empty) none)) none
+
+  -- fail, the store goes on: the new placement's mask, or 'unplaced'.
+  abbrev pub failAnswer : Control P → ℕ → Answer
+  failAnswer k c = cond (has (mask (k .newest)) c) (placed (without (k .newest) c)) unplaced
+
+  -- load: how many records are committed present in the card's held blocks.
+  abbrev pub committedIn : Block → ℕ
+  committedIn x = cond (held x) (count slots (λ i. isSome ((slot x i) .committed))) 0
+
+  unfoldable pub act : Call → Control P → View → Plan
+  act (start a) k v = writing ok (startedBy P a) (λ c b. some empty)
+  act (begin t h) k v = unwritten ok (opened k t h)
+  act (get t r) k v = unwritten (reply (readBy t (seenSlot k v r))) k
+  act (store t r n) k v = writing ok k (storeWrites k v t r n (holders k v (blockOf r)))
+  act (delete t r) k v =
+      cond (isNone (readBy t (seenSlot k v r))) (unwritten absent k) (writing ok k (lockHolders k v t r none))
+  act (commit t) k v = writing ok (closed k (λ x. eqb x t)) (endHeld true (λ x. eqb x t) v)
+  act (rollback t) k v = writing ok (closed k (λ x. eqb x t)) (endHeld false (λ x. eqb x t) v)
+  act (fit c) k v = writing ok (withCards k (insert (k .working) c) (remove (k .failed) c)) (clearCard c)
+  act (withdraw c) k v = writing ok (withCards k (remove (k .working) c) (k .failed)) (clearCard c)
+  act (place a) k v = unwritten ok (added k (places (k .newest) a))
+  act (fail c) k v = cond (stopping k c)
+      (writing stops (halted (marked P k c)) (dropHeld (isOpen k) c v))
+      (writing (failAnswer k c) (replaced P k c) (dropHeld (begunAt k c) c v))
+  act (move c b) k v = writing (copied (countNot (λ x. held (v x b)) (newestSites k b))) k (moveWrites k v c b)
+  act settle k v = unwritten (retired (length (k .older))) (onlyNewest k)
+  act state k v = unwritten (cond (isProtected k) protected unprotected) k
+  act (load c) k v = unwritten (loaded (sumBelow (blocks (k .setting)) (λ b. committedIn (v c b)))) k
+
+  -- ---- the whole call: refused and nothing changed, or done
+  abbrev pub guarded : ℕ → Control P → Plan → Plan
+  guarded zero k p = p
+  guarded (suc n) k p = unwritten (refused (suc n)) k
+
+  unfoldable pub plan : Call → Control P → View → Plan
+  plan c k v = guarded (refusal c k v) k (act c k v)
+
+  unfoldable pub apply : Plan → State → State
+  apply p s = record { control = p .after; block = λ c b. updated (p .write c b) (s .block c b) }
+
+  unfoldable pub answerOf : Call → State → Answer
+  answerOf c s = plan c (s .control) (look s) .answer
+
+  unfoldable pub nextState : Call → State → State
+  nextState c s = apply (plan c (s .control) (look s)) s
