@@ -1,0 +1,148 @@
+-- The changes of the struct are the rules' changes of the control part. Assumes nothing.
+use mathlib.Core.Path.{_≡_, refl, sym, ap, ap₂, _∙_, fun-ext}
+use mathlib.Core.Logic.{_⊎_, inl, inr}
+use mathlib.Core.Bool.{Bool, true, false, _&&_, cond}
+use mathlib.Core.Option.{Option, some, none}
+use mathlib.Core.List.{List, [], _∷_}
+use Prim.Native.Nat.{ℕ, zero, suc, _+_, _-_, _*_, _/_, _%_, _<_}
+use native.Mathlib.Omega.{arith}
+use lib.Dec.{ltb, eqb}
+use lib.ListN.{getD, length, set, replicate}
+use lib.Seq.{getD-set-same, getD-set-other}
+use borrow.Author.Tests.{eqb-true, eqb-false, ltb-true, lt-ltb, le-leb}
+use Rattle.lists.proofs.Bools.{tf, split, and-l, and-r, and-in}
+use Rattle.image.specs.Layout.{cardCount, tranBound}
+use Rattle.mask.specs.Masks.{Byte, byte, noCards}
+use Rattle.mask.specs.Placements.{fromMask}
+use Rattle.method.specs.ControlPart.{active, isCard, begunAt, started, withHome, withCards, withPlacements, opened, closed, added, onlyNewest, halted}
+use Rattle.control.specs.ControlBytes.{homeIn, homeOf, placementsIn}
+use Rattle.control.specs.Meaning.{maskIn, meaning, keptHome, Counted, Is}
+use Rattle.control.specs.declared.Control.{Control}
+use Rattle.control.proofs.Struct.{placements-same, active-is}
+
+-- The homes after a store at transaction t's place.
+home-set : (l : List ℕ) (t v : ℕ) → length l ≡ 15 → 0 < t → t < tranBound → (x : ℕ)
+    → homeOf x (getD (set l (t - 1) v) (x - 1) 0) ≡ cond (eqb x t) (homeIn v) (homeOf x (getD l (x - 1) 0))
+home-set l t v n lo hi x = go (split (ltb 0 x && ltb x tranBound)) (split (eqb x t))
+  where
+    go : ((ltb 0 x && ltb x tranBound) ≡ true) ⊎ ((ltb 0 x && ltb x tranBound) ≡ false) → (eqb x t ≡ true) ⊎ (eqb x t ≡ false)
+        → homeOf x (getD (set l (t - 1) v) (x - 1) 0) ≡ cond (eqb x t) (homeIn v) (homeOf x (getD l (x - 1) 0))
+    go (inl r) (inl e) =
+        let q : x - 1 ≡ t - 1 = ap (λ (y : ℕ). y - 1) (eqb-true x t e) in
+        rw (e, r) (ap homeIn (ap (λ (y : ℕ). getD (set l (t - 1) v) y 0) q ∙ getD-set-same l (t - 1) v 0 (omega arith)))
+    go (inl r) (inr e) =
+        let d : x ≡ t → ⊥ = eqb-false x t e in
+        let a : 0 < x = ltb-true 0 x (and-l (ltb 0 x) (ltb x tranBound) r) in
+        rw (e, r) (ap homeIn (getD-set-other l (t - 1) (x - 1) v 0 (λ q. d (omega arith))))
+    go (inr r) (inr e) = rw (e, r)
+    go (inr r) (inl e) =
+        let q : x ≡ t = eqb-true x t e in
+        tf (ltb 0 x && ltb x tranBound) (and-in (ltb 0 x) (ltb x tranBound) (lt-ltb 0 x (omega arith)) (lt-ltb x tranBound (omega arith))) r
+
+-- The byte that remains of a home when what was begun at card c closes.
+kept-home : (c b : ℕ) → homeIn (keptHome c b) ≡ cond (isCard (homeIn b) c) none (homeIn b)
+unfolding keptHome
+kept-home c b = go (isCard (homeIn b) c)
+  where
+    go : (x : Bool) → homeIn (cond x 0 b) ≡ cond x none (homeIn b)
+    go true = refl
+    go false = refl
+
+-- Other homes; other working and failed cards: all else as it was.
+abbrev pub withHomes : Control → List ℕ → Control
+withHomes k l = record { stopped = k .stopped; count = k .count; masks = k .masks; working = k .working; failed = k .failed; homes = l }
+
+module _ (k : Control) (w : Counted k) where
+  homes-are : (l : List ℕ) (f : ℕ → Option ℕ) → ((t : ℕ) → homeOf t (getD l (t - 1) 0) ≡ f t) → Is (withHomes k l) (withHome (meaning k) f)
+  unfolding meaning
+  homes-are l f same = record { counted = record { some = w .some; few = w .few }; means = ap (withHome (meaning k)) (fun-ext same) }
+
+  pub open-is : (t h : ℕ) → length (k .homes) ≡ 15 → 0 < t → t < tranBound → h < cardCount
+      → Is (withHomes k (set (k .homes) (t - 1) (128 + h * 16))) (opened (meaning k) t h)
+  unfolding meaning
+  open-is t h n lo hi b = homes-are (set (k .homes) (t - 1) (128 + h * 16)) _
+      (λ x. home-set (k .homes) t (128 + h * 16) n lo hi x ∙ ap (λ (o : Option ℕ). cond (eqb x t) o (homeOf x (getD (k .homes) (x - 1) 0))) home)
+    where
+      same : (128 + h * 16) / 16 % 8 ≡ h
+      same = omega arith
+
+      home : homeIn (128 + h * 16) ≡ some h
+      home = rw (le-leb 128 (128 + h * 16) (omega arith)) (ap {B = Option ℕ} some same)
+
+  pub close-is : (t : ℕ) → length (k .homes) ≡ 15 → 0 < t → t < tranBound
+      → Is (withHomes k (set (k .homes) (t - 1) 0)) (closed (meaning k) (λ x. eqb x t))
+  unfolding meaning
+  close-is t n lo hi = homes-are (set (k .homes) (t - 1) 0) _ (λ x. home-set (k .homes) t 0 n lo hi x)
+
+  pub close-at-is : (c : ℕ) (l : List ℕ) → ((j : ℕ) → j < 15 → getD l j 0 ≡ keptHome c (getD (k .homes) j 0))
+      → Is (withHomes k l) (closed (meaning k) (begunAt (meaning k) c))
+  unfolding meaning
+  close-at-is c l same = homes-are l _ (λ t. go t (split (ltb 0 t && ltb t tranBound)))
+    where
+      go : (t : ℕ) → ((ltb 0 t && ltb t tranBound) ≡ true) ⊎ ((ltb 0 t && ltb t tranBound) ≡ false)
+          → homeOf t (getD l (t - 1) 0) ≡ cond (isCard (homeOf t (getD (k .homes) (t - 1) 0)) c) none (homeOf t (getD (k .homes) (t - 1) 0))
+      go t (inr e) = rw e
+      go t (inl e) =
+          let a : 0 < t = ltb-true 0 t (and-l (ltb 0 t) (ltb t tranBound) e) in
+          let b : t < tranBound = ltb-true t tranBound (and-r (ltb 0 t) (ltb t tranBound) e) in
+          rw e (ap homeIn (same (t - 1) (omega arith)) ∙ kept-home c (getD (k .homes) (t - 1) 0))
+
+  pub add-is : (m : ℕ) → length (k .masks) ≡ 4 → k .count < 4
+      → Is (record { stopped = k .stopped; count = k .count + 1; masks = set (k .masks) (k .count) m; working = k .working; failed = k .failed; homes = k .homes })
+      (added (meaning k) (fromMask (byte m)))
+  unfolding meaning
+  add-is m n h = record {
+    counted = record { some = omega arith; few = omega arith };
+    means = ap₂ (withPlacements (meaning k)) old (ap (λ (x : ℕ). fromMask (byte x)) new);
+  }
+    where
+      masks : List ℕ
+      masks = set (k .masks) (k .count) m
+
+      c : k .count + 1 - 1 ≡ k .count
+      c = omega arith
+
+      old : placementsIn (λ i. getD masks i 0) (k .count + 1 - 1) ≡ active (meaning k)
+      old = ap (placementsIn (λ i. getD masks i 0)) c
+          ∙ placements-same (λ i. getD masks i 0) (maskIn k) (k .count) (λ i b. getD-set-other (k .masks) (k .count) i m 0 (λ e. omega arith))
+          ∙ sym (active-is k w)
+
+      new : getD masks (k .count + 1 - 1) 0 ≡ m
+      new = ap (λ (i : ℕ). getD masks i 0) c ∙ getD-set-same (k .masks) (k .count) m 0 (omega arith)
+
+  pub retire-is : Is (record { stopped = k .stopped; count = 1; masks = maskIn k (k .count - 1) ∷ 0 ∷ 0 ∷ 0 ∷ []; working = k .working; failed = k .failed; homes = k .homes })
+      (onlyNewest (meaning k))
+  unfolding meaning
+  retire-is = record { counted = record { some = omega arith; few = omega arith }; means = refl }
+
+  pub cards-are : (x y : ℕ) (p q : Byte) → byte x ≡ p → byte y ≡ q
+      → Is (record { stopped = k .stopped; count = k .count; masks = k .masks; working = x; failed = y; homes = k .homes }) (withCards (meaning k) p q)
+  unfolding meaning
+  cards-are x y p q ep eq = record { counted = record { some = w .some; few = w .few }; means = ap₂ (withCards (meaning k)) ep eq }
+
+-- No transaction is open where all bytes are zero.
+at-zeros : (n i : ℕ) → _≡_ {A = ℕ} (getD (replicate n 0) i 0) 0
+at-zeros zero i = refl
+at-zeros (suc n) zero = refl
+at-zeros (suc n) (suc i) = at-zeros n i
+
+none-open : (t : ℕ) → homeOf t (getD (replicate 15 0) (t - 1) 0) ≡ none
+none-open t = rw (at-zeros 15 (t - 1)) (go (ltb 0 t && ltb t tranBound))
+  where
+    go : (b : Bool) → cond b (homeIn 0) none ≡ none
+    go true = refl
+    go false = refl
+
+pub halt-is : (k : Control) → Counted k
+    → Is (record { stopped = true; count = k .count; masks = k .masks; working = k .working; failed = k .failed; homes = replicate 15 0 }) (halted (meaning k))
+unfolding meaning
+halt-is k w = record { counted = record { some = w .some; few = w .few }; means = ap (withHome (halted (meaning k))) (fun-ext none-open) }
+
+pub start-is : (m : ℕ)
+    → Is (record { stopped = false; count = 1; masks = m ∷ 0 ∷ 0 ∷ 0 ∷ []; working = m; failed = 0; homes = replicate 15 0 })
+    (started (fromMask (byte m)) (byte m) noCards tt)
+unfolding meaning
+start-is m = record {
+  counted = record { some = omega arith; few = omega arith };
+  means = ap (withHome (started (fromMask (byte m)) (byte m) noCards tt)) (fun-ext none-open);
+}

@@ -1,0 +1,10 @@
+-- The proof of `Control::started`. Assumes nothing.
+use Rattle.control.proofs.Changes.{start-is}
+use Rattle.control.proofs.Control.started.Statement.{statement}
+use Rattle.control.proofs.Control.started.Tie as tie
+
+returns : tie.Need-returns
+returns c = start-is _
+
+pub started-spec : {M : Type 1} → statement M
+started-spec = tie.close (tie.spec returns)

@@ -1,0 +1,3 @@
+pub mod ControlBytes
+pub mod ControlForm
+pub mod Meaning

@@ -1,0 +1,71 @@
+-- What the code's struct means: the rules' control part. Assumes nothing.
+use mathlib.Core.Path.{_≡_}
+use mathlib.Core.Bool.{cond}
+use mathlib.Core.List.{List, [], _∷_}
+use Prim.Native.Nat.{ℕ, zero, suc, _-_, _≤_}
+use lib.Dec.{leb}
+use lib.ListN.{getD}
+use Rattle.lists.specs.Tabulate.{tabulate}
+use Rattle.lists.specs.Segments.{splice}
+use Rattle.image.specs.Layout.{controlSize}
+use Rattle.mask.specs.Masks.{byte}
+use Rattle.mask.specs.Placements.{fromMask}
+use Rattle.method.specs.ControlPart.{isCard}
+use Rattle.control.specs.ControlBytes.{Part, controlByte, countIn, homeIn, homeOf, placementsIn, controlOf}
+use Rattle.control.specs.ControlForm.{formRefusal}
+use Rattle.control.specs.declared.Control.{Control}
+use Rattle.control.specs.declared.Found.{Found}
+
+-- The n elements of l from index a, written out.
+abbrev pub rowOf : List ℕ → ℕ → ℕ → List ℕ
+rowOf l a zero = []
+rowOf l a (suc n) = getD l a 0 ∷ rowOf l (suc a) n
+
+-- The struct that is read off bytes.
+unfoldable pub structOf : List ℕ → Control
+structOf l = record {
+  stopped = leb 128 (getD l 0 0);
+  count = countIn (getD l 0 0);
+  masks = rowOf l 1 4;
+  working = getD l 5 0;
+  failed = getD l 6 0;
+  homes = rowOf l 8 15;
+}
+
+abbrev pub maskIn : Control → ℕ → ℕ
+maskIn k i = getD (k .masks) i 0
+
+-- The meaning of the struct. Masks from the count on, and what the byte of a closed transaction has, mean nothing.
+unfoldable pub meaning : Control → Part
+meaning k = record {
+  stopped = k .stopped;
+  older = placementsIn (maskIn k) (k .count - 1);
+  newest = fromMask (byte (maskIn k (k .count - 1)));
+  working = byte (k .working);
+  failed = byte (k .failed);
+  home = λ t. homeOf t (getD (k .homes) (t - 1) 0);
+  setting = tt;
+}
+
+-- The count is 1 to 4.
+pub record Counted (k : Control) : Type 0 where
+  pub some : 1 ≤ k .count
+  pub few : k .count ≤ 4
+
+-- The struct is counted, and means this control part.
+pub record Is (k : Control) (part : Part) : Type 0 where
+  pub counted : Counted k
+  pub means : meaning k ≡ part
+
+-- A transaction's byte after what was begun at card c closed.
+unfoldable pub keptHome : ℕ → ℕ → ℕ
+keptHome c b = cond (isCard (homeIn b) c) 0 b
+
+-- The image with a whole new control part.
+unfoldable pub putControl : List ℕ → Part → List ℕ
+putControl image part = splice image 0 (tabulate controlSize (controlByte part))
+
+-- What reading an image finds: row 1 or 2 of the refusal table, or else 0 and the control part that the bytes show.
+pub record Reads (image : List ℕ) (r : Found) : Type 0 where
+  pub refusal-is : r .refusal ≡ formRefusal image
+  pub good : r .refusal ≡ 0 → Is (r .control) (controlOf (λ n. getD image n 0))

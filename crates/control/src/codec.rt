@@ -1,0 +1,149 @@
+// The control part's 32 bytes: the struct read off them, and written as a whole.
+ghost use mathlib.Core.Path.{_≡_};
+ghost use mathlib.Core.Bool.{true, cond};
+ghost use mathlib.Core.Option.{some};
+ghost use Prim.Native.Nat.{_≤_, _<_};
+ghost use lib.ListN.{length};
+ghost use Rattle.lists.specs.Tabulate.{tabulate};
+ghost use Rattle.image.specs.Layout.{cardCount, controlSize};
+ghost use Rattle.method.specs.Slots.{isSome};
+ghost use Rattle.control.specs.ControlBytes.{homeByte, controlByte, homeIn};
+ghost use Rattle.control.specs.Meaning.{structOf, meaning, Counted, putControl};
+use crate::Control;
+use crate::MASK_COUNT;
+use crate::TRAN_COUNT;
+
+// Where the fields start; byte 0 has the stopped bit and the count, byte 7 and those from HOMES_END on are zero.
+const MASKS_AT: usize = 1;
+
+const WORKING_AT: usize = MASKS_AT + MASK_COUNT;
+
+const FAILED_AT: usize = WORKING_AT + 1;
+
+const HOMES_AT: usize = FAILED_AT + 2;
+
+const HOMES_END: usize = HOMES_AT + TRAN_COUNT;
+
+// The highest bit: stopped in byte 0, open in a transaction's byte.
+const STOPPED: u8 = 0x80;
+
+pub const OPEN: u8 = 0x80;
+
+// The weight of the three bits behind it, and their bound: the count, or the home card.
+pub const FIELD: u8 = 16;
+
+pub const FIELD_BOUND: u8 = 8;
+
+// The home card in the byte of an open transaction.
+pub fn home_of(b: u8) -> u8
+    requires { ⌜ isSome (homeIn b) ≡ true ⌝ }
+    ensures { λ r. ⌜ (homeIn b ≡ some r) × (r < cardCount) ⌝ }
+{
+    b / FIELD % FIELD_BOUND
+}
+
+// A transaction's byte, all zero when not open.
+fn home_byte(b: u8) -> u8
+    ensures { λ r. ⌜ r ≡ homeByte (homeIn b) ⌝ }
+{
+    if b >= OPEN {
+        return OPEN + home_of(b) * FIELD;
+    }
+    0
+}
+
+// The stopped bit of byte 0.
+fn stopped_bit(stopped: bool) -> u8
+    ensures { λ r. ⌜ r ≡ cond stopped 128 0 ⌝ }
+{
+    if stopped {
+        return STOPPED;
+    }
+    0
+}
+
+// Byte n of the control part.
+pub fn byte_of(k: Control, n: usize) -> u8
+    requires { ⌜ Counted k ⌝ }
+    ensures { λ r. ⌜ r ≡ controlByte (meaning k) n ⌝ }
+{
+    if n < MASKS_AT {
+        return stopped_bit(k.stopped) + k.count * FIELD;
+    }
+    if n < WORKING_AT {
+        let i = n - MASKS_AT;
+        if i < k.count as usize {
+            return k.masks[i];
+        }
+        return 0;
+    }
+    if n == WORKING_AT {
+        return k.working;
+    }
+    if n == FAILED_AT {
+        return k.failed;
+    }
+    if n < HOMES_AT {
+        return 0;
+    }
+    if n < HOMES_END {
+        let i = n - HOMES_AT;
+        return home_byte(k.homes[i]);
+    }
+    0
+}
+
+// A whole new control part.
+pub fn encode(k: Control) -> [u8; image::CONTROL_SIZE]
+    requires { ⌜ Counted k ⌝ }
+    ensures { λ r. ⌜ r ≡ tabulate controlSize (controlByte (meaning k)) ⌝ }
+{
+    let mut bytes = [0u8; image::CONTROL_SIZE];
+    let mut i = 0;
+    while i < image::CONTROL_SIZE {
+        bytes[i] = byte_of(k, i);
+        i += 1;
+    }
+    bytes
+}
+
+// Writes a whole new control part at the front of the image.
+pub fn write(image: &mut [u8], k: Control)
+    requires { ⌜ controlSize ≤ length (now image) ⌝ }
+    requires { ⌜ Counted k ⌝ }
+    ensures { λ _. ⌜ now (image .exit) ≡ putControl (now (image .entry)) (meaning k) ⌝ }
+{
+    let bytes = encode(k);
+    image::write_at(image, 0, &bytes);
+}
+
+// The struct that the control bytes show.
+pub fn decode(s: &[u8]) -> Control
+    requires { ⌜ controlSize ≤ length (now s) ⌝ }
+    ensures { λ r. ⌜ r ≡ structOf (now (s .entry)) ⌝ }
+{
+    Control {
+        stopped: s[0] >= STOPPED,
+        count: s[0] / FIELD % FIELD_BOUND,
+        masks: [s[1], s[2], s[3], s[4]],
+        working: s[5],
+        failed: s[6],
+        homes: [
+            s[8],
+            s[9],
+            s[10],
+            s[11],
+            s[12],
+            s[13],
+            s[14],
+            s[15],
+            s[16],
+            s[17],
+            s[18],
+            s[19],
+            s[20],
+            s[21],
+            s[22],
+        ],
+    }
+}

@@ -1,0 +1,187 @@
+// The control part, as a struct by value: every change yields a whole new one.
+ghost use mathlib.Core.Path.{_≡_};
+ghost use Prim.Native.Nat.{_+_, _-_, _<_};
+ghost use lib.Dec.{eqb};
+ghost use Rattle.image.specs.Layout.{cardCount, tranBound};
+ghost use Rattle.mask.specs.Masks.{byte, noCards, withCard, withoutCard};
+ghost use Rattle.mask.specs.Placements.{fromMask};
+ghost use Rattle.method.specs.ControlPart.{
+  begunAt,
+  started,
+  withCards,
+  opened,
+  closed,
+  added,
+  onlyNewest,
+  halted,
+};
+ghost use Rattle.control.specs.Meaning.{meaning, keptHome, Counted, Is};
+
+pub mod codec;
+pub mod form;
+
+use codec::FIELD;
+use codec::OPEN;
+use image::Card;
+use image::Tran;
+
+// Transactions 1 to 15.
+pub const TRAN_COUNT: usize = 15;
+
+// At most four active placements, and as many masks.
+pub const MOST_ACTIVE: u8 = 4;
+
+pub const MASK_COUNT: usize = MOST_ACTIVE as usize;
+
+// The masks are of the active placements, oldest first; a home is the transaction's byte, transaction 1 first.
+pub struct Control {
+    pub stopped: bool,
+    pub count: u8,
+    pub masks: [u8; MASK_COUNT],
+    pub working: u8,
+    pub failed: u8,
+    pub homes: [u8; TRAN_COUNT],
+}
+
+// Row 1 or 2 of the refusal table, or else 0 and the control part.
+pub struct Found {
+    pub refusal: u8,
+    pub control: Control,
+}
+
+impl Control {
+    // The cards of a mask work and are the one placement; none failed, none open.
+    pub fn started(mask: u8) -> Control
+        ensures { λ r. ⌜ Is r (started (fromMask (byte mask)) (byte mask) noCards tt) ⌝ }
+    {
+        Control {
+            stopped: false,
+            count: 1,
+            masks: [mask, 0, 0, 0],
+            working: mask,
+            failed: 0,
+            homes: [0u8; TRAN_COUNT],
+        }
+    }
+
+    // The transaction opens with its home.
+    pub fn begin(mut self, tran: Tran, home: Card) -> Self
+        requires { ⌜ Counted self ⌝ }
+        requires { ⌜ (0 < tran .0) × (tran .0 < tranBound) ⌝ }
+        requires { ⌜ home .0 < cardCount ⌝ }
+        ensures { λ r. ⌜ Is r (opened (meaning self) (tran .0) (home .0)) ⌝ }
+    {
+        let i = (tran.0 - 1) as usize;
+        self.homes[i] = OPEN + home.0 * FIELD;
+        self
+    }
+
+    // The transaction closes.
+    pub fn close(mut self, tran: Tran) -> Self
+        requires { ⌜ Counted self ⌝ }
+        requires { ⌜ (0 < tran .0) × (tran .0 < tranBound) ⌝ }
+        ensures { λ r. ⌜ Is r (closed (meaning self) (λ x. eqb x (tran .0))) ⌝ }
+    {
+        let i = (tran.0 - 1) as usize;
+        self.homes[i] = 0;
+        self
+    }
+
+    // What was begun at the card closes.
+    pub fn close_at(mut self, card: Card) -> Self
+        requires { ⌜ Counted self ⌝ }
+        ensures { λ r. ⌜ Is r (closed (meaning self) (begunAt (meaning self) (card .0))) ⌝ }
+    {
+        let mut homes = self.homes;
+        let mut i = 0;
+        while i < TRAN_COUNT {
+            homes[i] = kept_home(card, homes[i]);
+            i += 1;
+        }
+        self.homes = homes;
+        self
+    }
+
+    // The placement becomes the newest.
+    pub fn add(mut self, mask: u8) -> Self
+        requires { ⌜ Counted self ⌝ }
+        requires { ⌜ self .count < 4 ⌝ }
+        ensures { λ r. ⌜ Is r (added (meaning self) (fromMask (byte mask))) ⌝ }
+    {
+        let i = self.count as usize;
+        self.masks[i] = mask;
+        self.count = self.count + 1;
+        self
+    }
+
+    // Only the newest placement remains.
+    pub fn retire(mut self) -> Self
+        requires { ⌜ Counted self ⌝ }
+        ensures { λ r. ⌜ Is r (onlyNewest (meaning self)) ⌝ }
+    {
+        let i = (self.count - 1) as usize;
+        let newest = self.masks[i];
+        self.masks = [newest, 0, 0, 0];
+        self.count = 1;
+        self
+    }
+
+    // The card no longer works and is marked failed.
+    pub fn mark_failed(mut self, card: Card) -> Self
+        requires { ⌜ Counted self ⌝ }
+        requires { ⌜ card .0 < cardCount ⌝ }
+        ensures { λ r.
+            ⌜ Is r (withCards (meaning self)
+            (withoutCard (meaning self .working) (card .0)) (withCard (meaning self .failed) (card .0))) ⌝ }
+    {
+        self.working = mask::without_card(self.working, card);
+        self.failed = mask::with_card(self.failed, card);
+        self
+    }
+
+    // The card works, and a failed mark is cleared.
+    pub fn admit(mut self, card: Card) -> Self
+        requires { ⌜ Counted self ⌝ }
+        requires { ⌜ card .0 < cardCount ⌝ }
+        ensures { λ r.
+            ⌜ Is r (withCards (meaning self)
+            (withCard (meaning self .working) (card .0)) (withoutCard (meaning self .failed) (card .0))) ⌝ }
+    {
+        self.working = mask::with_card(self.working, card);
+        self.failed = mask::without_card(self.failed, card);
+        self
+    }
+
+    // The card no longer works.
+    pub fn dismiss(mut self, card: Card) -> Self
+        requires { ⌜ Counted self ⌝ }
+        requires { ⌜ card .0 < cardCount ⌝ }
+        ensures { λ r.
+            ⌜ Is r (withCards (meaning self) (withoutCard (meaning self .working) (card .0)) (meaning self .failed)) ⌝ }
+    {
+        self.working = mask::without_card(self.working, card);
+        self
+    }
+
+    // The store stops: nothing is open.
+    pub fn halt(mut self) -> Self
+        requires { ⌜ Counted self ⌝ }
+        ensures { λ r. ⌜ Is r (halted (meaning self)) ⌝ }
+    {
+        self.stopped = true;
+        self.homes = [0u8; TRAN_COUNT];
+        self
+    }
+}
+
+// A transaction's byte once what was begun at the card has closed.
+fn kept_home(card: Card, b: u8) -> u8
+    ensures { λ r. ⌜ r ≡ keptHome (card .0) b ⌝ }
+{
+    if b >= OPEN {
+        if codec::home_of(b) == card.0 {
+            return 0;
+        }
+    }
+    b
+}
