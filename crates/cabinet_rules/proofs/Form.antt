@@ -1,0 +1,133 @@
+-- The control form holds of the control part of a store that runs with the invariant, and of the one that a stopping fail leaves. Assumes nothing.
+use Prim.Native.Nat.{_+_, _<_, _≤_, suc, zero, ℕ}
+use borrow.Author.Tests.{eq-eqb, le-leb, le-ltb, leb-false, leb-true, lt-leb, lt-ltb, ltb-false, ltb-true}
+use denote.Steps.{opens}
+use lib.Dec.{eqb, leb, ltb}
+use lib.ListN.{length}
+use mathlib.Core.Bool.{Bool, _&&_, _||_, false, not, true}
+use mathlib.Core.List.{List, [], _∷_, reverse}
+use mathlib.Core.Logic.{_⊎_, inl, inr}
+use mathlib.Core.Option.{Option, none, some}
+use mathlib.Core.Path.{_∙_, _≡_, refl, sym}
+use native.Mathlib.Omega.{arith}
+use Rattle.lists.specs.Tests.{In, anyBelow, count}
+use Rattle.lists.proofs.Bools.{and-in, and-l, and-r, imp, is-not, nand, not-is, or-l, or-r, split}
+use Rattle.lists.proofs.Counts.{all-below, any-below}
+use Rattle.lists.proofs.Lists.{all-in}
+use Rattle.image.specs.Layout.{cardCount, controlSize, copyCount, tranBound}
+use Rattle.mask.specs.Masks.{Byte, areApart, common, hasCard, isOneMore, isWithin, isWithinEither, size, withCard}
+use Rattle.mask.specs.Masks.{withoutCard}
+use Rattle.mask.specs.Placements.{Placement}
+use Rattle.mask.proofs.Masks.{has-card, has-with, has-without, same-number}
+use Rattle.method.specs.Changes.{marked}
+use Rattle.method.specs.ControlPart.{active, halted, isOpen, part}
+use Rattle.method.specs.Rules.{lost, lostOf}
+use Rattle.method.proofs.Capacity.{Chain, ControlInv, bounded, chain-map}
+use Rattle.method.proofs.Invariant.{Form}
+use Rattle.control.specs.ControlBytes.{Part, controlByte, countIn}
+use Rattle.control.specs.ControlForm.{countOk, formOk, fourthOk, homeOk, isSafe, membersOk, partOk, zeroFieldsOk}
+use Rattle.control.proofs.RoundTrip.{read-control, read-count}
+use Rattle.cabinet_rules.specs.Cabinet.{cabinet, mostPlaced, tranOk}
+use Rattle.cabinet_rules.proofs.Lawful.{lawful}
+
+-- ---- the stop rule and the clause of the control form on it
+-- a placement is safe exactly where it is not lost
+pub safe-is : (working failed : Byte) (p : Placement) → isSafe working failed p ≡ not (lostOf cabinet tt working failed p)
+unfolding isSafe lostOf common
+safe-is working failed p = go (split (leb copyCount x)) (split (ltb y copyCount))
+  where
+    x : ℕ
+    x = count cardCount (λ c. hasCard (p .mask) c && hasCard failed c)
+
+    y : ℕ
+    y = count cardCount (λ c. hasCard (p .mask) c && hasCard working c)
+
+    go : (leb copyCount x ≡ true) ⊎ (leb copyCount x ≡ false) → (ltb y copyCount ≡ true) ⊎ (ltb y copyCount ≡ false)
+        → (ltb x copyCount && leb copyCount y) ≡ not (leb copyCount x || ltb y copyCount)
+    go (inl e) r = rw (e, le-ltb x copyCount (leb-true copyCount x e))
+    go (inr e) (inl f) = rw (e, f, lt-ltb x copyCount (leb-false copyCount x e), lt-leb copyCount y (ltb-true y copyCount f))
+    go (inr e) (inr f) = rw (e, f, lt-ltb x copyCount (leb-false copyCount x e), le-leb copyCount y (ltb-false y copyCount f))
+
+-- ---- four placements
+-- with four active placements, the newest was added by a failure
+fourth-ok : (d : Byte) (newest : Placement) (j : ℕ) (l : List Placement) → Chain cabinet lawful d j newest (reverse l)
+    → suc (length l) ≤ mostPlaced + j → fourthOk d newest l ≡ true
+unfolding fourthOk isOneMore
+fourth-ok d newest j [] c h = refl
+fourth-ok d newest j (a ∷ []) c h = refl
+fourth-ok d newest j (a ∷ b ∷ []) c h = refl
+fourth-ok d newest j (a ∷ b ∷ p ∷ q ∷ l) c h = refl
+fourth-ok d newest j (a ∷ b ∷ p ∷ []) c h = go j c h
+  where
+    go : (j : ℕ) → Chain cabinet lawful d j newest (p ∷ b ∷ a ∷ []) → 4 ≤ mostPlaced + j → anyBelow cardCount (λ x. hasCard d x && (not (hasCard (newest .mask) x) && eqb (p .mask .0) (withCard (newest .mask) x .0))) ≡ true
+    go zero c h = absurd (omega arith)
+    go (suc j) c h =
+        let o = c .0 in
+        let lt : o .extra < cardCount = has-card d (o .extra) (o .extra-failed) in
+        any-below cardCount (λ x. hasCard d x && (not (hasCard (newest .mask) x) && eqb (p .mask .0) (withCard (newest .mask) x .0))) (o .extra) lt
+        (and-in _ _ (o .extra-failed) (and-in _ _ (is-not (hasCard (newest .mask) (o .extra)) (o .extra-new))
+        (eq-eqb (p .mask .0) (withCard (newest .mask) (o .extra) .0)
+        (same-number (p .mask) (withCard (newest .mask) (o .extra)) (λ x. o .extra-is x ∙ sym (has-with (newest .mask) (o .extra) x (lt-ltb (o .extra) cardCount lt)))))))
+
+module _ (k : Part) (f : Form cabinet k) (u : ControlInv cabinet lawful k) where
+  -- never more than four placements
+  pub few-older : length (k .older) ≤ mostPlaced
+  few-older = let h : suc (length (k .older)) < mostPlaced + copyCount = bounded cabinet lawful k f (u .room) in omega arith
+
+  -- members are working or failed
+  known : (p : Placement) (c : ℕ) → In p (active k) → hasCard (p .mask) c ≡ true → (hasCard (k .working) c || hasCard (k .failed) c) ≡ true
+  known p c m e = go (split (hasCard (k .failed) c))
+    where
+      go : (hasCard (k .failed) c ≡ true) ⊎ (hasCard (k .failed) c ≡ false) → (hasCard (k .working) c || hasCard (k .failed) c) ≡ true
+      go (inl d) = or-r (hasCard (k .working) c) (hasCard (k .failed) c) d
+      go (inr d) = or-l (hasCard (k .working) c) (hasCard (k .failed) c) (f .base .known p c m e d)
+
+  -- ---- a store that runs
+  pub running-ok : partOk k ≡ true
+  unfolding partOk areApart isWithin isWithinEither membersOk homeOk
+  running-ok =
+      and-in _ _ (all-below cardCount _ (λ c h. nand (hasCard (k .working) c) (hasCard (k .failed) c) (f .base .apart c)))
+      (and-in _ _ (all-in (membersOk (k .working) (k .failed)) (active k) (λ p m. and-in _ _ (le-leb copyCount (size (p .mask)) (f .base .sound p m)) (all-below cardCount _ (λ c h. imp (hasCard (p .mask) c) _ (known p c m)))))
+      (and-in _ _ (fourth-ok (k .failed) (k .newest) (u .room .steps) (k .older) (u .room .chain) (u .room .few))
+      (and-in _ _ (or-r (k .stopped) _ (all-below cardCount _ (λ c h. imp (hasCard (k .newest .mask) c) (hasCard (k .working) c) (f .newWorks c))))
+      (and-in _ _ (or-r (k .stopped) _ (all-in (isSafe (k .working) (k .failed)) (active k) (λ p m. safe-is (k .working) (k .failed) p ∙ is-not (lost cabinet k p) (f .base .safe p m))))
+      (all-below tranBound _ (λ t h. home t (k .home t) refl))))))
+    where
+      home : (t : ℕ) (o : Option ℕ) → k .home t ≡ o → homeOk (k .stopped) (k .working) (k .home t) ≡ true
+      home t none e = rw e
+      home t (some h) e = rw (e, f .base .running) (u .homes t h e)
+
+  -- ---- a store that a fail of card c stops
+  module _ (c : ℕ) (c-ok : ltb c cardCount ≡ true) where
+    stay : (p : Placement) (x : ℕ) → In p (reverse (k .older)) → hasCard (p .mask) x ≡ true → hasCard (k .failed) x ≡ true → hasCard (withCard (k .failed) c) x ≡ true
+    stay p x m h d = rw (has-with (k .failed) c x c-ok) (or-r (eqb x c) (hasCard (k .failed) x) d)
+
+    apart : (x : ℕ) → hasCard (withoutCard (k .working) c) x ≡ true → hasCard (withCard (k .failed) c) x ≡ false
+    apart x h =
+        let e : (hasCard (k .working) x && not (eqb x c)) ≡ true = sym (has-without (k .working) c x) ∙ h in
+        rw (has-with (k .failed) c x c-ok, not-is (eqb x c) (and-r (hasCard (k .working) x) (not (eqb x c)) e)) (f .base .apart x (and-l (hasCard (k .working) x) (not (eqb x c)) e))
+
+    known-still : (p : Placement) (x : ℕ) → In p (active k) → hasCard (p .mask) x ≡ true → (hasCard (withoutCard (k .working) c) x || hasCard (withCard (k .failed) c) x) ≡ true
+    known-still p x m e = rw (has-without (k .working) c x, has-with (k .failed) c x c-ok) (go (hasCard (k .working) x) (hasCard (k .failed) x) (eqb x c) (known p x m e))
+      where
+        go : (w d s : Bool) → (w || d) ≡ true → ((w && not s) || (s || d)) ≡ true
+        go w d true h = or-r (w && false) true refl
+        go true d false h = refl
+        go false d false h = h
+
+    pub halted-ok : partOk (halted (marked cabinet k c)) ≡ true
+    unfolding partOk areApart isWithinEither membersOk homeOk
+    halted-ok =
+        and-in _ _ (all-below cardCount _ (λ x h. nand (hasCard (withoutCard (k .working) c) x) (hasCard (withCard (k .failed) c) x) (apart x)))
+        (and-in _ _ (all-in (membersOk (withoutCard (k .working) c) (withCard (k .failed) c)) (active k) (λ p m. and-in _ _ (le-leb copyCount (size (p .mask)) (f .base .sound p m)) (all-below cardCount _ (λ x h. imp (hasCard (p .mask) x) _ (known-still p x m)))))
+        (and-in _ _ (fourth-ok (withCard (k .failed) c) (k .newest) (u .room .steps) (k .older) (chain-map cabinet lawful (k .failed) (withCard (k .failed) c) (u .room .steps) (k .newest) (reverse (k .older)) stay (u .room .chain)) (u .room .few))
+        (all-below tranBound _ (λ t h. refl))))
+
+-- ---- bytes that were written from a control part that meets the clauses have the control form
+pub written-form : (k : Part) → length (k .older) ≤ mostPlaced → ((t : ℕ) → isOpen k t ≡ true → tranOk t ≡ true) → ((t h : ℕ) → k .home t ≡ some h → h < cardCount)
+    → partOk k ≡ true → (g : ℕ → ℕ) → ((n : ℕ) → n < controlSize → g n ≡ controlByte k n) → formOk g ≡ true
+unfolding formOk countOk zeroFieldsOk
+written-form k few opens homes part g wrote =
+    let n : countIn (g 0) ≡ suc (length (k .older)) = read-count k few opens homes g wrote in
+    and-in _ _ (and-in _ _ (le-leb 1 (countIn (g 0)) (omega arith)) (le-leb (countIn (g 0)) 4 (omega arith)))
+    (rw (read-control k few opens homes g wrote) (and-in _ _ (all-below controlSize _ (λ i h. eq-eqb (g i) (controlByte k i) (wrote i h))) part))

@@ -1,0 +1,137 @@
+-- This cabinet meets the laws that the theorem asks of its parameters. Assumes nothing.
+use Prim.Native.Nat.{_%_, _*_, _+_, _/_, _<_, _≤_, suc, ℕ}
+use borrow.Author.Tests.{leb-false, lt-ltb, ltb-false, ltb-true}
+use lib.Dec.{eqb, leb, ltb}
+use lib.ListN.{length, length-append, take}
+use mathlib.Core.Bool.{Bool, _||_, cond, false, not, true}
+use mathlib.Core.List.{[], _++_, _∷_}
+use mathlib.Core.Option.{Option, none, some}
+use mathlib.Core.Path.{_∙_, _≡_, ap, refl}
+use native.Mathlib.Omega.{arith}
+use Rattle.lists.proofs.Bools.{and-r, imp-out, nor-l, nor-r, not-not-is}
+use Rattle.lists.proofs.Counts.{below-all}
+use Rattle.image.specs.Layout.{blockCount, cardCount, copyCount, recordCount, slotCount, tranBound, valueBound}
+use Rattle.mask.specs.Masks.{Byte, hasCard, isWithin, size}
+use Rattle.mask.specs.Placements.{leastMembers}
+use Rattle.mask.proofs.Masks.{has-card, has-none, has-with, has-without}
+use Rattle.mask.proofs.Sites.{site-count, site-distinct, site-member}
+use Rattle.slot.specs.Blocks.{BlockBytes, endSlots, freshBlock, lockSlot, slotAt}
+use Rattle.slot.specs.Words.{entryOf, freedSlot, lockedSlot, slotOf, stateOf}
+use Rattle.slot.proofs.Blocks.{held-empty, held-end, held-fresh, held-lock, slot-end, slot-fresh, slot-lock}
+use Rattle.method.specs.ControlPart.{active}
+use Rattle.method.specs.Rules.{row}
+use Rattle.method.specs.Slots.{Slot, blank, ended, freed, locked}
+use Rattle.method.proofs.Laws.{Laws}
+use Rattle.method.proofs.Refusals.{row-clear}
+use Rattle.control.specs.ControlBytes.{Part}
+use Rattle.cabinet_rules.specs.Cabinet.{cabinet, mostPlaced, placeRows, slotSeen, startRow, tranOk}
+use Rattle.slot.specs.declared.Slot.{Slot as Fields}
+
+-- ---- slots, as the rules see them
+-- what the rules see of a slot's fields
+abbrev seen : Fields → Slot
+seen s = record { committed = stateOf (s .committed); lock = s .lock; pending = stateOf (s .pending) }
+
+seen-cond : (b : Bool) (s r : Fields) → seen (cond b s r) ≡ cond b (seen s) (seen r)
+seen-cond true s r = refl
+seen-cond false s r = refl
+
+state-entry : (v : Option ℕ) → stateOf (entryOf v) ≡ v
+state-entry none = refl
+state-entry (some n) = refl
+
+seen-locked : (t : ℕ) (v : Option ℕ) (s : Fields) → seen (lockedSlot t v s) ≡ locked t v (seen s)
+seen-locked t v s = λ i. record { committed = stateOf (s .committed); lock = t; pending = state-entry v i }
+
+seen-freed : (take : Bool) (s : Fields) → seen (freedSlot take s) ≡ freed take (seen s)
+seen-freed true s = λ i. record { committed = state-entry (stateOf (s .pending)) i; lock = 0; pending = none }
+seen-freed false s = refl
+
+-- the slot at any place, after a lock
+lock-seen : (x : BlockBytes) (r t q : ℕ) (v : Option ℕ) → tranOk t ≡ true → entryOf v .value < valueBound
+    → slotSeen (lockSlot x (r % slotCount) t v) (q % slotCount)
+    ≡ cond (eqb (q % slotCount) (r % slotCount)) (locked t v (slotSeen x (r % slotCount))) (slotSeen x (q % slotCount))
+lock-seen x r t q v ht hv =
+    ap seen (slot-lock x (r % slotCount) (q % slotCount) t v (omega arith) (omega arith) (tran-lt t ht) hv)
+    ∙ seen-cond (eqb (q % slotCount) (r % slotCount)) (lockedSlot t v (slotAt x (r % slotCount))) (slotAt x (q % slotCount))
+    ∙ ap (λ (s : Slot). cond (eqb (q % slotCount) (r % slotCount)) s (slotSeen x (q % slotCount))) (seen-locked t v (slotAt x (r % slotCount)))
+  where
+    tran-lt : (t : ℕ) → tranOk t ≡ true → t < tranBound
+    tran-lt t e = ltb-true t tranBound (and-r (ltb 0 t) (ltb t tranBound) e)
+
+end-seen : (take : Bool) (f : ℕ → Bool) (x : BlockBytes) (r : ℕ) → slotSeen (endSlots take f x) (r % slotCount) ≡ ended take f (slotSeen x (r % slotCount))
+end-seen take f x r =
+    ap seen (slot-end take f x (r % slotCount) (omega arith))
+    ∙ seen-cond (f (s .lock)) (freedSlot take s) s
+    ∙ ap (λ (y : Slot). cond (f (s .lock)) y (seen s)) (seen-freed take s)
+  where
+    s : Fields
+    s = slotAt x (r % slotCount)
+
+fresh-seen : (r : ℕ) → slotSeen freshBlock (r % slotCount) ≡ blank
+unfolding slotOf
+fresh-seen r = ap seen (slot-fresh (r % slotCount) (omega arith))
+
+-- ---- arguments of start and place
+start-members : (m : Byte) → startRow m ≡ 0 → copyCount ≤ size m
+unfolding startRow
+start-members m e = ltb-false (size m) leastMembers (row-clear (ltb (size m) leastMembers) 8 e .0)
+
+module _ (k : Part) (m : Byte) (e : placeRows k m ≡ 0) where
+  bad : Bool
+  bad = not (isWithin m (k .working)) || eqb (m .0) (k .newest .mask .0)
+
+  rows : ((ltb (size m) leastMembers || bad) ≡ false) × (row 10 (leb mostPlaced (length (active k))) 0 ≡ 0)
+  unfolding placeRows bad
+  rows = row-clear (ltb (size m) leastMembers || (not (isWithin m (k .working)) || eqb (m .0) (k .newest .mask .0))) 8 e
+
+  place-members : copyCount ≤ size m
+  place-members = ltb-false (size m) leastMembers (nor-l (ltb (size m) leastMembers) bad (rows .0))
+
+  place-working : (c : ℕ) → hasCard m c ≡ true → hasCard (k .working) c ≡ true
+  unfolding isWithin bad
+  place-working c h = imp-out (hasCard m c) (hasCard (k .working) c)
+      (below-all cardCount (λ x. not (hasCard m x) || hasCard (k .working) x) c
+      (not-not-is (isWithin m (k .working)) (nor-l (not (isWithin m (k .working))) (eqb (m .0) (k .newest .mask .0)) (nor-r (ltb (size m) leastMembers) bad (rows .0))))
+      (has-card m c h)) h
+
+  place-few : suc (suc (length (k .older))) ≤ mostPlaced
+  place-few =
+      let h : length (k .older ++ (k .newest ∷ [])) < mostPlaced = leb-false mostPlaced (length (active k)) (row-clear (leb mostPlaced (length (active k))) 9 (rows .1) .0) in
+      omega (arith, h, length-append (k .older) (k .newest ∷ []))
+
+-- ---- all laws
+pub lawful : Laws cabinet
+unfolding size
+lawful = record {
+  tran-some = refl;
+  tran-below = λ t e. ltb-true t tranBound (and-r (ltb 0 t) (ltb t tranBound) e);
+  rec-block = λ σ r e. let h : r < recordCount = ltb-true r recordCount e in lt-ltb (r / slotCount) blockCount (omega arith);
+  rec-inj = λ r q d e. omega arith;
+  rec-at = λ b p l. (b * slotCount + p, omega arith, omega arith);
+  has-card = has-card;
+  has-none = has-none;
+  has-insert = has-with;
+  has-remove = has-without;
+  site-count = λ σ p b u h. site-count p b;
+  site-member = λ σ p b c u h e. site-member p b c u h e;
+  site-distinct = λ σ p b u h. site-distinct p b u h;
+  has-without = λ p c x. has-without (p .mask) c x;
+  usable-without = λ σ p c h. h;
+  start-usable = start-members;
+  start-many = start-members;
+  start-some = λ m e. omega arith;
+  place-usable = place-members;
+  place-many = place-members;
+  place-works = λ k m c e h. place-working k m e c h;
+  limit-some = λ σ. omega arith;
+  place-room = place-few;
+  held-empty = held-empty;
+  held-fresh = held-fresh;
+  slot-fresh = fresh-seen;
+  held-lock = held-lock;
+  slot-store = λ x r t n q ht hn. lock-seen x r t q (some n) ht (ltb-true n valueBound hn);
+  slot-delete = λ x r t q ht. lock-seen x r t q none ht (omega arith);
+  held-end = held-end;
+  slot-end = end-seen;
+}

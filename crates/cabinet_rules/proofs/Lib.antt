@@ -1,0 +1,7 @@
+pub mod Examples
+pub mod Lawful
+pub mod After
+pub mod Form
+pub mod Sound
+pub mod OneRecordList
+pub mod FormStays

@@ -1,0 +1,3 @@
+pub mod Cabinet
+pub mod Images
+pub mod Claims
