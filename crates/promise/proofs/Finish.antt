@@ -1,0 +1,96 @@
+-- The laws that finish the proof of a call: refused by 1 or 2, refused by a later row, accepted with nothing changed, with a new control part,
+-- with blocks written. Assumes nothing.
+use Prim.Native.Nat.{suc, zero, ℕ}
+use borrow.Author.Tests.{eq-eqb, eqb-true}
+use lib.Dec.{eqb}
+use lib.ListN.{length}
+use mathlib.Core.Bool.{Bool, false, not, true}
+use mathlib.Core.Option.{none}
+use mathlib.Core.Path.{_∙_, _≡_, ap, ap₂, refl, sym}
+use native.Mathlib.Omega.{arith}
+use Rattle.lists.proofs.Bools.{not-not-is}
+use Rattle.image.specs.Layout.{Whole, imageSize}
+use Rattle.method.specs.PlainList.{orRefused}
+use Rattle.method.specs.Rules.{Call, Plan, look, refusal, row, unwritten, writing}
+use Rattle.method.proofs.Refusals.{row-clear}
+use Rattle.control.specs.ControlBytes.{Part, controlByte}
+use Rattle.control.specs.ControlForm.{controlForm, formRefusal}
+use Rattle.control.specs.Meaning.{putControl}
+use Rattle.cabinet_rules.specs.Cabinet.{cabinet}
+use Rattle.cabinet_rules.specs.Images.{Image, Writes, after, answer, controlIn, isStart, next, planOn, refusalOn}
+use Rattle.cabinet_rules.specs.Images.{stateIn, unlessRefusedImage}
+use Rattle.promise.specs.Promise.{Done, shown}
+use Rattle.promise.proofs.Laid.{kept-control, laid, laid-none, write-control}
+use Rattle.promise.specs.declared.Answer.{Answer as AnswerValue}
+use Rattle.promise.specs.declared.Answer.the-variants.{Refused}
+
+-- ---- what an image that passes 1 and 2 has shown
+pub form-long : (g : Image) → formRefusal g ≡ 0 → Whole g
+unfolding formRefusal
+form-long g e = eqb-true (length g) imageSize (not-not-is (eqb (length g) imageSize) (row-clear (not (eqb (length g) imageSize)) 0 e .0))
+
+pub form-good : (g : Image) → formRefusal g ≡ 0 → controlForm g ≡ true
+unfolding formRefusal
+form-good g e = not-not-is (controlForm g) (row-clear (not (controlForm g)) 1 (row-clear (not (eqb (length g) imageSize)) 0 e .1) .0)
+
+-- the rows from 3 on, of a call on an image
+abbrev pub rulesOn : Call cabinet → Image → ℕ
+rulesOn c g = refusal cabinet c (controlIn g) (look cabinet (stateIn g))
+
+module _ (c : Call cabinet) (late : isStart c ≡ false) (g : Image) where
+  -- the rows 1 and 2 alone
+  refused-by-form : (n : ℕ) → formRefusal g ≡ suc n → refusalOn c g ≡ suc n
+  unfolding refusalOn formRefusal
+  refused-by-form n e = rw late (go (not (eqb (length g) imageSize)) (not (controlForm g)) e)
+    where
+      go : (a b : Bool) → row 1 a (row 2 b 0) ≡ suc n → row 1 a (row 2 b (rulesOn c g)) ≡ suc n
+      go true b h = h
+      go false true h = h
+      go false false h = absurd (omega arith)
+
+  -- 1 and 2
+  pub by-form : (n : ℕ) → n ≡ formRefusal g → (n ≡ 0 → ⊥) → Done c g (Refused n) g
+  unfolding answer next
+  by-form zero e h = absurd (h refl)
+  by-form (suc n) e h = record { answers = rw (refused-by-form n (sym e)); leaves = rw (refused-by-form n (sym e)) }
+
+  module _ (clear : formRefusal g ≡ 0) where
+    refusal-rules : refusalOn c g ≡ rulesOn c g
+    unfolding refusalOn
+    refusal-rules = rw (eq-eqb (length g) imageSize (form-long g clear), form-good g clear, late)
+
+    -- 3 and up
+    pub by-rules : (n : ℕ) → n ≡ rulesOn c g → (n ≡ 0 → ⊥) → Done c g (Refused n) g
+    unfolding answer next
+    by-rules zero e h = absurd (h refl)
+    by-rules (suc n) e h = let r : refusalOn c g ≡ suc n = refusal-rules ∙ sym e in record { answers = rw r; leaves = rw r }
+
+    -- accepted: the plan's answer, and the image after the plan
+    pub by-plan : (a : AnswerValue) (p : Plan cabinet) (behind : Image) → 0 ≡ rulesOn c g → planOn c g ≡ p
+        → shown a ≡ p .answer → behind ≡ after (controlByte (p .after)) (p .write) g → Done c g a behind
+    unfolding answer next
+    by-plan a p behind e q s l =
+        let r : refusalOn c g ≡ 0 = refusal-rules ∙ sym e in
+        record {
+          answers = s ∙ sym (ap₂ (λ (n : ℕ) (p : Plan cabinet). orRefused cabinet n (p .answer)) r q);
+          leaves = l ∙ sym (ap₂ (λ (n : ℕ) (p : Plan cabinet). unlessRefusedImage n g (after (controlByte (p .after)) (p .write) g)) r q);
+        }
+
+    -- accepted, blocks are written and the control part stays
+    pub by-blocks : (a : AnswerValue) (w : Writes) (behind : Image) → 0 ≡ rulesOn c g → planOn c g ≡ writing cabinet (shown a) (controlIn g) w
+        → behind ≡ laid w g → Done c g a behind
+    by-blocks a w behind e q l = by-plan a (writing cabinet (shown a) (controlIn g) w) behind e q refl (l ∙ sym (kept-control w g (form-good g clear)))
+
+    -- accepted, blocks are written and then the control part
+    pub by-both : (a : AnswerValue) (k : Part) (w : Writes) (behind : Image) → 0 ≡ rulesOn c g → planOn c g ≡ writing cabinet (shown a) k w
+        → behind ≡ putControl (laid w g) k → Done c g a behind
+    by-both a k w behind e q l = by-plan a (writing cabinet (shown a) k w) behind e q refl (l ∙ write-control w g k)
+
+    -- accepted, and only the control part changes
+    pub by-control : (a : AnswerValue) (k : Part) (behind : Image) → 0 ≡ rulesOn c g → planOn c g ≡ unwritten cabinet (shown a) k
+        → behind ≡ putControl g k → Done c g a behind
+    by-control a k behind e q l = by-both a k (λ c b. none) behind e q (l ∙ ap (λ (i : Image). putControl i k) (laid-none (λ c b. none) g (form-long g clear) (λ c b hc hb. refl)))
+
+    -- accepted, and nothing changes
+    pub by-look : (a : AnswerValue) → 0 ≡ rulesOn c g → planOn c g ≡ unwritten cabinet (shown a) (controlIn g) → Done c g a g
+    by-look a e q = by-blocks a (λ c b. none) g e q (laid-none (λ c b. none) g (form-long g clear) (λ c b hc hb. refl))

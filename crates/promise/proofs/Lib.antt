@@ -1,0 +1,4 @@
+pub mod Laid
+pub mod Sweep
+pub mod View
+pub mod Finish
