@@ -1,0 +1,185 @@
+-- The holders as the code finds them, placement by placement, are those of the rules. Assumes nothing.
+use Prim.Native.Nat.{_+_, _-_, _<_, _≤_, suc, zero, ℕ}
+use lib.ListN.{getD, length-set, set, take}
+use lib.Seq.{getD-set-other, getD-set-same, take-suc-set}
+use mathlib.Core.Bool.{Bool, _&&_, cond, false, not, true}
+use mathlib.Core.List.{List, [], _++_, _∷_, append-assoc, append-nil}
+use mathlib.Core.Logic.{_⊎_, inl, inr}
+use mathlib.Core.Path.{_∙_, _≡_, ap, ap₂, refl, sym}
+use native.Mathlib.Numerals.{add-one}
+use native.Mathlib.Omega.{arith}
+use Rattle.lists.specs.Tests.{In, concatMap, keepIf}
+use Rattle.lists.proofs.Bools.{split}
+use Rattle.lists.proofs.Cases.{by-eq}
+use Rattle.image.specs.Layout.{Whole, blockAt, blockCount, cardCount}
+use Rattle.mask.specs.Masks.{byte, hasCard}
+use Rattle.mask.specs.Placements.{Placement, Usable, firstSite, fromMask, secondSite, sitesOf}
+use Rattle.mask.proofs.Masks.{has-card, size-members}
+use Rattle.mask.proofs.Sites.{member-at}
+use Rattle.slot.specs.Blocks.{BlockBytes, isHeld, ofList}
+use Rattle.method.specs.ControlPart.{active}
+use Rattle.method.specs.Rules.{holders, look, trail}
+use Rattle.control.specs.ControlBytes.{Part, placementsIn}
+use Rattle.control.specs.ControlForm.{controlForm}
+use Rattle.control.specs.Meaning.{maskIn, meaning}
+use Rattle.control.specs.declared.Control.{Control}
+use Rattle.control.proofs.Struct.{active-is}
+use Rattle.cabinet_rules.specs.Cabinet.{cabinet}
+use Rattle.cabinet_rules.specs.Images.{Image, controlIn, stateIn}
+use Rattle.promise.proofs.Finish.{form-good, form-long}
+use Rattle.promise.proofs.Laid.{of-block}
+use Rattle.promise.proofs.View.{held-look, usable-active, works-not-failed}
+use Rattle.trail.specs.declared.Holders.{Holders}
+use Rattle.trail.specs.Trail.{Given, Lists, Sound, cardsOf, holdersIn, holdsAt, mostHolders}
+
+-- ---- whether a card holds the block
+pub holds-on : (w : ℕ) (g : Image) (b c : ℕ) (x : Bool) → hasCard (byte w) c ≡ true → x ≡ isHeld (ofList (blockAt g c b)) → x ≡ holdsAt w g b c
+unfolding holdsAt
+holds-on w g b c x on e = rw on e
+
+pub holds-off : (w : ℕ) (g : Image) (b c : ℕ) → hasCard (byte w) c ≡ false → false ≡ holdsAt w g b c
+unfolding holdsAt
+holds-off w g b c off = rw off
+
+-- ---- one card more
+module _ (h : Holders) (s : Sound h) (p : ℕ → Bool) (c : ℕ) where
+  pub push-yes : c < cardCount → h .count < mostHolders → p c ≡ true
+      → Lists (record { count = h .count + 1; cards = set (h .cards) (h .count) c }) (cardsOf h ++ keepIf p (c ∷ [])) × (h .count + 1 ≤ h .count + 1)
+  push-yes hc room holding = (
+    record {
+      sound = record {
+        few = omega arith;
+        long = length-set (h .cards) (h .count) c ∙ s .long;
+        small = λ j k. by-eq (getD (set (h .cards) (h .count) c) j 0 < cardCount) j (h .count)
+            (λ e. rw (e, getD-set-same (h .cards) (h .count) c 0 (omega (arith, s .long))) hc)
+            (λ d. rw (getD-set-other (h .cards) (h .count) j c 0 d) (s .small j (omega arith)));
+      };
+      are = ap (λ (n : ℕ). take n (set (h .cards) (h .count) c)) (add-one (h .count)) ∙ take-suc-set (h .cards) (h .count) c (omega (arith, s .long)) ∙ rw holding;
+    },
+    omega arith,
+  )
+
+  pub push-no : p c ≡ false → Lists h (cardsOf h ++ keepIf p (c ∷ [])) × (h .count ≤ h .count + 1)
+  push-no lacking = (record { sound = s; are = rw lacking (sym (append-nil (cardsOf h))) }, omega arith)
+
+-- ---- lists
+keep-append : (f : ℕ → Bool) (l m : List ℕ) → keepIf f (l ++ m) ≡ keepIf f l ++ keepIf f m
+keep-append f [] m = refl
+keep-append f (x ∷ l) m = go (f x) (keep-append f l m)
+  where
+    go : (t : Bool) → keepIf f (l ++ m) ≡ keepIf f l ++ keepIf f m → cond t (x ∷ keepIf f (l ++ m)) (keepIf f (l ++ m)) ≡ cond t (x ∷ keepIf f l) (keepIf f l) ++ keepIf f m
+    go true e = ap (λ (r : List ℕ). x ∷ r) e
+    go false e = e
+
+keep-keep : (f g : ℕ → Bool) (l : List ℕ) → keepIf f (keepIf g l) ≡ keepIf (λ c. g c && f c) l
+keep-keep f g [] = refl
+keep-keep f g (x ∷ l) = go (g x) (keep-keep f g l)
+  where
+    go : (t : Bool) → keepIf f (keepIf g l) ≡ keepIf (λ c. g c && f c) l
+        → keepIf f (cond t (x ∷ keepIf g l) (keepIf g l)) ≡ cond (t && f x) (x ∷ keepIf (λ c. g c && f c) l) (keepIf (λ c. g c && f c) l)
+    go true e = ap (λ (r : List ℕ). cond (f x) (x ∷ r) r) e
+    go false e = e
+
+concat-append : {A : Type 0} (f : A → List ℕ) (l : List A) (x : A) → concatMap f (l ++ (x ∷ [])) ≡ concatMap f l ++ f x
+concat-append f [] x = append-nil (f x)
+concat-append f (y ∷ l) x = ap (λ (r : List ℕ). f y ++ r) (concat-append f l x) ∙ sym (append-assoc (f y) (concatMap f l) (f x))
+
+-- two cards pushed are the two sites pushed
+pub push-two : (p : ℕ → Bool) (q : Placement) (b : ℕ) (l m n : List ℕ) (x y : ℕ) → x ≡ firstSite q b → y ≡ secondSite q b
+    → m ≡ l ++ keepIf p (x ∷ []) → n ≡ m ++ keepIf p (y ∷ []) → n ≡ l ++ keepIf p (sitesOf q b)
+unfolding sitesOf
+push-two p q b l m n x y ex ey d e =
+    e ∙ ap (λ (z : List ℕ). z ++ keepIf p (y ∷ [])) d ∙ append-assoc l (keepIf p (x ∷ [])) (keepIf p (y ∷ []))
+    ∙ ap (λ (z : List ℕ). l ++ z) (sym (keep-append p (x ∷ []) (y ∷ [])) ∙ ap₂ (λ (s t : ℕ). keepIf p (s ∷ t ∷ [])) ex ey)
+
+-- ---- placements by their masks
+pub usable-same : {p q : Placement} → p ≡ q → Usable q → Usable p
+usable-same e u = rw e u
+
+placements-more : (f : ℕ → ℕ) (n : ℕ) → placementsIn f (n + 1) ≡ placementsIn f n ++ (fromMask (byte (f n)) ∷ [])
+placements-more f n = ap (placementsIn f) (add-one n) ∙ go f n
+  where
+    go : (f : ℕ → ℕ) (n : ℕ) → placementsIn f (suc n) ≡ placementsIn f n ++ (fromMask (byte (f n)) ∷ [])
+    go f zero = refl
+    go f (suc n) = ap (λ (l : List Placement). fromMask (byte (f 0)) ∷ l) (go (λ i. f (suc i)) n)
+
+in-placements : (f : ℕ → ℕ) (n i : ℕ) → i < n → In (fromMask (byte (f i))) (placementsIn f n)
+in-placements f zero i h = absurd (omega arith)
+in-placements f (suc n) zero h = inl refl
+in-placements f (suc n) (suc i) h = inr (in-placements (λ i. f (suc i)) n i (omega arith))
+
+-- ---- the holders among the sites of the first i placements
+abbrev holdsSeen : Image → ℕ → ℕ → Bool
+holdsSeen g b c = isHeld (look cabinet (stateIn g) c b)
+
+abbrev notFailed : Image → ℕ → Bool
+notFailed g c = not (hasCard (controlIn g .failed) c)
+
+unfoldable pub firstHolders : Image → ℕ → List ℕ → ℕ → List ℕ
+firstHolders g b masks i = keepIf (holdsSeen g b) (keepIf (notFailed g) (concatMap (λ p. sitesOf p b) (placementsIn (λ i. getD masks i 0) i)))
+
+pub first-none : (g : Image) (b : ℕ) (masks : List ℕ) → [] ≡ firstHolders g b masks 0
+unfolding firstHolders
+first-none g b masks = refl
+
+module _ (k : Control) (g : Image) (given : Given k g) where
+  pub whole : Whole g
+  whole = form-long g (given .formed)
+
+  pub formed : controlForm g ≡ true
+  formed = form-good g (given .formed)
+
+  -- the active placements are those of the first `count` masks
+  active-masks : active (controlIn g) ≡ placementsIn (maskIn k) (k .count)
+  unfolding meaning
+  active-masks = ap (λ (p : Part). active p) (sym (given .is .means)) ∙ active-is k (given .is .counted)
+
+  -- each has as many members as copies
+  pub usable-mask : (i : ℕ) → i < k .count → Usable (fromMask (byte (maskIn k i)))
+  usable-mask i h = usable-active g formed (fromMask (byte (maskIn k i))) (rw active-masks (in-placements (maskIn k) (k .count) i h))
+
+  -- the code tests whether a card works, the rules whether it has failed
+  test-is : (b c : ℕ) → b < blockCount → c < cardCount → (notFailed g c && holdsSeen g b c) ≡ holdsAt (k .working) g b c
+  unfolding holdsAt
+  test-is b c hb hc = ap (λ (t : Bool). notFailed g c && t) (held-look g c b hb) ∙ ap (λ (x : BlockBytes). notFailed g c && (hasCard (controlIn g .working) c && isHeld x)) (sym (of-block g whole c b hc hb))
+      ∙ go (split (hasCard (controlIn g .working) c)) ∙ ap (λ (t : Bool). t && isHeld (ofList (blockAt g c b))) working-is
+    where
+      working-is : hasCard (controlIn g .working) c ≡ hasCard (byte (k .working)) c
+      working-is = unfold meaning in ap (λ (p : Part). hasCard (p .working) c) (sym (given .is .means))
+
+      and-no : (t : Bool) → (t && false) ≡ false
+      and-no true = refl
+      and-no false = refl
+
+      go : (hasCard (controlIn g .working) c ≡ true) ⊎ (hasCard (controlIn g .working) c ≡ false)
+          → (notFailed g c && (hasCard (controlIn g .working) c && isHeld (ofList (blockAt g c b)))) ≡ (hasCard (controlIn g .working) c && isHeld (ofList (blockAt g c b)))
+      go (inl on) = rw (on, works-not-failed g formed c on)
+      go (inr off) = rw off (and-no (notFailed g c))
+
+  -- its sites are cards
+  site-lt : (b i : ℕ) → i < k .count → firstSite (fromMask (byte (maskIn k i))) b < cardCount
+  site-lt b i h =
+      let m = byte (maskIn k i) in
+      has-card m (firstSite (fromMask m) b) (member-at (fromMask m) b (omega (arith, size-members m, usable-mask i h)))
+
+  -- one placement more
+  pub first-more : (b i : ℕ) → b < blockCount → i < k .count
+      → firstHolders g b (k .masks) i ++ keepIf (holdsAt (k .working) g b) (sitesOf (fromMask (byte (maskIn k i))) b) ≡ firstHolders g b (k .masks) (i + 1)
+  unfolding firstHolders
+  first-more b i hb hi =
+      let p = fromMask (byte (maskIn k i)) in
+      let l = placementsIn (maskIn k) i in
+      let sites : Placement → List ℕ = λ p. sitesOf p b in
+      sym (ap (λ (l : List Placement). keepIf (holdsSeen g b) (keepIf (notFailed g) (concatMap sites l))) (placements-more (maskIn k) i)
+      ∙ ap (λ (l : List ℕ). keepIf (holdsSeen g b) (keepIf (notFailed g) l)) (concat-append sites l p)
+      ∙ ap (keepIf (holdsSeen g b)) (keep-append (notFailed g) (concatMap sites l) (sitesOf p b))
+      ∙ keep-append (holdsSeen g b) (keepIf (notFailed g) (concatMap sites l)) (keepIf (notFailed g) (sitesOf p b))
+      ∙ ap (λ (r : List ℕ). firstHolders g b (k .masks) i ++ r) (keep-keep (holdsSeen g b) (notFailed g) (sitesOf p b) ∙ unfold sitesOf in two (firstSite p b) (secondSite p b) (site-lt b i hi) (site-lt (b + 1) i hi)))
+    where
+      two : (x y : ℕ) → x < cardCount → y < cardCount → keepIf (λ c. notFailed g c && holdsSeen g b c) (x ∷ y ∷ []) ≡ keepIf (holdsAt (k .working) g b) (x ∷ y ∷ [])
+      two x y hx hy = rw (sym (test-is b x hb hx), sym (test-is b y hb hy))
+
+  -- and all of them
+  pub first-all : (b : ℕ) → firstHolders g b (k .masks) (k .count) ≡ holdersIn g b
+  unfolding firstHolders holders trail
+  first-all b = ap (λ (l : List Placement). keepIf (holdsSeen g b) (keepIf (notFailed g) (concatMap (λ p. sitesOf p b) l))) (sym active-masks)

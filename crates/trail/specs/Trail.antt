@@ -1,0 +1,48 @@
+-- The holders of a block on an image, and the list of them that the code keeps. Assumes nothing.
+use Prim.Native.Nat.{_*_, _<_, _≤_, ℕ}
+use lib.ListN.{getD, length, take}
+use mathlib.Core.Bool.{Bool, _&&_}
+use mathlib.Core.List.{List}
+use mathlib.Core.Path.{_≡_}
+use Rattle.image.specs.Layout.{blockAt, cardCount, copyCount}
+use Rattle.mask.specs.Masks.{byte, hasCard}
+use Rattle.slot.specs.Blocks.{isHeld, ofList}
+use Rattle.method.specs.Rules.{holders, look}
+use Rattle.control.specs.ControlForm.{formRefusal}
+use Rattle.control.specs.Meaning.{Is}
+use Rattle.control.specs.declared.Control.{Control}
+use Rattle.cabinet_rules.specs.Cabinet.{cabinet}
+use Rattle.cabinet_rules.specs.Images.{Image, controlIn, stateIn}
+use Rattle.trail.specs.declared.Holders.{Holders}
+
+-- The image passes the rows 1 and 2, and k is its control part.
+pub record Given (k : Control) (g : Image) : Type 0 where
+  pub formed : formRefusal g ≡ 0
+  pub is : Is k (controlIn g)
+
+-- The holders of block b as the rules have them.
+abbrev pub holdersIn : Image → ℕ → List ℕ
+holdersIn g b = holders cabinet (controlIn g) (look cabinet (stateIn g)) b
+
+-- Card c, of these working cards, holds block b.
+unfoldable pub holdsAt : ℕ → Image → ℕ → ℕ → Bool
+holdsAt working g b c = hasCard (byte working) c && isHeld (ofList (blockAt g c b))
+
+-- Two sites of each of four active placements.
+abbrev pub mostHolders : ℕ
+mostHolders = 4 * copyCount
+
+-- The cards of the code's list: the first `count` entries.
+abbrev pub cardsOf : Holders → List ℕ
+cardsOf h = take (h .count) (h .cards)
+
+-- The entries that count are cards.
+pub record Sound (h : Holders) : Type 0 where
+  pub few : h .count ≤ mostHolders
+  pub long : length (h .cards) ≡ mostHolders
+  pub small : (j : ℕ) → j < h .count → getD (h .cards) j 0 < cardCount
+
+-- The code's list is l.
+pub record Lists (h : Holders) (l : List ℕ) : Type 0 where
+  pub sound : Sound h
+  pub are : cardsOf h ≡ l

@@ -1,0 +1,93 @@
+// The trail of a block: the sites of all active placements, oldest first, and the holders on it.
+ghost use mathlib.Core.Path.{_≡_};
+ghost use mathlib.Core.List.{_++_, _∷_, []};
+ghost use Prim.Native.Nat.{_+_, _<_, _≤_};
+ghost use Rattle.lists.specs.Tests.{keepIf};
+ghost use Rattle.image.specs.Layout.{Whole, blockCount, cardCount, copyCount};
+ghost use Rattle.mask.specs.Masks.{byte, size};
+ghost use Rattle.mask.specs.Placements.{fromMask, sitesOf};
+ghost use Rattle.trail.specs.Trail.{Given, Lists, Sound, cardsOf, holdersIn, holdsAt, mostHolders};
+use control::Control;
+use image::Block;
+use image::Card;
+use mask::Placement;
+
+// Two sites of each of four active placements.
+pub const MOST_HOLDERS: usize = control::MASK_COUNT * image::COPY_COUNT;
+
+// A list of cards, oldest placement first; a card may stand in it twice.
+pub struct Holders {
+    pub count: u8,
+    pub cards: [u8; MOST_HOLDERS],
+}
+
+// Whether the card works and holds the block.
+fn holds(image: &[u8], working: u8, card: Card, block: Block) -> bool
+    requires { ⌜ Whole (now image) × (card .0 < cardCount) × (block .0 < blockCount) ⌝ }
+    ensures { λ r. ⌜ r ≡ holdsAt working (now (image .entry)) (block .0) (card .0) ⌝ }
+{
+    if mask::has(working, card) {
+        let bytes = image::get_block(image, card, block);
+        return slot::is_held(bytes);
+    }
+    false
+}
+
+// The card is added where it holds the block.
+fn push(image: &[u8], working: u8, block: Block, found: Holders, card: Card) -> Holders
+    requires { ⌜ Whole (now image) × (card .0 < cardCount) × (block .0 < blockCount) ⌝ }
+    requires { ⌜ Sound found ⌝ }
+    requires { ⌜ found .count < mostHolders ⌝ }
+    ensures { λ r. ⌜ Lists r (cardsOf found ++ keepIf (holdsAt working (now (image .entry)) (block .0)) (card .0 ∷ []))
+        × (r .count ≤ found .count + 1) ⌝ }
+{
+    if holds(image, working, card, block) {
+        let i = found.count as usize;
+        let mut cards = found.cards;
+        cards[i] = card.0;
+        return Holders {
+            count: found.count + 1,
+            cards: cards,
+        };
+    }
+    found
+}
+
+// The sites of the placement with this mask are added where they hold the block.
+fn push_sites(image: &[u8], working: u8, block: Block, found: Holders, mask: u8) -> Holders
+    requires { ⌜ Whole (now image) × (copyCount ≤ size (byte mask)) × (block .0 < blockCount) ⌝ }
+    requires { ⌜ Sound found ⌝ }
+    requires { ⌜ found .count + copyCount ≤ mostHolders ⌝ }
+    ensures { λ r.
+        ⌜ Lists r (cardsOf found
+        ++ keepIf (holdsAt working (now (image .entry)) (block .0)) (sitesOf (fromMask (byte mask)) (block .0)))
+        × (r .count ≤ found .count + copyCount) ⌝ }
+{
+    let placement = Placement::from_mask(mask);
+    let first = placement.first_site(block);
+    let second = placement.second_site(block);
+    let more = push(image, working, block, found, first);
+    push(image, working, block, more, second)
+}
+
+// The holders of a block.
+pub fn find(image: &[u8], k: Control, block: Block) -> Holders
+    requires { ⌜ Given k (now image) ⌝ }
+    requires { ⌜ block .0 < blockCount ⌝ }
+    ensures { λ r. ⌜ Lists r (holdersIn (now (image .entry)) (block .0)) ⌝ }
+{
+    let masks = k.masks;
+    let count = k.count as usize;
+    let working = k.working;
+    let mut found = Holders {
+        count: 0,
+        cards: [0u8; MOST_HOLDERS],
+    };
+    let mut i: usize = 0;
+    while i < count {
+        let more = push_sites(image, working, block, found, masks[i]);
+        found = more;
+        i += 1;
+    }
+    found
+}
