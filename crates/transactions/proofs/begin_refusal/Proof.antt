@@ -1,0 +1,104 @@
+-- The proof of `begin_refusal`. Assumes nothing.
+use mathlib.Core.Path.{_∙_, sym}
+use borrow.Author.Needs.{needs}
+use borrow.Author.Tests.{le-ltb, lt-ltb, not-false, not-true}
+use Rattle.method.specs.Rules.{refusal}
+use Rattle.control.specs.Meaning.{meaning}
+use Rattle.transactions.specs.Transactions.{beginRows}
+use Rattle.transactions.proofs.Rows.{tran-range}
+use Rattle.transactions.proofs.begin_refusal.Statement.{statement}
+use Rattle.transactions.proofs.begin_refusal.Tie as tie
+
+in-range-requires : tie.Need-in-range-requires
+in-range-requires c κs = search needs
+
+returns : tie.Need-returns
+unfolding beginRows refusal
+returns c = rw (sym (c .before .in-range .ensures) ∙ not-true _ (c .if1 .taken))
+
+cast-if2 : tie.Need-cast-if2
+cast-if2 c = search needs
+
+returns-2 : tie.Need-returns-2
+unfolding beginRows refusal
+returns-2 c =
+    let s = c .before .before in
+    rw (sym (s .before .in-range .ensures) ∙ not-false _ (s .if1 .left), le-ltb _ _ (c .if2 .taken))
+
+returns-3 : tie.Need-returns-3
+unfolding beginRows refusal meaning
+returns-3 c =
+    let s = c .before .before .before in
+    rw (sym (s .before .in-range .ensures) ∙ not-false _ (s .if1 .left), lt-ltb _ _ (c .before .if2 .left), c .if3 .taken)
+
+is-open-requires : tie.Need-is-open-requires
+is-open-requires c κs =
+    let s = c .before .before .before in
+    tran-range _ (sym (s .before .in-range .ensures) ∙ not-false _ (s .if1 .left))
+
+returns-4 : tie.Need-returns-4
+unfolding beginRows refusal meaning
+returns-4 c =
+    let s = c .before .before .before .before .before in
+    rw (
+      sym (c .before .is-open .ensures) ∙ c .if4 .taken,
+      sym (s .before .in-range .ensures) ∙ not-false _ (s .if1 .left),
+      lt-ltb _ _ (c .before .before .before .if2 .left),
+      c .before .before .if3 .left,
+    )
+
+sub-newest : tie.Need-sub-newest
+sub-newest c = search needs
+
+cast-newest : tie.Need-cast-newest
+cast-newest c = search needs
+
+element-copy-out-has : tie.Need-element-copy-out-has
+element-copy-out-has c = search needs
+
+has-requires : tie.Need-has-requires
+has-requires c κs = search needs
+
+returns-5 : tie.Need-returns-5
+unfolding beginRows refusal meaning
+returns-5 c =
+    let o = c .before .before .before in
+    let s = o .before .before .before .before .before in
+    rw (
+      sym (o .before .is-open .ensures) ∙ o .if4 .left,
+      sym (s .before .in-range .ensures) ∙ not-false _ (s .if1 .left),
+      lt-ltb _ _ (o .before .before .before .if2 .left),
+      o .before .before .if3 .left,
+      sym (c .before .has .ensures) ∙ not-true _ (c .if5 .taken),
+    )
+
+returns-6 : tie.Need-returns-6
+unfolding beginRows refusal meaning
+returns-6 c =
+    let o = c .before .before .before in
+    let s = o .before .before .before .before .before in
+    rw (
+      sym (o .before .is-open .ensures) ∙ o .if4 .left,
+      sym (s .before .in-range .ensures) ∙ not-false _ (s .if1 .left),
+      lt-ltb _ _ (o .before .before .before .if2 .left),
+      o .before .before .if3 .left,
+      sym (c .before .has .ensures) ∙ not-false _ (c .if5 .left),
+    )
+
+pub begin-refusal-spec : {M : Type 1} → statement M
+begin-refusal-spec =
+    tie.close
+    (tie.spec
+    in-range-requires
+    returns
+    cast-if2
+    returns-2
+    returns-3
+    is-open-requires
+    returns-4
+    sub-newest
+    cast-newest
+    element-copy-out-has
+    has-requires
+    returns-5
+    returns-6)

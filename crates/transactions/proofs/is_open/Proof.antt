@@ -1,0 +1,41 @@
+-- The proof of `is_open`. Assumes nothing.
+use Prim.Native.Nat.{_%_, _-_, _/_, ℕ}
+use lib.Dec.{leb}
+use lib.ListN.{getD}
+use mathlib.Core.Bool.{Bool, cond, false, true}
+use mathlib.Core.Option.{none, some}
+use mathlib.Core.Path.{_≡_, refl}
+use borrow.Author.Needs.{needs}
+use borrow.Author.Tests.{lt-ltb}
+use Rattle.image.specs.Layout.{tranBound}
+use Rattle.method.specs.Slots.{isSome}
+use Rattle.control.specs.ControlBytes.{homeIn}
+use Rattle.control.specs.Meaning.{meaning}
+use Rattle.transactions.proofs.is_open.Statement.{statement}
+use Rattle.transactions.proofs.is_open.Tie as tie
+
+-- The highest bit of a transaction's byte says that it is open.
+open-bit : (n : ℕ) → leb 128 n ≡ isSome (homeIn n)
+open-bit n = go (leb 128 n)
+  where
+    go : (b : Bool) → b ≡ isSome (cond b (some (n / 16 % 8)) none)
+    go true = refl
+    go false = refl
+
+sub-i : tie.Need-sub-i
+sub-i c = search needs
+
+cast-i : tie.Need-cast-i
+cast-i c = search needs
+
+element-copy-out-result : tie.Need-element-copy-out-result
+element-copy-out-result c = search needs
+
+returns : tie.Need-returns
+unfolding meaning
+returns c =
+    let s = c .before .before in
+    rw (lt-ltb 0 (s .args .tran .0) (s .pre .0), lt-ltb (s .args .tran .0) tranBound (s .pre .1)) (open-bit (getD (s .args .t1 .homes) (s .args .tran .0 - 1) 0))
+
+pub is-open-spec : {M : Type 1} → statement M
+is-open-spec = tie.close (tie.spec sub-i cast-i element-copy-out-result returns)
