@@ -1,0 +1,5 @@
+pub mod Rows
+pub mod Reading
+pub mod Locking
+pub mod LookUp
+pub mod Calls

@@ -1,0 +1,169 @@
+-- The locks that the code writes, holder by holder or in a new block, are the rules' writes. Assumes nothing.
+use Prim.Native.Nat.{_%_, _+_, _/_, _<_, ℕ}
+use borrow.Author.Tests.{eqb-true, ne-eqb}
+use lib.Dec.{eqb}
+use lib.ListN.{getD, length, take}
+use lib.Seq.{take-suc}
+use mathlib.Core.Bool.{Bool, _&&_, _||_, cond, false, true}
+use mathlib.Core.List.{List, [], _++_, _∷_}
+use mathlib.Core.Logic.{_≢_, _⊎_, inl, inr}
+use mathlib.Core.Option.{Option, none, some}
+use mathlib.Core.Path.{_∙_, _≡_, ap, ap₂, refl, sym}
+use native.Mathlib.Numerals.{add-one}
+use native.Mathlib.Omega.{arith}
+use Rattle.lists.specs.Tests.{elem}
+use Rattle.lists.proofs.Bools.{eqb-self, or-r, split}
+use Rattle.lists.proofs.Cases.{by-pair}
+use Rattle.image.specs.Layout.{Whole, blockAt, blockCount, cardCount, putBlock, recordCount, slotCount, tranBound, valueBound}
+use Rattle.mask.specs.Placements.{Placement, firstSite, secondSite, sitesOf}
+use Rattle.slot.specs.Blocks.{BlockBytes, freshBlock, lockSlot, ofList}
+use Rattle.slot.specs.Words.{entryOf, stateOf}
+use Rattle.slot.specs.declared.Entry.{Entry}
+use Rattle.slot.proofs.Blocks.{lock-again, of-list}
+use Rattle.method.specs.Rules.{layBlock, lockHolders, look, updated}
+use Rattle.cabinet_rules.specs.Cabinet.{cabinet}
+use Rattle.cabinet_rules.specs.Images.{Image, Writes, blockIn, controlIn, stateIn}
+use Rattle.promise.proofs.Laid.{laid, laid-block, laid-none, laid-put, laid-same, put-elsewhere, putOne}
+use Rattle.trail.specs.Trail.{holdersIn}
+use Rattle.records.proofs.Reading.{holder-look}
+
+-- the value of a state that 16 bits hold
+pub state-fits : (e : Entry) → e .value < valueBound → entryOf (stateOf e) .value < valueBound
+state-fits e h = go (e .present)
+  where
+    go : (b : Bool) → entryOf (cond b (some (e .value)) none) .value < valueBound
+    go true = h
+    go false = omega arith
+
+-- one slot, on one card
+pub lock-by : (g : Image) (c r t : ℕ) (v : Option ℕ) (b p : ℕ) (x y : List ℕ) (out : Image) → b ≡ r / slotCount → x ≡ blockAt g c b → p ≡ r % slotCount
+    → y ≡ lockSlot (ofList x) p t v .0 → out ≡ putBlock g c b y → out ≡ putBlock g c (r / slotCount) (lockSlot (ofList (blockAt g c (r / slotCount))) (r % slotCount) t v .0)
+lock-by g c r t v b p x y out eb ex ep ey eo =
+    eo ∙ ap₂ (putBlock g c) eb (ey ∙ ap₂ (λ (x : List ℕ) (p : ℕ). lockSlot (ofList x) p t v .0) (ex ∙ ap (blockAt g c) eb) ep)
+
+-- ---- lists
+elem-last : (c : ℕ) (l : List ℕ) → elem c (l ++ (c ∷ [])) ≡ true
+elem-last c [] = rw (eqb-self c)
+elem-last c (x ∷ l) = or-r (eqb c x) (elem c (l ++ (c ∷ []))) (elem-last c l)
+
+elem-skip : (c d : ℕ) (l : List ℕ) → c ≢ d → elem c (l ++ (d ∷ [])) ≡ elem c l
+elem-skip c d [] n = rw (ne-eqb c d n)
+elem-skip c d (x ∷ l) n = ap (λ (t : Bool). eqb c x || t) (elem-skip c d l n)
+
+and-no : (t : Bool) → (t && false) ≡ false
+and-no true = refl
+and-no false = refl
+
+-- ---- the loop over the holders: the record's slot is locked on the cards of a list
+unfoldable pub lockWrites : Image → ℕ → ℕ → Option ℕ → List ℕ → Writes
+lockWrites g t r v l c b = cond (eqb b (r / slotCount) && elem c l) (some (lockSlot (blockIn g c b) (r % slotCount) t v)) none
+
+module _ (g : Image) (t r : ℕ) (v : Option ℕ) (hr : r < recordCount) (ht : t < tranBound) (hv : entryOf v .value < valueBound) where
+  pub lock-none : Whole g → g ≡ laid (lockWrites g t r v []) g
+  lock-none w = laid-none (lockWrites g t r v []) g w (λ c b hc hb. unfold lockWrites in
+      ap (λ (s : Bool). cond s (some (lockSlot (blockIn g c b) (r % slotCount) t v)) none) (and-no (eqb b (r / slotCount))))
+
+  -- one card more, which may be in the list already
+  lock-more : (l : List ℕ) (c : ℕ) → c < cardCount → (image : Image) → image ≡ laid (lockWrites g t r v l) g
+      → putBlock image c (r / slotCount) (lockSlot (ofList (blockAt image c (r / slotCount))) (r % slotCount) t v .0) ≡ laid (lockWrites g t r v (l ++ (c ∷ []))) g
+  lock-more l c hc image e =
+      ap (λ (i : Image). putBlock i c b (lockSlot (ofList (blockAt i c b)) p t v .0)) e
+      ∙ ap (λ (x : BlockBytes). putBlock (laid w g) c b (lockSlot x p t v .0)) (ap ofList (laid-block w g c b hc hb) ∙ of-list before)
+      ∙ laid-put w g c b hc hb (lockSlot before p t v)
+      ∙ laid-same (putOne w c b (lockSlot before p t v)) g (lockWrites g t r v (l ++ (c ∷ []))) (λ d k hd hk. ap (λ (o : Option BlockBytes). updated o (blockIn g d k)) (there d k))
+    where
+      b : ℕ
+      b = r / slotCount
+
+      p : ℕ
+      p = r % slotCount
+
+      hb : b < blockCount
+      hb = omega arith
+
+      w : Writes
+      w = lockWrites g t r v l
+
+      before : BlockBytes
+      before = updated (w c b) (blockIn g c b)
+
+      same : (s : Bool) → lockSlot (updated (cond s (some (lockSlot (blockIn g c b) p t v)) none) (blockIn g c b)) p t v ≡ lockSlot (blockIn g c b) p t v
+      same true = lock-again (blockIn g c b) p t v (omega arith) ht hv
+      same false = refl
+
+      put-is : lockSlot before p t v ≡ lockSlot (blockIn g c b) p t v
+      put-is = unfold lockWrites in same (eqb b b && elem c l)
+
+      there : (d k : ℕ) → putOne w c b (lockSlot before p t v) d k ≡ lockWrites g t r v (l ++ (c ∷ [])) d k
+      there d k = by-pair (putOne w c b (lockSlot before p t v) d k ≡ lockWrites g t r v (l ++ (c ∷ [])) d k) d c k b
+          (λ e f. rw (e, f, eqb-self c, eqb-self b) (ap {B = Option BlockBytes} some put-is ∙ unfold lockWrites in sym (rw (eqb-self b, elem-last c l))))
+          (λ n. put-elsewhere w c b (lockSlot before p t v) d k n ∙ unfold lockWrites in (ap (λ (s : Bool). cond s (some (lockSlot (blockIn g d k) p t v)) none) (test n)))
+        where
+          test : (d ≢ c) ⊎ (k ≢ b) → (eqb k b && elem d l) ≡ (eqb k b && elem d (l ++ (c ∷ [])))
+          test (inl n) = ap (λ (s : Bool). eqb k b && s) (sym (elem-skip d c l n))
+          test (inr n) = rw (ne-eqb k b n)
+
+  pub lock-step : (cards : List ℕ) (j : ℕ) → j < length cards → getD cards j 0 < cardCount → (image : Image) → image ≡ laid (lockWrites g t r v (take j cards)) g
+      → putBlock image (getD cards j 0) (r / slotCount) (lockSlot (ofList (blockAt image (getD cards j 0) (r / slotCount))) (r % slotCount) t v .0)
+      ≡ laid (lockWrites g t r v (take (j + 1) cards)) g
+  lock-step cards j hj hc image e = lock-more (take j cards) (getD cards j 0) hc image e
+      ∙ ap (λ (l : List ℕ). laid (lockWrites g t r v l) g) (sym (ap (λ (n : ℕ). take n cards) (add-one j) ∙ take-suc cards j 0 hj))
+
+-- what is written on card c where it is in a list
+abbrev lockedIf : ℕ → ℕ → Option ℕ → ℕ → List ℕ → BlockBytes → Option BlockBytes
+lockedIf t r v c l x = cond (elem c l) (some (lockSlot x (r % slotCount) t v)) none
+
+-- the holders' slots are those that the rules lock
+pub lock-holders : (g : Image) (t r : ℕ) (v : Option ℕ) → laid (lockWrites g t r v (holdersIn g (r / slotCount))) g ≡ laid (lockHolders cabinet (controlIn g) (look cabinet (stateIn g)) t r v) g
+lock-holders g t r v = laid-same (lockWrites g t r v (holdersIn g (r / slotCount))) g (lockHolders cabinet (controlIn g) (look cabinet (stateIn g)) t r v)
+    (λ c b hc hb. ap (λ (o : Option BlockBytes). updated o (blockIn g c b)) (same c b hb))
+  where
+    inner : (c b : ℕ) → b < blockCount → (elem c (holdersIn g b) ≡ true) ⊎ (elem c (holdersIn g b) ≡ false)
+        → lockedIf t r v c (holdersIn g b) (blockIn g c b) ≡ lockedIf t r v c (holdersIn g b) (look cabinet (stateIn g) c b)
+    inner c b hb (inl e) = ap (lockedIf t r v c (holdersIn g b)) (sym (holder-look g c b hb e))
+    inner c b hb (inr e) = rw e
+
+    at : (c b : ℕ) → b < blockCount → (eqb b (r / slotCount) ≡ true) ⊎ (eqb b (r / slotCount) ≡ false)
+        → cond (eqb b (r / slotCount) && elem c (holdersIn g (r / slotCount))) (some (lockSlot (blockIn g c b) (r % slotCount) t v)) none
+        ≡ cond (eqb b (r / slotCount)) (lockedIf t r v c (holdersIn g b) (look cabinet (stateIn g) c b)) none
+    at c b hb (inl e) = rw e (ap (λ (z : ℕ). lockedIf t r v c (holdersIn g z) (blockIn g c b)) (sym (eqb-true b (r / slotCount) e)) ∙ inner c b hb (split (elem c (holdersIn g b))))
+    at c b hb (inr e) = rw e
+
+    same : (c b : ℕ) → b < blockCount → lockWrites g t r v (holdersIn g (r / slotCount)) c b ≡ lockHolders cabinet (controlIn g) (look cabinet (stateIn g)) t r v c b
+    same c b hb = unfold lockWrites lockHolders in at c b hb (split (eqb b (r / slotCount)))
+
+-- ---- a new block at both sites of the newest placement
+abbrev pub newBlock : ℕ → ℕ → Option ℕ → BlockBytes
+newBlock t r v = lockSlot freshBlock (r % slotCount) t v
+
+pub new-by : (t r p : ℕ) (v : Option ℕ) (x y : List ℕ) → x ≡ freshBlock .0 → p ≡ r % slotCount → y ≡ lockSlot (ofList x) p t v .0 → y ≡ newBlock t r v .0
+new-by t r p v x y ex ep ey = ey ∙ ap₂ (λ (x : BlockBytes) (p : ℕ). lockSlot x p t v .0) (ap ofList ex ∙ of-list freshBlock) ep
+
+pub lay-laid : (g : Image) (t r : ℕ) (v : Option ℕ) (q : Placement) → Whole g → r < recordCount → q ≡ controlIn g .newest
+    → (b first second : ℕ) (y : List ℕ) → b ≡ r / slotCount → first ≡ firstSite q b → second ≡ secondSite q b → first < cardCount → second < cardCount → y ≡ newBlock t r v .0
+    → putBlock (putBlock g first b y) second b y ≡ laid (layBlock cabinet (controlIn g) t r v) g
+lay-laid g t r v q w hr is b first second y eb e1 e2 h1 h2 ey =
+    ap (λ (l : List ℕ). putBlock (putBlock g first b l) second b l) ey
+    ∙ ap (λ (i : Image). putBlock (putBlock i first b (x .0)) second b (x .0)) (laid-none (λ c b. none) g w (λ c b hc hb. refl))
+    ∙ ap (λ (i : Image). putBlock i second b (x .0)) (laid-put (λ c b. none) g first b h1 hb x)
+    ∙ laid-put (putOne (λ c b. none) first b x) g second b h2 hb x
+    ∙ laid-same (putOne (putOne (λ c b. none) first b x) second b x) g (layBlock cabinet (controlIn g) t r v) (λ c k hc hk. ap (λ (o : Option BlockBytes). updated o (blockIn g c k)) (there c k (split (eqb k b))))
+  where
+    x : BlockBytes
+    x = newBlock t r v
+
+    hb : b < blockCount
+    hb = omega arith
+
+    sites : (k : ℕ) → k ≡ b → sitesOf (controlIn g .newest) k ≡ first ∷ second ∷ []
+    sites k e = ap₂ (λ (p : Placement) (n : ℕ). sitesOf p n) (sym is) e ∙ unfold sitesOf in ap₂ (λ (m n : ℕ). m ∷ n ∷ []) (sym e1) (sym e2)
+
+    bools : (m n : Bool) → _≡_ {A = Option BlockBytes} (cond (n && true) (some x) (cond (m && true) (some x) none)) (cond (m || (n || false)) (some x) none)
+    bools true true = refl
+    bools true false = refl
+    bools false true = refl
+    bools false false = refl
+
+    there : (c k : ℕ) → (eqb k b ≡ true) ⊎ (eqb k b ≡ false) → putOne (putOne (λ c b. none) first b x) second b x c k ≡ layBlock cabinet (controlIn g) t r v c k
+    there c k (inl e) = unfold layBlock in (rw (sites k (eqb-true k b e), sym eb, e) (bools (eqb c first) (eqb c second)))
+    there c k (inr e) = unfold layBlock in (rw (sym eb, e, and-no (eqb c first), and-no (eqb c second)))

@@ -1,0 +1,116 @@
+-- What the look-up of a record has found, by the facts that the code has at each of its ends. Assumes nothing.
+use Prim.Native.Nat.{_/_, _<_, suc, zero, ℕ}
+use borrow.Author.Tests.{eq-eqb, lt-ltb}
+use lib.Dec.{eqb, ltb}
+use lib.ListN.{length}
+use mathlib.Core.Bool.{Bool, _&&_, false, not, true}
+use mathlib.Core.Logic.{_≢_}
+use mathlib.Core.Path.{_∙_, _≡_, ap, refl, sym}
+use native.Mathlib.Omega.{arith}
+use Rattle.image.specs.Layout.{imageSize, recordCount, slotCount, valueBound}
+use Rattle.mask.specs.Masks.{byte}
+use Rattle.mask.specs.Placements.{fromMask}
+use Rattle.method.specs.ControlPart.{isOpen}
+use Rattle.method.specs.Rules.{View, delete, get, lockedOut, refusal, row, store}
+use Rattle.method.proofs.Refusals.{row-3}
+use Rattle.control.specs.ControlBytes.{Part}
+use Rattle.control.specs.ControlForm.{controlForm, formRefusal}
+use Rattle.control.specs.Meaning.{Reads, meaning}
+use Rattle.control.specs.declared.Found.{Found}
+use Rattle.cabinet_rules.specs.Cabinet.{cabinet, tranOk}
+use Rattle.cabinet_rules.specs.Images.{Image, controlIn, refusalOn}
+use Rattle.promise.proofs.Finish.{form-good, form-long, rulesOn}
+use Rattle.trail.specs.Trail.{Given, Lists, holdersIn}
+use Rattle.trail.specs.declared.Holders.{Holders}
+use Rattle.records.specs.Access.{LooksUp, earlyRows}
+use Rattle.records.specs.Slots.{lockedOutIn}
+use Rattle.records.specs.declared.access.Access.{Access}
+use Rattle.records.proofs.Rows.{rec-lt}
+
+-- ---- the rows of the three calls are those of get
+pub store-rows : (k : Part) (v : View cabinet) (t r n : ℕ) → n < valueBound → refusal cabinet (get t r) k v ≡ refusal cabinet (store t r n) k v
+unfolding refusal
+store-rows k v t r n h = ap (λ (x : Bool). row 3 (not x) (row 4 (k .stopped) (row 5 (not (isOpen k t)) (row 7 (lockedOut cabinet k v t r) 0))))
+    (sym (ap (λ (x : Bool). tranOk t && ltb r recordCount && x) (lt-ltb n valueBound h) ∙ and-yes (tranOk t && ltb r recordCount)))
+  where
+    and-yes : (x : Bool) → (x && true) ≡ x
+    and-yes true = refl
+    and-yes false = refl
+
+pub delete-rows : (k : Part) (v : View cabinet) (t r : ℕ) → refusal cabinet (get t r) k v ≡ refusal cabinet (delete t r) k v
+unfolding refusal
+delete-rows k v t r = refl
+
+-- ---- rows 3, 4 and 5, with those below them
+rows-more : (a s o : Bool) (n below : ℕ) → n ≢ 0 → n ≡ row 3 (not a) (row 4 s (row 5 (not o) 0)) → n ≡ row 3 (not a) (row 4 s (row 5 (not o) below))
+rows-more false s o n below d e = e
+rows-more true true o n below d e = e
+rows-more true false false n below d e = e
+rows-more true false true n below d e = absurd (d e)
+
+rows-clear : (a s o : Bool) (below : ℕ) → row 3 (not a) (row 4 s (row 5 (not o) 0)) ≡ 0 → row 3 (not a) (row 4 s (row 5 (not o) below)) ≡ below
+rows-clear false s o below e = absurd (omega arith)
+rows-clear true true o below e = absurd (omega arith)
+rows-clear true false false below e = absurd (omega arith)
+rows-clear true false true below e = refl
+
+module _ (g : Image) (t r : ℕ) where
+  -- ---- refused by row 1 or 2
+  pub form-row : (n : ℕ) → n ≡ formRefusal g → n ≢ 0 → n ≡ refusalOn (get t r) g
+  unfolding refusalOn formRefusal
+  form-row zero e d = absurd (d refl)
+  form-row (suc n) e d = go (not (eqb (length g) imageSize)) (not (controlForm g)) (sym e)
+    where
+      go : (a b : Bool) → row 1 a (row 2 b 0) ≡ suc n → suc n ≡ row 1 a (row 2 b (rulesOn (get t r) g))
+      go true b h = sym h
+      go false true h = sym h
+      go false false h = absurd (omega arith)
+
+  pub refused-up : (a : Access) (n : ℕ) → a .refusal ≡ n → n ≢ 0 → n ≡ refusalOn (get t r) g → LooksUp g t r a
+  refused-up a n e d is = record { refusal-is = e ∙ is; ready = λ z. absurd (d (sym e ∙ z)) }
+
+  -- ---- the rows from 3 on
+  rules-row : formRefusal g ≡ 0 → (n : ℕ) → n ≡ rulesOn (get t r) g → n ≡ refusalOn (get t r) g
+  rules-row clear n e = e ∙ sym (unfold refusalOn in (rw (eq-eqb (length g) imageSize (form-long g clear), form-good g clear)))
+
+  module _ (f : Found) (reads : Reads g f) (z : f .refusal ≡ 0) (n : ℕ) (e : n ≡ earlyRows (meaning (f .control)) t r) where
+    pub given : Given (f .control) g
+    given = record { formed = sym (reads .refusal-is) ∙ z; is = reads .good z }
+
+    early-is : n ≡ earlyRows (controlIn g) t r
+    early-is = e ∙ ap (λ (k : Part). earlyRows k t r) (given .is .means)
+
+    pub early-row : n ≢ 0 → n ≡ refusalOn (get t r) g
+    early-row d = rules-row (given .formed) n
+        (unfold refusal in (rows-more (tranOk t && ltb r recordCount) (controlIn g .stopped) (isOpen (controlIn g) t) n (row 7 (lockedOutIn g t r) 0) d early-is))
+
+    -- none of 3, 4 and 5 applies
+    module _ (clear : n ≡ 0) where
+      ranges : (tranOk t && ltb r recordCount) ≡ true
+      ranges = row-3 (tranOk t && ltb r recordCount) (sym early-is ∙ clear) .0
+
+      pub rec-known : r < recordCount
+      rec-known = rec-lt t r ranges
+
+      late-row : (b : Bool) → lockedOutIn g t r ≡ b → row 7 b 0 ≡ rulesOn (get t r) g
+      late-row b l = ap (λ (x : Bool). row 7 x 0) (sym l)
+          ∙ sym (unfold refusal in (rows-clear (tranOk t && ltb r recordCount) (controlIn g .stopped) (isOpen (controlIn g) t) (row 7 (lockedOutIn g t r) 0) (sym early-is ∙ clear)))
+
+      pub locked-row : lockedOutIn g t r ≡ true → 7 ≡ refusalOn (get t r) g
+      locked-row l = rules-row (given .formed) 7 (late-row true l)
+
+      pub ready-up : (a : Access) → lockedOutIn g t r ≡ false → a .refusal ≡ 0 → fromMask (byte (a .newest)) ≡ meaning (f .control) .newest
+          → Lists (a .holders) (holdersIn g (r / slotCount)) → LooksUp g t r a
+      ready-up a l is new held = record {
+        refusal-is = is ∙ rules-row (given .formed) 0 (late-row false l);
+        ready = λ y. record {
+          formed = given .formed;
+          accepted = late-row false l;
+          newest-is = new ∙ ap (λ (k : Part). k .newest) (given .is .means);
+          holders-are = held;
+        };
+      }
+
+-- the holders of a block that has another name
+pub lists-at : (g : Image) (h : Holders) {b d : ℕ} → b ≡ d → Lists h (holdersIn g b) → Lists h (holdersIn g d)
+lists-at g h e l = record { sound = l .sound; are = l .are ∙ ap (holdersIn g) e }

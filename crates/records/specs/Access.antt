@@ -1,0 +1,35 @@
+-- What a call on a record finds before it reads or writes. Assumes nothing.
+use Prim.Native.Nat.{_/_, ℕ}
+use lib.Dec.{ltb}
+use mathlib.Core.Bool.{_&&_, not}
+use mathlib.Core.Path.{_≡_}
+use Rattle.image.specs.Layout.{recordCount, slotCount}
+use Rattle.mask.specs.Masks.{byte}
+use Rattle.mask.specs.Placements.{fromMask}
+use Rattle.method.specs.ControlPart.{isOpen}
+use Rattle.method.specs.Rules.{get, look, refusal, row}
+use Rattle.control.specs.ControlBytes.{Part}
+use Rattle.control.specs.ControlForm.{formRefusal}
+use Rattle.cabinet_rules.specs.Cabinet.{cabinet, tranOk}
+use Rattle.cabinet_rules.specs.Images.{Image, controlIn, refusalOn, stateIn}
+use Rattle.trail.specs.Trail.{Lists, holdersIn}
+use Rattle.records.specs.declared.access.Access.{Access}
+
+-- Rows 3, 4 and 5 of a call of transaction t on record r.
+abbrev pub earlyRows : Part → ℕ → ℕ → ℕ
+earlyRows k t r =
+    row 3 (not (tranOk t && ltb r recordCount)) (
+    row 4 (k .stopped) (
+    row 5 (not (isOpen k t)) 0))
+
+-- No row applies, and the holders of the record's block and the newest placement are found.
+pub record Ready (g : Image) (t r : ℕ) (a : Access) : Type 0 where
+  pub formed : formRefusal g ≡ 0
+  pub accepted : 0 ≡ refusal cabinet (get t r) (controlIn g) (look cabinet (stateIn g))
+  pub newest-is : fromMask (byte (a .newest)) ≡ controlIn g .newest
+  pub holders-are : Lists (a .holders) (holdersIn g (r / slotCount))
+
+-- The row of the refusal table that applies to a get of the record, or else what it goes on with.
+pub record LooksUp (g : Image) (t r : ℕ) (a : Access) : Type 0 where
+  pub refusal-is : a .refusal ≡ refusalOn (get t r) g
+  pub ready : a .refusal ≡ 0 → Ready g t r a

@@ -1,0 +1,115 @@
+// What every call on a record asks first: rows 1 to 5 and 7 of the refusal table, and the holders of its block.
+ghost use mathlib.Core.Path.{_≡_};
+ghost use mathlib.Core.Bool.{_&&_};
+ghost use Prim.Native.Nat.{_<_};
+ghost use lib.Dec.{ltb};
+ghost use Rattle.image.specs.Layout.{recordCount, tranBound};
+ghost use Rattle.mask.specs.Masks.{byte};
+ghost use Rattle.mask.specs.Placements.{fromMask};
+ghost use Rattle.method.specs.ControlPart.{isOpen};
+ghost use Rattle.control.specs.Meaning.{Counted, meaning};
+ghost use Rattle.cabinet_rules.specs.Cabinet.{tranOk};
+ghost use Rattle.records.specs.Access.{LooksUp, earlyRows};
+use control::Control;
+use control::TRAN_COUNT;
+use control::codec::OPEN;
+use image::Rec;
+use image::Tran;
+use trail::Holders;
+
+// Records 0 to 511.
+const RECORD_COUNT: usize = image::BLOCK_COUNT * image::SLOT_COUNT;
+
+// A row of the refusal table, or else 0 with the newest placement's mask and the holders of the record's block.
+pub struct Access {
+    pub refusal: u8,
+    pub newest: u8,
+    pub holders: Holders,
+}
+
+// Refused.
+fn refused(refusal: u8) -> Access
+    ensures { λ r. ⌜ r .refusal ≡ refusal ⌝ }
+{
+    Access {
+        refusal: refusal,
+        newest: 0,
+        holders: Holders {
+            count: 0,
+            cards: [0u8; trail::MOST_HOLDERS],
+        },
+    }
+}
+
+// Whether both numbers are in their range.
+fn in_range(tran: Tran, rec: Rec) -> bool
+    ensures { λ r. ⌜ r ≡ (tranOk (tran .0) && ltb (rec .0) recordCount) ⌝ }
+{
+    if tran.0 == 0 {
+        return false;
+    }
+    if tran.0 as usize > TRAN_COUNT {
+        return false;
+    }
+    (rec.0 as usize) < RECORD_COUNT
+}
+
+// Whether the transaction is open.
+fn is_open(k: Control, tran: Tran) -> bool
+    requires { ⌜ (0 < tran .0) × (tran .0 < tranBound) ⌝ }
+    ensures { λ r. ⌜ r ≡ isOpen (meaning k) (tran .0) ⌝ }
+{
+    let homes = k.homes;
+    let i = (tran.0 - 1) as usize;
+    homes[i] >= OPEN
+}
+
+// Rows 3, 4 and 5.
+fn early_rows(k: Control, tran: Tran, rec: Rec) -> u8
+    ensures { λ r. ⌜ r ≡ earlyRows (meaning k) (tran .0) (rec .0) ⌝ }
+{
+    if !in_range(tran, rec) {
+        return 3;
+    }
+    if k.stopped {
+        return 4;
+    }
+    if !is_open(k, tran) {
+        return 5;
+    }
+    0
+}
+
+// The newest placement's mask.
+fn newest_mask(k: Control) -> u8
+    requires { ⌜ Counted k ⌝ }
+    ensures { λ r. ⌜ fromMask (byte r) ≡ meaning k .newest ⌝ }
+{
+    let masks = k.masks;
+    let i = (k.count - 1) as usize;
+    masks[i]
+}
+
+// The record's rows and holders.
+pub fn look_up(image: &[u8], tran: Tran, rec: Rec) -> Access
+    ensures { λ r. ⌜ LooksUp (now (image .entry)) (tran .0) (rec .0) r ⌝ }
+{
+    let found = control::form::read(image);
+    if found.refusal != 0 {
+        return refused(found.refusal);
+    }
+    let k = found.control;
+    let early = early_rows(k, tran, rec);
+    if early != 0 {
+        return refused(early);
+    }
+    let holders = trail::find(image, k, crate::slots::block_of(rec));
+    if crate::slots::locked_out(image, holders, tran, rec) {
+        return refused(7);
+    }
+    Access {
+        refusal: 0,
+        newest: newest_mask(k),
+        holders: holders,
+    }
+}

@@ -1,0 +1,63 @@
+// get, store and delete: the calls on one record.
+ghost use Rattle.promise.specs.Promise.{Done, asked};
+ghost use Rattle.promise.specs.declared.Call.{Call};
+
+mod access;
+mod slots;
+
+use image::Rec;
+use image::Tran;
+use promise::Answer;
+use slot::Entry;
+
+// The own pending state if the first holder's slot is locked by this transaction, else the committed one.
+pub fn get(image: &[u8], tran: Tran, rec: Rec) -> Answer
+    ensures { λ r. ⌜ Done (asked (Call.Get tran rec)) (now (image .entry)) r (now (image .entry)) ⌝ }
+{
+    let found = access::look_up(image, tran, rec);
+    if found.refusal != 0 {
+        return Answer::Refused(found.refusal);
+    }
+    let state = slots::read_first(image, found.holders, tran, rec);
+    slots::reply(state)
+}
+
+// Every holder's slot is locked and given the pending value. With no holder, both sites of the newest placement get
+// the block.
+pub fn store(image: &mut [u8], tran: Tran, rec: Rec, value: u16) -> Answer
+    ensures { λ r. ⌜ Done (asked (Call.Store tran rec value)) (now (image .entry)) r (now (image .exit)) ⌝ }
+{
+    let found = access::look_up(image, tran, rec);
+    if found.refusal != 0 {
+        return Answer::Refused(found.refusal);
+    }
+    let pending = Entry {
+        present: true,
+        value: value,
+    };
+    let holders = found.holders;
+    if holders.count == 0 {
+        slots::lay(image, found.newest, tran, rec, pending);
+        return Answer::Ok;
+    }
+    slots::lock_all(image, holders, tran, rec, pending);
+    Answer::Ok
+}
+
+// If get would say absent, the answer is absent and nothing changes. Else every holder's slot is locked with pending
+// absent.
+pub fn delete(image: &mut [u8], tran: Tran, rec: Rec) -> Answer
+    ensures { λ r. ⌜ Done (asked (Call.Delete tran rec)) (now (image .entry)) r (now (image .exit)) ⌝ }
+{
+    let found = access::look_up(image, tran, rec);
+    if found.refusal != 0 {
+        return Answer::Refused(found.refusal);
+    }
+    let state = slots::read_first(image, found.holders, tran, rec);
+    if !state.present {
+        return Answer::Absent;
+    }
+    let pending = Entry::absent();
+    slots::lock_all(image, found.holders, tran, rec, pending);
+    Answer::Ok
+}

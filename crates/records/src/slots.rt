@@ -1,0 +1,178 @@
+// The slots of a record: on each holder of its block, and in a new block.
+ghost use mathlib.Core.Path.{_≡_};
+ghost use Prim.Native.Nat.{_%_, _/_, _<_, _≤_};
+ghost use Rattle.image.specs.Layout.{
+  Whole,
+  blockAt,
+  cardCount,
+  copyCount,
+  putBlock,
+  recordCount,
+  slotCount,
+  tranBound,
+};
+ghost use Rattle.mask.specs.Masks.{byte, size};
+ghost use Rattle.mask.specs.Placements.{fromMask};
+ghost use Rattle.slot.specs.Blocks.{lockSlot, ofList, slotAt};
+ghost use Rattle.slot.specs.Words.{stateOf};
+ghost use Rattle.method.specs.Rules.{layBlock, lockHolders, look, reply};
+ghost use Rattle.method.specs.Slots.{lockedByOther, readBy};
+ghost use Rattle.cabinet_rules.specs.Cabinet.{cabinet};
+ghost use Rattle.cabinet_rules.specs.Images.{blockIn, controlIn, stateIn};
+ghost use Rattle.promise.specs.Promise.{shown};
+ghost use Rattle.promise.proofs.Laid.{laid};
+ghost use Rattle.trail.specs.Trail.{Lists, holdersIn};
+ghost use Rattle.records.specs.Slots.{lockedAt, lockedOutIn, rulesSlot, seenIn};
+use image::Block;
+use image::Card;
+use image::Rec;
+use image::Tran;
+use mask::Placement;
+use promise::Answer;
+use slot::Entry;
+use slot::Slot;
+use trail::Holders;
+
+// The block of a record.
+pub fn block_of(rec: Rec) -> Block
+    requires { ⌜ rec .0 < recordCount ⌝ }
+    ensures { λ r. ⌜ r .0 ≡ rec .0 / slotCount ⌝ }
+{
+    Block((rec.0 as usize / image::SLOT_COUNT) as u8)
+}
+
+// Its place there.
+fn place_of(rec: Rec) -> usize
+    ensures { λ r. ⌜ r ≡ rec .0 % slotCount ⌝ }
+{
+    rec.0 as usize % image::SLOT_COUNT
+}
+
+// The record's slot on a card.
+fn slot_on(image: &[u8], card: Card, rec: Rec) -> Slot
+    requires { ⌜ Whole (now image) × (card .0 < cardCount) × (rec .0 < recordCount) ⌝ }
+    ensures { λ r. ⌜ r ≡ slotAt (blockIn (now (image .entry)) (card .0) (rec .0 / slotCount)) (rec .0 % slotCount) ⌝ }
+{
+    let bytes = image::get_block(image, card, block_of(rec));
+    slot::slot_at(bytes, place_of(rec))
+}
+
+// Whether the slot is locked by another number.
+fn is_others(s: Slot, tran: Tran) -> bool
+    ensures { λ r. ⌜ r ≡ lockedByOther (tran .0) (rulesSlot s) ⌝ }
+{
+    if s.lock == 0 {
+        return false;
+    }
+    s.lock != tran.0
+}
+
+// The same of the record's slot on a card.
+fn locked_on(image: &[u8], card: Card, tran: Tran, rec: Rec) -> bool
+    requires { ⌜ Whole (now image) × (card .0 < cardCount) × (rec .0 < recordCount) ⌝ }
+    ensures { λ r. ⌜ r ≡ lockedAt (now (image .entry)) (tran .0) (rec .0) (card .0) ⌝ }
+{
+    is_others(slot_on(image, card, rec), tran)
+}
+
+// Row 7: some holder's slot is locked by another number.
+pub fn locked_out(image: &[u8], holders: Holders, tran: Tran, rec: Rec) -> bool
+    requires { ⌜ Whole (now image) × (rec .0 < recordCount) ⌝ }
+    requires { ⌜ Lists holders (holdersIn (now image) (rec .0 / slotCount)) ⌝ }
+    ensures { λ r. ⌜ r ≡ lockedOutIn (now (image .entry)) (tran .0) (rec .0) ⌝ }
+{
+    let cards = holders.cards;
+    let count = holders.count as usize;
+    let mut j: usize = 0;
+    while j < count {
+        if locked_on(image, Card(cards[j]), tran, rec) {
+            return true;
+        }
+        j += 1;
+    }
+    false
+}
+
+// What the transaction reads in a slot: its own pending state, or the committed one.
+fn read_by(s: Slot, tran: Tran) -> Entry
+    ensures { λ r. ⌜ stateOf r ≡ readBy (tran .0) (rulesSlot s) ⌝ }
+{
+    if s.lock == tran.0 {
+        return s.pending;
+    }
+    s.committed
+}
+
+// What it reads in the first holder's slot; with no holder the record is absent.
+pub fn read_first(image: &[u8], holders: Holders, tran: Tran, rec: Rec) -> Entry
+    requires { ⌜ Whole (now image) × (rec .0 < recordCount) ⌝ }
+    requires { ⌜ Lists holders (holdersIn (now image) (rec .0 / slotCount)) ⌝ }
+    ensures { λ r. ⌜ stateOf r ≡ readBy (tran .0) (seenIn (now (image .entry)) (rec .0)) ⌝ }
+{
+    if holders.count == 0 {
+        return Entry::absent();
+    }
+    let cards = holders.cards;
+    read_by(slot_on(image, Card(cards[0]), rec), tran)
+}
+
+// A value, or absent.
+pub fn reply(state: Entry) -> Answer
+    ensures { λ r. ⌜ shown r ≡ reply cabinet (stateOf state) ⌝ }
+{
+    if state.present {
+        return Answer::Value(state.value);
+    }
+    Answer::Absent
+}
+
+// Locks the record's slot on a card.
+fn lock_on(image: &mut [u8], card: Card, tran: Tran, rec: Rec, pending: Entry)
+    requires { ⌜ Whole (now image) × (card .0 < cardCount) × (rec .0 < recordCount) × (tran .0 < tranBound) ⌝ }
+    ensures { λ _. ⌜ now (image .exit) ≡ putBlock (now (image .entry)) (card .0) (rec .0 / slotCount)
+        (lockSlot (ofList (blockAt (now (image .entry)) (card .0) (rec .0 / slotCount)))
+        (rec .0 % slotCount) (tran .0) (stateOf pending) .0) ⌝ }
+{
+    let block = block_of(rec);
+    let bytes = image::get_block(image, card, block);
+    image::put_block(
+        image,
+        card,
+        block,
+        slot::lock_slot(bytes, place_of(rec), tran.0, pending),
+    );
+}
+
+// Every holder's slot is locked and given the pending state.
+pub fn lock_all(image: &mut [u8], holders: Holders, tran: Tran, rec: Rec, pending: Entry)
+    requires { ⌜ Whole (now image) × (rec .0 < recordCount) × (tran .0 < tranBound) ⌝ }
+    requires { ⌜ Lists holders (holdersIn (now image) (rec .0 / slotCount)) ⌝ }
+    ensures { λ _.
+        ⌜ now (image .exit) ≡ laid (lockHolders cabinet (controlIn (now (image .entry)))
+        (look cabinet (stateIn (now (image .entry)))) (tran .0) (rec .0) (stateOf pending)) (now (image .entry)) ⌝ }
+{
+    let cards = holders.cards;
+    let count = holders.count as usize;
+    let mut j: usize = 0;
+    while j < count {
+        lock_on(image, Card(cards[j]), tran, rec, pending);
+        j += 1;
+    }
+}
+
+// Both sites of the newest placement get a new block with the record's slot locked.
+pub fn lay(image: &mut [u8], newest: u8, tran: Tran, rec: Rec, pending: Entry)
+    requires { ⌜ Whole (now image) × (rec .0 < recordCount) × (tran .0 < tranBound) ⌝ }
+    requires { ⌜ (copyCount ≤ size (byte newest)) × (fromMask (byte newest) ≡ controlIn (now image) .newest) ⌝ }
+    ensures { λ _.
+        ⌜ now (image .exit) ≡ laid (layBlock cabinet (controlIn (now (image .entry))) (tran .0) (rec .0)
+        (stateOf pending)) (now (image .entry)) ⌝ }
+{
+    let block = block_of(rec);
+    let placement = Placement::from_mask(newest);
+    let first = placement.first_site(block);
+    let second = placement.second_site(block);
+    let bytes = slot::lock_slot(slot::fresh_block(), place_of(rec), tran.0, pending);
+    image::put_block(image, first, block, bytes);
+    image::put_block(image, second, block, bytes);
+}
