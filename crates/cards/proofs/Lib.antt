@@ -1,0 +1,5 @@
+pub mod Searches
+pub mod Tables
+pub mod Rows
+pub mod Plans
+pub mod Failing

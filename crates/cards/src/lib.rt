@@ -1,0 +1,234 @@
+// start, fit, withdraw, place and fail: which cards there are and which of them the records are placed on.
+ghost use mathlib.Core.Path.{_≡_};
+ghost use Rattle.image.specs.Layout.{Whole};
+ghost use Rattle.method.specs.Rules.{inActive, refusal, fit, withdraw, place, fail};
+ghost use Rattle.method.specs.PlainList.{noBlocks};
+ghost use Rattle.mask.specs.Masks.{byte};
+ghost use Rattle.control.specs.Meaning.{Counted, meaning};
+ghost use Rattle.cabinet_rules.specs.Cabinet.{cabinet};
+ghost use Rattle.promise.specs.Promise.{Done, asked};
+ghost use Rattle.promise.specs.declared.Call.{Call};
+ghost use Rattle.cards.specs.Clearing.{cleared};
+use control::Control;
+use control::codec;
+use control::form;
+use image::Card;
+use mask::Placement;
+use promise::Answer;
+
+// The most active placements that a place call leaves.
+const MOST_PLACED: u8 = 3;
+
+// All tables are zeroed.
+fn clear_tables(image: &mut [u8])
+    requires { ⌜ Whole (now image) ⌝ }
+    ensures { λ _. ⌜ now (image .exit) ≡ cleared (now (image .entry)) ⌝ }
+{
+    let mut c: u8 = 0;
+    while c < Placement::MOST_CARDS {
+        image::clear_table(image, Card(c));
+        c += 1;
+    }
+}
+
+// All zero, then the mask's cards work and are the one placement. Older contents are not examined.
+pub fn start(image: &mut [u8], mask: u8) -> Answer
+    ensures { λ r. ⌜ Done (asked (Call.Start mask)) (now (image .entry)) r (now (image .exit)) ⌝ }
+{
+    if image.len() != image::IMAGE_SIZE {
+        return Answer::Refused(1);
+    }
+    if mask::members(mask) < Placement::LEAST_MEMBERS {
+        return Answer::Refused(9);
+    }
+    clear_tables(image);
+    codec::write(image, Control::started(mask));
+    Answer::Ok
+}
+
+// Whether the card is in an active placement.
+fn in_active(k: Control, card: Card) -> bool
+    requires { ⌜ Counted k ⌝ }
+    ensures { λ r. ⌜ r ≡ inActive cabinet (meaning k) (card .0) ⌝ }
+{
+    let mut i: u8 = 0;
+    while i < k.count {
+        let at = i as usize;
+        if mask::has(k.masks[at], card) {
+            return true;
+        }
+        i += 1;
+    }
+    false
+}
+
+// The rows of fit from 3 on.
+fn fit_refusal(k: Control, card: Card) -> u8
+    requires { ⌜ Counted k ⌝ }
+    ensures { λ r. ⌜ r ≡ refusal cabinet (fit (card .0)) (meaning k) (noBlocks cabinet) ⌝ }
+{
+    if card.0 >= Placement::MOST_CARDS {
+        return 3;
+    }
+    if k.stopped {
+        return 4;
+    }
+    if mask::has(k.working, card) {
+        return 8;
+    }
+    if in_active(k, card) {
+        return 8;
+    }
+    0
+}
+
+// The card's table is zeroed, a failed mark is cleared and it works.
+pub fn fit(image: &mut [u8], card: Card) -> Answer
+    ensures { λ r. ⌜ Done (asked (Call.Fit card)) (now (image .entry)) r (now (image .exit)) ⌝ }
+{
+    let found = form::read(image);
+    if found.refusal != 0 {
+        return Answer::Refused(found.refusal);
+    }
+    let k = found.control;
+    let refusal = fit_refusal(k, card);
+    if refusal != 0 {
+        return Answer::Refused(refusal);
+    }
+    image::clear_table(image, card);
+    codec::write(image, k.admit(card));
+    Answer::Ok
+}
+
+// The rows of withdraw from 3 on.
+fn withdraw_refusal(k: Control, card: Card) -> u8
+    requires { ⌜ Counted k ⌝ }
+    ensures { λ r. ⌜ r ≡ refusal cabinet (withdraw (card .0)) (meaning k) (noBlocks cabinet) ⌝ }
+{
+    if card.0 >= Placement::MOST_CARDS {
+        return 3;
+    }
+    if k.stopped {
+        return 4;
+    }
+    if !mask::has(k.working, card) {
+        return 8;
+    }
+    if in_active(k, card) {
+        return 8;
+    }
+    if tables::begun_at(k, card) != 0 {
+        return 14;
+    }
+    0
+}
+
+// The card's table is zeroed; it no longer works.
+pub fn withdraw(image: &mut [u8], card: Card) -> Answer
+    ensures { λ r. ⌜ Done (asked (Call.Withdraw card)) (now (image .entry)) r (now (image .exit)) ⌝ }
+{
+    let found = form::read(image);
+    if found.refusal != 0 {
+        return Answer::Refused(found.refusal);
+    }
+    let k = found.control;
+    let refusal = withdraw_refusal(k, card);
+    if refusal != 0 {
+        return Answer::Refused(refusal);
+    }
+    image::clear_table(image, card);
+    codec::write(image, k.dismiss(card));
+    Answer::Ok
+}
+
+// The rows of place from 4 on.
+fn place_refusal(k: Control, mask: u8) -> u8
+    requires { ⌜ Counted k ⌝ }
+    ensures { λ r. ⌜ r ≡ refusal cabinet (place (byte mask)) (meaning k) (noBlocks cabinet) ⌝ }
+{
+    if k.stopped {
+        return 4;
+    }
+    if mask::members(mask) < Placement::LEAST_MEMBERS {
+        return 9;
+    }
+    if !mask::within(mask, k.working) {
+        return 9;
+    }
+    let i = (k.count - 1) as usize;
+    if mask == k.masks[i] {
+        return 9;
+    }
+    if k.count >= MOST_PLACED {
+        return 10;
+    }
+    0
+}
+
+// The mask becomes the newest placement.
+pub fn place(image: &mut [u8], mask: u8) -> Answer
+    ensures { λ r. ⌜ Done (asked (Call.Place mask)) (now (image .entry)) r (now (image .exit)) ⌝ }
+{
+    let found = form::read(image);
+    if found.refusal != 0 {
+        return Answer::Refused(found.refusal);
+    }
+    let k = found.control;
+    let refusal = place_refusal(k, mask);
+    if refusal != 0 {
+        return Answer::Refused(refusal);
+    }
+    codec::write(image, k.add(mask));
+    Answer::Ok
+}
+
+// The rows of fail from 3 on.
+fn fail_refusal(k: Control, card: Card) -> u8
+    requires { ⌜ Counted k ⌝ }
+    ensures { λ r. ⌜ r ≡ refusal cabinet (fail (card .0)) (meaning k) (noBlocks cabinet) ⌝ }
+{
+    if card.0 >= Placement::MOST_CARDS {
+        return 3;
+    }
+    if k.stopped {
+        return 4;
+    }
+    if !mask::has(k.working, card) {
+        return 8;
+    }
+    0
+}
+
+// The card no longer works and is marked failed. Where an active placement is then lost, every open transaction is
+// rolled back and the store stops. Otherwise what was begun there is rolled back, and if the card was in the newest
+// placement one without it is added.
+pub fn fail(image: &mut [u8], card: Card) -> Answer
+    ensures { λ r. ⌜ Done (asked (Call.Fail card)) (now (image .entry)) r (now (image .exit)) ⌝ }
+{
+    let found = form::read(image);
+    if found.refusal != 0 {
+        return Answer::Refused(found.refusal);
+    }
+    let k = found.control;
+    let refusal = fail_refusal(k, card);
+    if refusal != 0 {
+        return Answer::Refused(refusal);
+    }
+    let marked = k.mark_failed(card);
+    if !form::all_safe(marked) {
+        tables::end_held(image, marked.working, false, tables::all_open(k));
+        codec::write(image, marked.halt());
+        return Answer::Stopped;
+    }
+    tables::end_held(image, marked.working, false, tables::begun_at(k, card));
+    let closed = marked.close_at(card);
+    let i = (k.count - 1) as usize;
+    let newest = k.masks[i];
+    if mask::has(newest, card) {
+        let mask = mask::without_card(newest, card);
+        codec::write(image, closed.add(mask));
+        return Answer::Placed(mask);
+    }
+    codec::write(image, closed);
+    Answer::Unplaced
+}
