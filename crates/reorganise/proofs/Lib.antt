@@ -1,0 +1,5 @@
+pub mod Looks
+pub mod Moves
+pub mod Settles
+pub mod Loads
+pub mod States

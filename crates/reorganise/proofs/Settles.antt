@@ -1,0 +1,61 @@
+-- The condition of a settle and the retired placements, from the code's values to the rules'. Assumes nothing.
+use Prim.Native.Nat.{_-_, _<_, ℕ}
+use lib.ListN.{length}
+use mathlib.Core.Bool.{Bool, _&&_, false, not, true}
+use mathlib.Core.List.{List}
+use mathlib.Core.Path.{_∙_, _≡_, ap, ap₂, fun-ext, refl, sym}
+use Rattle.lists.specs.Tests.{allBelow}
+use Rattle.lists.proofs.Counts.{all-fails}
+use Rattle.image.specs.Layout.{blockCount, cardCount}
+use Rattle.mask.specs.Masks.{byte}
+use Rattle.mask.specs.Placements.{sitesOf}
+use Rattle.method.specs.ControlPart.{onlyNewest}
+use Rattle.method.specs.Rules.{View, act, refusal, retired, row, settle, settled, settledAt, unwritten}
+use Rattle.control.specs.ControlBytes.{Part}
+use Rattle.control.specs.Meaning.{maskIn, meaning}
+use Rattle.control.specs.declared.Control.{Control}
+use Rattle.control.proofs.Struct.{length-placements}
+use Rattle.cabinet_rules.specs.Cabinet.{cabinet}
+use Rattle.cabinet_rules.specs.Images.{Image, controlIn, planOn}
+use Rattle.reorganise.specs.Reorganise.{AreSites, Given, blockSettled, cardSettled, rowsOn, showsAt, siteList}
+use Rattle.reorganise.specs.Reorganise.{viewOf}
+use Rattle.reorganise.specs.declared.looking.Sites.{Sites}
+use Rattle.reorganise.proofs.Looks.{newest-are, shows-held, stopped-is}
+
+pub and-true : (a : Bool) → a ≡ (a && true)
+and-true true = refl
+and-true false = refl
+
+-- ---- a block: some card fails, or all pass
+pub block-fails : (sites : List ℕ) (holds : ℕ → Bool) (c : ℕ) → c < cardCount → cardSettled sites holds c ≡ false → false ≡ blockSettled sites holds
+unfolding blockSettled
+block-fails sites holds c h e = sym (all-fails (cardSettled sites holds) cardCount c h e)
+
+pub block-passes : (sites : List ℕ) (holds : ℕ → Bool) (n : ℕ) → n ≡ cardCount → allBelow n (cardSettled sites holds) ≡ true → true ≡ blockSettled sites holds
+unfolding blockSettled
+block-passes sites holds n e h = sym (ap (λ (m : ℕ). allBelow m (cardSettled sites holds)) (sym e) ∙ h)
+
+-- ---- all blocks
+pub some-fails : (k : Part) (v : View cabinet) (b : ℕ) → b < blockCount → settledAt cabinet k v b ≡ false → false ≡ settled cabinet k v
+unfolding settled
+some-fails k v b h e = sym (all-fails (settledAt cabinet k v) blockCount b h e)
+
+pub all-pass : (k : Part) (v : View cabinet) (n : ℕ) → n ≡ blockCount → allBelow n (settledAt cabinet k v) ≡ true → true ≡ settled cabinet k v
+unfolding settled
+all-pass k v n e h = sym (ap (λ (m : ℕ). allBelow m (settledAt cabinet k v)) (sym e) ∙ h)
+
+module _ (k : Control) (g : Image) (is : Given k g) where
+  pub block-is-settled : (b : ℕ) → b < blockCount → (s : Sites) → AreSites s (sitesOf (meaning k .newest) b)
+      → blockSettled (siteList s) (showsAt g (byte (k .working)) b) ≡ settledAt cabinet (controlIn g) (viewOf g) b
+  unfolding settledAt blockSettled
+  block-is-settled b h s at = ap₂ blockSettled (at .listed ∙ newest-are k g is b) (fun-ext (λ c. shows-held k g is b c h))
+
+  pub settle-rows : row 4 (k .stopped) (row 13 (not (settled cabinet (controlIn g) (viewOf g))) 0) ≡ rowsOn settle g
+  unfolding refusal
+  settle-rows = ap (λ (t : Bool). row 4 t (row 13 (not (settled cabinet (controlIn g) (viewOf g))) 0)) (stopped-is k g is)
+
+  -- the answer: the older placements go
+  pub settle-plan : planOn settle g ≡ unwritten cabinet (retired (k .count - 1)) (onlyNewest (controlIn g))
+  unfolding act meaning
+  settle-plan = ap (λ (n : ℕ). unwritten cabinet (retired n) (onlyNewest (controlIn g)))
+      (ap (λ (p : Part). length (p .older)) (sym (is .is .means)) ∙ length-placements (maskIn k) (k .count - 1))

@@ -1,0 +1,51 @@
+-- The proof of `state`. Assumes nothing.
+use mathlib.Core.Path.{refl}
+use native.Mathlib.Omega.{arith}
+use Rattle.method.specs.Rules.{state}
+use Rattle.promise.specs.declared.Answer.the-variants.{Protected, Unprotected}
+use Rattle.promise.proofs.Finish.{by-form, by-look, by-rules}
+use Rattle.reorganise.proofs.Looks.{found-clear, given}
+use Rattle.reorganise.proofs.States.{state-more, state-one, state-rows}
+use borrow.Author.Needs.{needs}
+use Rattle.reorganise.proofs.state.Statement.{statement}
+use Rattle.reorganise.proofs.state.Tie as tie
+
+read-requires : tie.Need-read-requires
+read-requires c κs = search needs
+
+returns : tie.Need-returns
+returns c =
+    let r = c .before .before in
+    by-form state refl (r .before .before .args .image .now) (r .read .result .refusal) (r .read .ensures .refusal-is) (c .if1 .taken)
+
+returns-2 : tie.Need-returns-2
+returns-2 c =
+    let e = c .before .before in
+    let r = e .before .before in
+    let g = r .before .before .args .image .now in
+    let is = given g (r .read .result) (r .read .ensures) (e .if1 .left) in
+    let k = r .read .result .control in
+    by-rules state refl g (found-clear (r .read .ensures) (e .if1 .left)) 4 (rw (c .if2 .taken) at (state-rows k g is)) (λ z. omega arith)
+
+returns-3 : tie.Need-returns-3
+returns-3 c =
+    let f = c .before .before in
+    let e = f .before .before in
+    let r = e .before .before in
+    let g = r .before .before .args .image .now in
+    let is = given g (r .read .result) (r .read .ensures) (e .if1 .left) in
+    let k = r .read .result .control in
+    by-look state refl g (found-clear (r .read .ensures) (e .if1 .left)) Protected (rw (f .if2 .left) at (state-rows k g is)) (state-one k g is (c .if3 .taken))
+
+returns-4 : tie.Need-returns-4
+returns-4 c =
+    let f = c .before .before in
+    let e = f .before .before in
+    let r = e .before .before in
+    let g = r .before .before .args .image .now in
+    let is = given g (r .read .result) (r .read .ensures) (e .if1 .left) in
+    let k = r .read .result .control in
+    by-look state refl g (found-clear (r .read .ensures) (e .if1 .left)) Unprotected (rw (f .if2 .left) at (state-rows k g is)) (state-more k g is (c .if3 .left))
+
+pub state-spec : {M : Type 1} → statement M
+state-spec = tie.close (tie.spec read-requires returns returns-2 returns-3 returns-4)

@@ -1,0 +1,80 @@
+// The calls that reorganise the store, move and settle, and those that tell how far it is, state and load.
+ghost use Rattle.promise.specs.Promise.{Done, asked};
+ghost use Rattle.promise.specs.declared.Call.{Call};
+
+mod loading;
+mod looking;
+mod moving;
+mod settling;
+
+use image::Block;
+use image::Card;
+use promise::Answer;
+
+// Each newest site that lacks the block gets a copy; the origin drops it unless it is a site.
+pub fn move_block(image: &mut [u8], card: Card, block: Block) -> Answer
+    ensures { λ r. ⌜ Done (asked (Call.Move card block)) (now (image .entry)) r (now (image .exit)) ⌝ }
+{
+    let found = control::form::read(image);
+    if found.refusal != 0 {
+        return Answer::Refused(found.refusal);
+    }
+    let k = found.control;
+    let refusal = moving::refusal(image, k, card, block);
+    if refusal != 0 {
+        return Answer::Refused(refusal);
+    }
+    Answer::Copied(moving::spread(image, k, card, block))
+}
+
+// Only the newest placement remains, if every block lies where it has it.
+pub fn settle(image: &mut [u8]) -> Answer
+    ensures { λ r. ⌜ Done (asked Call.Settle) (now (image .entry)) r (now (image .exit)) ⌝ }
+{
+    let found = control::form::read(image);
+    if found.refusal != 0 {
+        return Answer::Refused(found.refusal);
+    }
+    let k = found.control;
+    let refusal = settling::refusal(image, k);
+    if refusal != 0 {
+        return Answer::Refused(refusal);
+    }
+    let retired = k.count - 1;
+    control::codec::write(image, k.retire());
+    Answer::Retired(retired)
+}
+
+// Protected exactly when one placement is active.
+pub fn state(image: &[u8]) -> Answer
+    ensures { λ r. ⌜ Done (asked Call.State) (now (image .entry)) r (now (image .entry)) ⌝ }
+{
+    let found = control::form::read(image);
+    if found.refusal != 0 {
+        return Answer::Refused(found.refusal);
+    }
+    let k = found.control;
+    if k.stopped {
+        return Answer::Refused(4);
+    }
+    if k.count == 1 {
+        return Answer::Protected;
+    }
+    Answer::Unprotected
+}
+
+// How many records are committed present in the card's held blocks.
+pub fn load(image: &[u8], card: Card) -> Answer
+    ensures { λ r. ⌜ Done (asked (Call.Load card)) (now (image .entry)) r (now (image .entry)) ⌝ }
+{
+    let found = control::form::read(image);
+    if found.refusal != 0 {
+        return Answer::Refused(found.refusal);
+    }
+    let k = found.control;
+    let refusal = looking::card_refusal(k, card);
+    if refusal != 0 {
+        return Answer::Refused(refusal);
+    }
+    Answer::Loaded(loading::load_table(image, card))
+}

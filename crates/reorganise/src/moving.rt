@@ -1,0 +1,71 @@
+// What a move refuses and what it writes.
+ghost use mathlib.Core.Path.{_≡_};
+ghost use mathlib.Core.Bool.{cond, not};
+ghost use Prim.Native.Nat.{_<_, _≤_};
+ghost use Rattle.lists.specs.Tests.{oneIf};
+ghost use Rattle.image.specs.Layout.{Whole, blockCount, cardCount, putBlock};
+ghost use Rattle.method.specs.Rules.{move};
+ghost use Rattle.promise.specs.Promise.{Done};
+ghost use Rattle.promise.specs.declared.Answer.{Answer};
+ghost use Rattle.reorganise.specs.Reorganise.{Given, rowsOn};
+use crate::looking;
+use control::Control;
+use image::BLOCK_COUNT;
+use image::Block;
+use image::Card;
+
+// Rows 3, 4, 8, 11 and 12.
+pub fn refusal(image: &[u8], k: Control, card: Card, block: Block) -> u8
+    requires { ⌜ Given k (now image) ⌝ }
+    ensures { λ r. ⌜ r ≡ rowsOn (move (card .0) (block .0)) (now (image .entry)) ⌝ }
+{
+    if block.0 as usize >= BLOCK_COUNT {
+        return 3;
+    }
+    let on_card = looking::card_refusal(k, card);
+    if on_card != 0 {
+        return on_card;
+    }
+    let bytes = image::get_block(image, card, block);
+    if !slot::is_held(bytes) {
+        return 11;
+    }
+    if slot::any_locked(bytes) {
+        return 12;
+    }
+    0
+}
+
+// A card that lacks the block gets these bytes, by the block writer, and counts as one; one that has it keeps its own.
+fn fill(image: &mut [u8], has: bool, card: Card, block: Block, bytes: [u8; 41]) -> u8
+    requires { ⌜ Whole (now image) × (card .0 < cardCount) × (block .0 < blockCount) ⌝ }
+    ensures { λ r. ⌜ (r ≡ oneIf (not has)) × (r ≤ 1) × (now (image .exit)
+        ≡ cond has (now (image .entry)) (putBlock (now (image .entry)) (card .0) (block .0) bytes)) ⌝ }
+{
+    if has {
+        return 0;
+    }
+    image::put_block(image, card, block, bytes);
+    1
+}
+
+// An accepted move: each newest site that lacks the block gets the origin's bytes, and the origin is zeroed unless it
+// is a site. Answers how many copies were written.
+pub fn spread(image: &mut [u8], k: Control, card: Card, block: Block) -> u8
+    requires { ⌜ Given k (now image) ⌝ }
+    requires { ⌜ 0 ≡ rowsOn (move (card .0) (block .0)) (now image) ⌝ }
+    ensures { λ r.
+        ⌜ Done (move (card .0) (block .0)) (now (image .entry)) (Answer.Copied r) (now (image .exit)) ⌝ }
+{
+    let sites = looking::newest_sites(k, block);
+    let first = sites.first;
+    let second = sites.second;
+    let first_has = looking::shows(image, k.working, first, block);
+    let second_has = looking::shows(image, k.working, second, block);
+    let stays = looking::is_site(sites, card);
+    let bytes = image::get_block(image, card, block);
+    let first_copy = fill(image, first_has, first, block, bytes);
+    let second_copy = fill(image, second_has, second, block, bytes);
+    fill(image, stays, card, block, [0u8; 41]);
+    first_copy + second_copy
+}
