@@ -1,0 +1,5 @@
+pub mod Forms
+pub mod Bytes
+pub mod Answers
+pub mod RoundTrip
+pub mod WideBlock

@@ -1,0 +1,194 @@
+-- Commands: document 01, "Commands". What five bytes ask for, and the five bytes of a call. Assumes nothing.
+use Prim.Native.Nat.{_%_, _*_, _+_, _/_, _^_, ℕ}
+use lib.Dec.{eqb, leb, ltb}
+use lib.ListN.{getD, length}
+use mathlib.Core.Bool.{Bool, _&&_, _||_, cond, false, not}
+use mathlib.Core.List.{List, _∷_, []}
+use Rattle.promise.specs.declared.Call.{Call}
+use Rattle.promise.specs.declared.Call.the-variants.{Begin, Commit, Delete, Fail, Fit, Get, Load, Move, Place, Rollback}
+use Rattle.promise.specs.declared.Call.the-variants.{Settle, Start, State, Store, Withdraw}
+use Rattle.command.specs.declared.Fields.{Fields}
+use Rattle.command.specs.declared.Reading.{Reading}
+use Rattle.command.specs.declared.Reading.the-variants.{Command, Malformed}
+
+-- The bytes of a command, the known operations, and the one that has a block.
+abbrev pub commandSize : ℕ
+commandSize = 5
+
+abbrev pub operationCount : ℕ
+operationCount = 15
+
+abbrev pub moveOperation : ℕ
+moveOperation = 11
+
+-- A byte is below 256.
+abbrev pub isByte : ℕ → Bool
+isByte b = ltb b (2 ^ 8)
+
+-- "Five bytes: operation (4 bits), transaction (4), card (4), record or block (12), value or mask (16)": the fields of
+-- five bytes, and of the five bytes of a list.
+abbrev pub fieldsOf : ℕ → ℕ → ℕ → ℕ → ℕ → Fields
+fieldsOf a b c d e = record {
+  operation = a / 2 ^ 4;
+  tran = a % 2 ^ 4;
+  card = b / 2 ^ 4;
+  number = b % 2 ^ 4 * 2 ^ 8 + c;
+  value = d * 2 ^ 8 + e;
+}
+
+unfoldable pub fieldsIn : List ℕ → Fields
+fieldsIn l = fieldsOf (getD l 0 0) (getD l 1 0) (getD l 2 0) (getD l 3 0) (getD l 4 0)
+
+-- The greatest number of each field, 4, 4, 12 and 16 bits wide; "a mask is below 256".
+abbrev pub mostTran : ℕ
+mostTran = 15
+
+abbrev pub mostCard : ℕ
+mostCard = 15
+
+abbrev pub mostNumber : ℕ
+mostNumber = 4095
+
+abbrev pub mostValue : ℕ
+mostValue = 65535
+
+abbrev pub mostMask : ℕ
+mostMask = 255
+
+-- The transaction, the card, the record or block and the value or mask are at most these.
+unfoldable pub within : ℕ → ℕ → ℕ → ℕ → Fields → Bool
+within tran card number value f =
+    leb (f .tran) tran && (leb (f .card) card && (leb (f .number) number && leb (f .value) value))
+
+-- "Fields that an operation lacks are zero, and a mask is below 256": the form of each known operation.
+abbrev pub forms : List (Fields → Bool)
+forms =
+    -- 0 start
+    within 0 0 0 mostMask
+    -- 1 begin
+    ∷ within mostTran mostCard 0 0
+    -- 2 get, 3 store, 4 delete
+    ∷ within mostTran 0 mostNumber 0
+    ∷ within mostTran 0 mostNumber mostValue
+    ∷ within mostTran 0 mostNumber 0
+    -- 5 commit, 6 rollback
+    ∷ within mostTran 0 0 0
+    ∷ within mostTran 0 0 0
+    -- 7 fit, 8 withdraw
+    ∷ within 0 mostCard 0 0
+    ∷ within 0 mostCard 0 0
+    -- 9 place
+    ∷ within 0 0 0 mostMask
+    -- 10 fail
+    ∷ within 0 mostCard 0 0
+    -- 11 move
+    ∷ within 0 mostCard mostNumber 0
+    -- 12 settle, 13 state
+    ∷ within 0 0 0 0
+    ∷ within 0 0 0 0
+    -- 14 load
+    ∷ within 0 mostCard 0 0
+    ∷ []
+
+-- "Operations 0 to 14 are known, and 15 is malformed": known, and of its form.
+abbrev pub unknown : Fields → Bool
+unknown f = false
+
+unfoldable pub formed : Fields → Bool
+formed f = getD forms (f .operation) unknown f
+
+-- "Reader and writer refuse 15 for any length but five bytes."
+unfoldable pub wellFormed : List ℕ → Bool
+wellFormed l = eqb (length l) commandSize && formed (fieldsIn l)
+
+-- A block is kept in a byte. A number too wide for it is read as the greatest byte: both are out of range, and a move of
+-- either is refused with 3.
+abbrev pub mostBlock : ℕ
+mostBlock = 255
+
+abbrev pub blockField : ℕ → ℕ
+blockField n = cond (leb n mostBlock) n mostBlock
+
+-- "They are start, begin, get, store, delete, commit, rollback, fit, withdraw, place, fail, move, settle, state,
+-- load": the call of each operation, from its fields. The last, load, stands apart.
+abbrev pub calls : List (Fields → Call)
+calls =
+    (λ f. Start (f .value))
+    ∷ (λ f. Begin (record { 0 = f .tran }) (record { 0 = f .card }))
+    ∷ (λ f. Get (record { 0 = f .tran }) (record { 0 = f .number }))
+    ∷ (λ f. Store (record { 0 = f .tran }) (record { 0 = f .number }) (f .value))
+    ∷ (λ f. Delete (record { 0 = f .tran }) (record { 0 = f .number }))
+    ∷ (λ f. Commit (record { 0 = f .tran }))
+    ∷ (λ f. Rollback (record { 0 = f .tran }))
+    ∷ (λ f. Fit (record { 0 = f .card }))
+    ∷ (λ f. Withdraw (record { 0 = f .card }))
+    ∷ (λ f. Place (f .value))
+    ∷ (λ f. Fail (record { 0 = f .card }))
+    ∷ (λ f. Move (record { 0 = f .card }) (record { 0 = blockField (f .number) }))
+    ∷ (λ f. Settle)
+    ∷ (λ f. State)
+    ∷ []
+
+abbrev pub lastCall : Fields → Call
+lastCall f = Load (record { 0 = f .card })
+
+-- The call of a known operation with these fields.
+unfoldable pub callAt : Fields → Call
+callAt f = getD calls (f .operation) lastCall f
+
+-- Fields by their numbers, and the fields of a call: zero where it lacks one.
+abbrev pub fieldsGiven : ℕ → ℕ → ℕ → ℕ → ℕ → Fields
+fieldsGiven operation tran card number value =
+    record { operation = operation; tran = tran; card = card; number = number; value = value }
+
+unfoldable pub fieldsFor : Call → Fields
+fieldsFor (Start m) = fieldsGiven 0 0 0 0 m
+fieldsFor (Begin t h) = fieldsGiven 1 (t .0) (h .0) 0 0
+fieldsFor (Get t r) = fieldsGiven 2 (t .0) 0 (r .0) 0
+fieldsFor (Store t r n) = fieldsGiven 3 (t .0) 0 (r .0) n
+fieldsFor (Delete t r) = fieldsGiven 4 (t .0) 0 (r .0) 0
+fieldsFor (Commit t) = fieldsGiven 5 (t .0) 0 0 0
+fieldsFor (Rollback t) = fieldsGiven 6 (t .0) 0 0 0
+fieldsFor (Fit c) = fieldsGiven 7 0 (c .0) 0 0
+fieldsFor (Withdraw c) = fieldsGiven 8 0 (c .0) 0 0
+fieldsFor (Place m) = fieldsGiven 9 0 0 0 m
+fieldsFor (Fail c) = fieldsGiven 10 0 (c .0) 0 0
+fieldsFor (Move c b) = fieldsGiven moveOperation 0 (c .0) (b .0) 0
+fieldsFor Settle = fieldsGiven 12 0 0 0 0
+fieldsFor State = fieldsGiven 13 0 0 0 0
+fieldsFor (Load c) = fieldsGiven 14 0 (c .0) 0 0
+
+-- The operation is not move, or its block is a byte.
+unfoldable pub blockIsByte : Fields → Bool
+blockIsByte f = not (eqb (f .operation) moveOperation) || leb (f .number) mostBlock
+
+-- The call that a list of bytes shows, and what the reader says of the list.
+abbrev pub callOf : List ℕ → Call
+callOf l = callAt (fieldsIn l)
+
+unfoldable pub readOf : List ℕ → Reading
+readOf l = cond (wellFormed l) (Command (callOf l)) Malformed
+
+-- "The writer refuses alike, also a number too wide for its field."
+unfoldable pub fits : Call → Bool
+fits call = formed (fieldsFor call)
+
+-- The five bytes with these fields, and those of a call.
+abbrev pub encoded : Fields → List ℕ
+encoded f =
+    (f .operation * 2 ^ 4 + f .tran)
+    ∷ (f .card * 2 ^ 4 + f .number / 2 ^ 8)
+    ∷ (f .number % 2 ^ 8)
+    ∷ (f .value / 2 ^ 8)
+    ∷ (f .value % 2 ^ 8)
+    ∷ []
+
+unfoldable pub bytesOf : Call → List ℕ
+bytesOf call = encoded (fieldsFor call)
+
+-- Whether the writer writes, and the lent bytes after it: "then leaves its lent bytes as found".
+abbrev pub written : List ℕ → Call → Bool
+written l call = eqb (length l) commandSize && fits call
+
+abbrev pub leftBy : List ℕ → Call → List ℕ
+leftBy l call = cond (written l call) (bytesOf call) l
