@@ -1,0 +1,47 @@
+-- Demand 3 of the calls themselves: a run of the store as its caller sees it, and the statement. Assumes nothing.
+use Prim.Native.Nat.{ℕ}
+use mathlib.Core.Bool.{cond}
+use mathlib.Core.List.{List, [], _∷_}
+use mathlib.Core.Path.{_≡_}
+use Rattle.mask.specs.Masks.{byte}
+use Rattle.method.specs.OneRecordList.{Observation, isLast, observe, runPlain, zeroed}
+use Rattle.method.specs.PlainList.{plainStart}
+use Rattle.method.specs.Rules.{Call, start}
+use Rattle.cabinet_rules.specs.Cabinet.{cabinet}
+use Rattle.cabinet_rules.specs.Claims.{noisy}
+use Rattle.cabinet_rules.specs.Images.{Image}
+use Rattle.promise.specs.Promise.{Done, asked, shown}
+use Rattle.promise.specs.declared.Call.{Call as CallValue}
+use Rattle.promise.specs.declared.Answer.{Answer as AnswerValue}
+use Rattle.promise.specs.declared.Answer.the-variants.{Ok}
+
+-- One call of a run: the noise in the tables of failed cards before it, what was asked, what it answered, and the
+-- memory that it left.
+pub record Step : Type 0 where
+  pub noise : ℕ → ℕ
+  pub call : CallValue
+  pub said : AnswerValue
+  pub left : Image
+
+-- Calls that keep the promise of every call, each getting the memory as the last left it, but for the noise.
+unfoldable pub Ran : List Step → Image → Type 0
+Ran [] g = Unit
+Ran (s ∷ l) g = Done (asked (s .call)) (noisy (s .noise) g) (s .said) (s .left) × Ran l (s .left)
+
+-- What is observed up to the first stop.
+unfoldable pub observed : List Step → List (Observation cabinet)
+observed [] = []
+observed (s ∷ l) =
+    observe cabinet (asked (s .call)) (shown (s .said))
+    ∷ cond (isLast cabinet (observe cabinet (asked (s .call)) (shown (s .said)))) [] (observed l)
+
+abbrev pub callsOf : List Step → List (Call cabinet)
+callsOf [] = []
+callsOf (s ∷ l) = asked (s .call) ∷ callsOf l
+
+-- DEMAND 3 of the calls. After a start that said ok, on memory of any contents, the calls answer what the plain record
+-- list answers to the same calls, until the store stops; and it stops exactly when the stop rule says.
+unfoldable pub OneRecordListOfCalls : Type 0
+OneRecordListOfCalls = (m : ℕ) (before behind : Image) → Done (start (byte m)) before Ok behind
+    → (l : List Step) → Ran l behind
+    → observed l ≡ runPlain cabinet (callsOf l) (zeroed cabinet (byte m)) (plainStart cabinet (byte m))

@@ -1,0 +1,138 @@
+// The store: document 01's fifteen calls on a lent image of any length and contents, and one entry that runs any of
+// them. Each promises that its answer and the image that it leaves are those of the rules.
+ghost use Rattle.promise.specs.Promise.{Done, asked};
+ghost use Rattle.promise.specs.declared.Call.{Call};
+use image::Block;
+use image::Card;
+use image::Rec;
+use image::Tran;
+use promise::Answer;
+use promise::Call;
+
+// All zero, then the mask's cards work and are the one placement.
+pub fn start(image: &mut [u8], mask: u8) -> Answer
+    ensures { λ r. ⌜ Done (asked (Call.Start mask)) (now (image .entry)) r (now (image .exit)) ⌝ }
+{
+    cards::start(image, mask)
+}
+
+// A transaction opens, with its home in the newest placement.
+pub fn begin(image: &mut [u8], tran: Tran, home: Card) -> Answer
+    ensures { λ r. ⌜ Done (asked (Call.Begin tran home)) (now (image .entry)) r (now (image .exit)) ⌝ }
+{
+    transactions::begin(image, tran, home)
+}
+
+// The record as the transaction sees it: a value, or absent.
+pub fn get(image: &[u8], tran: Tran, rec: Rec) -> Answer
+    ensures { λ r. ⌜ Done (asked (Call.Get tran rec)) (now (image .entry)) r (now (image .entry)) ⌝ }
+{
+    records::get(image, tran, rec)
+}
+
+// The record is locked with a pending value.
+pub fn store(image: &mut [u8], tran: Tran, rec: Rec, value: u16) -> Answer
+    ensures { λ r. ⌜ Done (asked (Call.Store tran rec value)) (now (image .entry)) r (now (image .exit)) ⌝ }
+{
+    records::store(image, tran, rec, value)
+}
+
+// The record is locked with a pending absence; absent already, nothing changes.
+pub fn delete(image: &mut [u8], tran: Tran, rec: Rec) -> Answer
+    ensures { λ r. ⌜ Done (asked (Call.Delete tran rec)) (now (image .entry)) r (now (image .exit)) ⌝ }
+{
+    records::delete(image, tran, rec)
+}
+
+// What the transaction locks takes its pending state; it closes.
+pub fn commit(image: &mut [u8], tran: Tran) -> Answer
+    ensures { λ r. ⌜ Done (asked (Call.Commit tran)) (now (image .entry)) r (now (image .exit)) ⌝ }
+{
+    transactions::commit(image, tran)
+}
+
+// What the transaction locks drops its pending state; it closes.
+pub fn rollback(image: &mut [u8], tran: Tran) -> Answer
+    ensures { λ r. ⌜ Done (asked (Call.Rollback tran)) (now (image .entry)) r (now (image .exit)) ⌝ }
+{
+    transactions::rollback(image, tran)
+}
+
+// A card comes to work, with an empty table.
+pub fn fit(image: &mut [u8], card: Card) -> Answer
+    ensures { λ r. ⌜ Done (asked (Call.Fit card)) (now (image .entry)) r (now (image .exit)) ⌝ }
+{
+    cards::fit(image, card)
+}
+
+// A card that no placement uses no longer works.
+pub fn withdraw(image: &mut [u8], card: Card) -> Answer
+    ensures { λ r. ⌜ Done (asked (Call.Withdraw card)) (now (image .entry)) r (now (image .exit)) ⌝ }
+{
+    cards::withdraw(image, card)
+}
+
+// The mask's cards become the newest placement.
+pub fn place(image: &mut [u8], mask: u8) -> Answer
+    ensures { λ r. ⌜ Done (asked (Call.Place mask)) (now (image .entry)) r (now (image .exit)) ⌝ }
+{
+    cards::place(image, mask)
+}
+
+// A working card has failed: the store goes on without it, or stops.
+pub fn fail(image: &mut [u8], card: Card) -> Answer
+    ensures { λ r. ⌜ Done (asked (Call.Fail card)) (now (image .entry)) r (now (image .exit)) ⌝ }
+{
+    cards::fail(image, card)
+}
+
+// A card's copy of a block goes to the newest sites that lack it. (Document 01's move.)
+pub fn move_block(image: &mut [u8], card: Card, block: Block) -> Answer
+    ensures { λ r. ⌜ Done (asked (Call.Move card block)) (now (image .entry)) r (now (image .exit)) ⌝ }
+{
+    reorganise::move_block(image, card, block)
+}
+
+// Where every block lies at its newest sites alone, only the newest placement remains.
+pub fn settle(image: &mut [u8]) -> Answer
+    ensures { λ r. ⌜ Done (asked Call.Settle) (now (image .entry)) r (now (image .exit)) ⌝ }
+{
+    reorganise::settle(image)
+}
+
+// Whether the store is protected.
+pub fn state(image: &[u8]) -> Answer
+    ensures { λ r. ⌜ Done (asked Call.State) (now (image .entry)) r (now (image .entry)) ⌝ }
+{
+    reorganise::state(image)
+}
+
+// How many records are committed present on a card.
+pub fn load(image: &[u8], card: Card) -> Answer
+    ensures { λ r. ⌜ Done (asked (Call.Load card)) (now (image .entry)) r (now (image .entry)) ⌝ }
+{
+    reorganise::load(image, card)
+}
+
+// Any call.
+pub fn perform(image: &mut [u8], call: Call) -> Answer
+    ensures { λ r. ⌜ Done (asked call) (now (image .entry)) r (now (image .exit)) ⌝ }
+{
+    match call {
+        Call::Start(mask) => start(image, mask),
+        Call::Begin(tran, home) => begin(image, tran, home),
+        Call::Get(tran, rec) => get(image, tran, rec),
+        Call::Store(tran, rec, value) => store(image, tran, rec, value),
+        Call::Delete(tran, rec) => delete(image, tran, rec),
+        Call::Commit(tran) => commit(image, tran),
+        Call::Rollback(tran) => rollback(image, tran),
+        Call::Fit(card) => fit(image, card),
+        Call::Withdraw(card) => withdraw(image, card),
+        Call::Place(mask) => place(image, mask),
+        Call::Fail(card) => fail(image, card),
+        Call::Move(card, block) => move_block(image, card, block),
+        Call::Settle => settle(image),
+        Call::State => state(image),
+        Call::Load(card) => load(image, card),
+    }
+}
