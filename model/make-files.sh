@@ -1,0 +1,24 @@
+#!/bin/sh
+# Makes the stored command files and their listings anew, from fixed seeds.
+set -eu
+cd "$(dirname "$0")"
+cargo build --release --offline --quiet
+mkdir -p files
+while read -r kind seed count; do
+    target/release/generate "$kind" "$seed" "$count" > "files/$kind.bin"
+    target/release/listing < "files/$kind.bin" > "files/$kind.txt"
+done <<LIST
+mixed 101 3000
+reorganise 102 3000
+failures 103 3000
+conflicts 104 2500
+deletes 105 2500
+edges 106 3000
+noise 107 2000
+flips 108 2500
+long 109 4000
+refusals 110 3000
+pairs 111 3000
+sweep 112 3000
+LIST
+target/release/count files/*.bin

@@ -1,0 +1,52 @@
+//! count FILE..: counts the answers and refusals over command files, for each
+//! file and over all, and says which of the answers and of 2 to 15 are missing.
+//! With --pairs first, also by operation and answer over all files.
+
+use model::tally::{Tally, ANSWERS, OPERATIONS};
+use std::process::exit;
+
+fn print(name: &str, tally: &Tally) {
+    println!("{name}: {} commands", tally.commands);
+    let words: Vec<String> =
+        ANSWERS.iter().map(|word| format!("{word} {}", tally.count(word))).collect();
+    println!("  {}", words.join(", "));
+    let refusals: Vec<String> =
+        (1..=15).map(|n| format!("{n}: {}", tally.count(&format!("refused {n}")))).collect();
+    println!("  refused {}", refusals.join(", "));
+}
+
+fn main() {
+    let mut files: Vec<String> = std::env::args().skip(1).collect();
+    let pairs = files.first().map_or(false, |word| word == "--pairs");
+    if pairs {
+        files.remove(0);
+    }
+    if files.is_empty() {
+        eprintln!("usage: count [--pairs] FILE..");
+        exit(2);
+    }
+    let mut all = Tally::default();
+    for file in &files {
+        let commands = std::fs::read(file).unwrap_or_else(|error| {
+            eprintln!("{file}: {error}");
+            exit(2);
+        });
+        let mut one = Tally::default();
+        one.add(&commands);
+        print(file, &one);
+        all.add(&commands);
+    }
+    print("all", &all);
+    if pairs {
+        for ((operation, label), number) in &all.pairs {
+            println!("  {} {label}: {number}", OPERATIONS[*operation as usize]);
+        }
+    }
+    let missing = all.missing();
+    if missing.is_empty() {
+        println!("every answer and every refusal from 2 to 15 occurs");
+    } else {
+        println!("missing: {}", missing.join(", "));
+        exit(1);
+    }
+}

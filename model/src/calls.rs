@@ -1,0 +1,344 @@
+//! The fifteen calls.
+
+use crate::control::{bit, count, has, Control};
+use crate::image::*;
+use crate::sites::{holders, members, sites};
+
+#[derive(Clone, Copy, Debug, PartialEq, Eq)]
+pub enum Answer {
+    Ok,
+    Value(u16),
+    Absent,
+    Placed(u8),
+    Unplaced,
+    Stopped,
+    Copies(u8),
+    Retired(u8),
+    Protected,
+    Unprotected,
+    Load(u16),
+    Refused(u8),
+}
+
+#[derive(Clone, Copy, Debug, PartialEq, Eq)]
+pub enum Call {
+    Start { mask: u8 },
+    Begin { transaction: u8, home: u8 },
+    Get { transaction: u8, record: u16 },
+    Store { transaction: u8, record: u16, value: u16 },
+    Delete { transaction: u8, record: u16 },
+    Commit { transaction: u8 },
+    Rollback { transaction: u8 },
+    Fit { card: u8 },
+    Withdraw { card: u8 },
+    Place { mask: u8 },
+    Fail { card: u8 },
+    Move { card: u8, block: u16 },
+    Settle,
+    State,
+    Load { card: u8 },
+}
+
+impl Call {
+    /// Every number lies in its range. A mask is a byte and has none.
+    pub fn in_range(&self) -> bool {
+        let transaction_fits = |t: u8| (1..=15).contains(&t);
+        let record_fits = |r: u16| (r as usize) < RECORDS;
+        let card_fits = |c: u8| (c as usize) < CARDS;
+        match *self {
+            Call::Start { .. } | Call::Place { .. } | Call::Settle | Call::State => true,
+            Call::Begin { transaction, home } => transaction_fits(transaction) && card_fits(home),
+            Call::Get { transaction, record }
+            | Call::Store { transaction, record, .. }
+            | Call::Delete { transaction, record } => {
+                transaction_fits(transaction) && record_fits(record)
+            }
+            Call::Commit { transaction } | Call::Rollback { transaction } => {
+                transaction_fits(transaction)
+            }
+            Call::Fit { card }
+            | Call::Withdraw { card }
+            | Call::Fail { card }
+            | Call::Load { card } => card_fits(card),
+            Call::Move { card, block } => card_fits(card) && (block as usize) < BLOCKS,
+        }
+    }
+}
+
+/// Runs one call. A refused call changes no byte.
+pub fn perform(image: &mut [u8], call: &Call) -> Answer {
+    if image.len() != LENGTH {
+        return Answer::Refused(1);
+    }
+    if let Call::Start { mask } = *call {
+        return start(image, mask);
+    }
+    let control = match Control::read(image) {
+        Some(control) => control,
+        None => return Answer::Refused(2),
+    };
+    if !call.in_range() {
+        return Answer::Refused(3);
+    }
+    if control.stopped {
+        return Answer::Refused(4);
+    }
+    match *call {
+        Call::Start { .. } => unreachable!(),
+        Call::Begin { transaction, home } => begin(image, control, transaction, home),
+        Call::Get { transaction, record } => get(image, &control, transaction, record),
+        Call::Store { transaction, record, value } => {
+            store(image, &control, transaction, record, value)
+        }
+        Call::Delete { transaction, record } => delete(image, &control, transaction, record),
+        Call::Commit { transaction } => close(image, control, transaction, Slot::take_pending),
+        Call::Rollback { transaction } => close(image, control, transaction, Slot::drop_pending),
+        Call::Fit { card } => fit(image, control, card as usize),
+        Call::Withdraw { card } => withdraw(image, control, card as usize),
+        Call::Place { mask } => place(image, control, mask),
+        Call::Fail { card } => fail(image, control, card as usize),
+        Call::Move { card, block } => move_block(image, &control, card as usize, block as usize),
+        Call::Settle => settle(image, control),
+        Call::State if control.placements.len() == 1 => Answer::Protected,
+        Call::State => Answer::Unprotected,
+        Call::Load { card } => load(image, &control, card as usize),
+    }
+}
+
+fn start(image: &mut [u8], mask: u8) -> Answer {
+    if count(mask) < 2 {
+        return Answer::Refused(9);
+    }
+    image.fill(0);
+    Control::fresh(mask).write(image);
+    Answer::Ok
+}
+
+fn begin(image: &mut [u8], mut control: Control, transaction: u8, home: u8) -> Answer {
+    if control.is_open(transaction) {
+        return Answer::Refused(6);
+    }
+    if !has(control.newest(), home as usize) {
+        return Answer::Refused(8);
+    }
+    control.homes[transaction as usize] = Some(home);
+    control.write(image);
+    Answer::Ok
+}
+
+/// What get, store and delete share: refusals 5 and 7, else the holders and
+/// the state that the transaction sees.
+fn look(
+    image: &[u8],
+    control: &Control,
+    transaction: u8,
+    record: u16,
+) -> Result<(Vec<usize>, Option<u16>), Answer> {
+    if !control.is_open(transaction) {
+        return Err(Answer::Refused(5));
+    }
+    let (block, place) = (record as usize / PLACES, record as usize % PLACES);
+    let holders = holders(image, control, block);
+    let slots: Vec<Slot> = holders.iter().map(|c| read_slot(image, *c, block, place)).collect();
+    if slots.iter().any(|slot| slot.lock != 0 && slot.lock != transaction) {
+        return Err(Answer::Refused(7));
+    }
+    let seen = match slots.first() {
+        None => None,
+        Some(slot) if slot.lock == transaction => slot.pending(),
+        Some(slot) => slot.committed(),
+    };
+    Ok((holders, seen))
+}
+
+fn get(image: &[u8], control: &Control, transaction: u8, record: u16) -> Answer {
+    match look(image, control, transaction, record) {
+        Err(refused) => refused,
+        Ok((_, Some(value))) => Answer::Value(value),
+        Ok((_, None)) => Answer::Absent,
+    }
+}
+
+fn store(image: &mut [u8], control: &Control, transaction: u8, record: u16, value: u16) -> Answer {
+    let mut targets = match look(image, control, transaction, record) {
+        Err(refused) => return refused,
+        Ok((holders, _)) => holders,
+    };
+    let block_number = record as usize / PLACES;
+    if targets.is_empty() {
+        targets = sites(control.newest(), block_number).to_vec();
+        for card in &targets {
+            let bytes = &mut image[block(*card, block_number)];
+            bytes.fill(0);
+            bytes[0] = 0x80;
+        }
+    }
+    lock_all(image, &targets, transaction, record, Some(value));
+    Answer::Ok
+}
+
+fn delete(image: &mut [u8], control: &Control, transaction: u8, record: u16) -> Answer {
+    match look(image, control, transaction, record) {
+        Err(refused) => refused,
+        Ok((_, None)) => Answer::Absent,
+        Ok((holders, Some(_))) => {
+            lock_all(image, &holders, transaction, record, None);
+            Answer::Ok
+        }
+    }
+}
+
+fn lock_all(image: &mut [u8], cards: &[usize], transaction: u8, record: u16, state: Option<u16>) {
+    let (block, place) = (record as usize / PLACES, record as usize % PLACES);
+    for card in cards {
+        let mut slot = read_slot(image, *card, block, place);
+        slot.set_pending(transaction, state);
+        write_slot(image, *card, block, place, slot);
+    }
+}
+
+fn close(image: &mut [u8], mut control: Control, transaction: u8, step: fn(&mut Slot)) -> Answer {
+    if !control.is_open(transaction) {
+        return Answer::Refused(5);
+    }
+    unlock(image, &mut control, &[transaction], step);
+    control.write(image);
+    Answer::Ok
+}
+
+/// Steps every slot that one of the transactions locks, on all working cards in
+/// all held blocks, and closes the transactions.
+fn unlock(image: &mut [u8], control: &mut Control, closing: &[u8], step: fn(&mut Slot)) {
+    for card in members(control.working) {
+        for block in 0..BLOCKS {
+            if !held(image, card, block) {
+                continue;
+            }
+            for place in 0..PLACES {
+                let mut slot = read_slot(image, card, block, place);
+                if closing.contains(&slot.lock) {
+                    step(&mut slot);
+                    write_slot(image, card, block, place, slot);
+                }
+            }
+        }
+    }
+    for transaction in closing {
+        control.homes[*transaction as usize] = None;
+    }
+}
+
+fn fit(image: &mut [u8], mut control: Control, card: usize) -> Answer {
+    if has(control.working, card) || control.placed(card) {
+        return Answer::Refused(8);
+    }
+    control.failed &= !bit(card);
+    control.working |= bit(card);
+    image[table(card)].fill(0);
+    control.write(image);
+    Answer::Ok
+}
+
+fn withdraw(image: &mut [u8], mut control: Control, card: usize) -> Answer {
+    if !has(control.working, card) || control.placed(card) {
+        return Answer::Refused(8);
+    }
+    if !control.open_at(card).is_empty() {
+        return Answer::Refused(14);
+    }
+    control.working &= !bit(card);
+    image[table(card)].fill(0);
+    control.write(image);
+    Answer::Ok
+}
+
+fn place(image: &mut [u8], mut control: Control, mask: u8) -> Answer {
+    if count(mask) < 2 || mask & !control.working != 0 || mask == control.newest() {
+        return Answer::Refused(9);
+    }
+    if control.placements.len() >= 3 {
+        return Answer::Refused(10);
+    }
+    control.placements.push(mask);
+    control.write(image);
+    Answer::Ok
+}
+
+fn fail(image: &mut [u8], mut control: Control, card: usize) -> Answer {
+    if !has(control.working, card) {
+        return Answer::Refused(8);
+    }
+    control.working &= !bit(card);
+    control.failed |= bit(card);
+    let answer;
+    if control.must_stop() {
+        let all = control.open();
+        unlock(image, &mut control, &all, Slot::drop_pending);
+        control.stopped = true;
+        answer = Answer::Stopped;
+    } else {
+        let there = control.open_at(card);
+        unlock(image, &mut control, &there, Slot::drop_pending);
+        if has(control.newest(), card) {
+            let mask = control.newest() & !bit(card);
+            control.placements.push(mask);
+            answer = Answer::Placed(mask);
+        } else {
+            answer = Answer::Unplaced;
+        }
+    }
+    control.write(image);
+    answer
+}
+
+fn move_block(image: &mut [u8], control: &Control, card: usize, number: usize) -> Answer {
+    if !has(control.working, card) {
+        return Answer::Refused(8);
+    }
+    if !held(image, card, number) {
+        return Answer::Refused(11);
+    }
+    if (0..PLACES).any(|place| read_slot(image, card, number, place).lock != 0) {
+        return Answer::Refused(12);
+    }
+    let targets = sites(control.newest(), number);
+    let mut copies = 0;
+    for target in targets {
+        if !held(image, target, number) {
+            image.copy_within(block(card, number), block(target, number).start);
+            copies += 1;
+        }
+    }
+    if !targets.contains(&card) {
+        image[block(card, number)].fill(0);
+    }
+    Answer::Copies(copies)
+}
+
+fn settle(image: &mut [u8], mut control: Control) -> Answer {
+    for number in 0..BLOCKS {
+        let mut holding: Vec<usize> =
+            members(control.working).into_iter().filter(|c| held(image, *c, number)).collect();
+        let mut wanted = sites(control.newest(), number).to_vec();
+        holding.sort();
+        wanted.sort();
+        if !holding.is_empty() && holding != wanted {
+            return Answer::Refused(13);
+        }
+    }
+    let retired = control.placements.len() - 1;
+    control.placements = vec![control.newest()];
+    control.write(image);
+    Answer::Retired(retired as u8)
+}
+
+fn load(image: &[u8], control: &Control, card: usize) -> Answer {
+    if !has(control.working, card) {
+        return Answer::Refused(8);
+    }
+    let mut records = 0;
+    for number in (0..BLOCKS).filter(|b| held(image, card, *b)) {
+        records += (0..PLACES).filter(|p| read_slot(image, card, number, *p).present).count();
+    }
+    Answer::Load(records as u16)
+}

@@ -1,0 +1,139 @@
+//! The control part: bytes 0 to 31, and its form.
+
+use crate::image::{CARDS, CONTROL};
+
+pub const TRANSACTIONS: usize = 15;
+
+#[derive(Clone, Debug, PartialEq, Eq)]
+pub struct Control {
+    pub stopped: bool,
+    /// Active placements, oldest first.
+    pub placements: Vec<u8>,
+    pub working: u8,
+    pub failed: u8,
+    /// Home of each open transaction; place 0 is not used.
+    pub homes: [Option<u8>; TRANSACTIONS + 1],
+}
+
+/// Card 0 is the highest bit.
+pub fn bit(card: usize) -> u8 {
+    0x80 >> card
+}
+
+pub fn has(mask: u8, card: usize) -> bool {
+    mask & bit(card) != 0
+}
+
+pub fn count(mask: u8) -> usize {
+    (0..CARDS).filter(|card| has(mask, *card)).count()
+}
+
+impl Control {
+    pub fn fresh(mask: u8) -> Control {
+        Control { stopped: false, placements: vec![mask], working: mask, failed: 0, homes: [None; 16] }
+    }
+
+    /// None when the form is broken.
+    pub fn read(bytes: &[u8]) -> Option<Control> {
+        let number = (bytes[0] >> 4 & 7) as usize;
+        if number < 1 || number > 4 {
+            return None;
+        }
+        if bytes[0] & 0x0F != 0 || bytes[7] != 0 {
+            return None;
+        }
+        if bytes[23..CONTROL].iter().any(|b| *b != 0) {
+            return None;
+        }
+        if bytes[1 + number..5].iter().any(|b| *b != 0) {
+            return None;
+        }
+        let mut homes = [None; 16];
+        for transaction in 1..=TRANSACTIONS {
+            let byte = bytes[7 + transaction];
+            if byte & 0x0F != 0 {
+                return None;
+            }
+            if byte & 0x80 != 0 {
+                homes[transaction] = Some(byte >> 4 & 7);
+            } else if byte != 0 {
+                return None;
+            }
+        }
+        let control = Control {
+            stopped: bytes[0] & 0x80 != 0,
+            placements: bytes[1..1 + number].to_vec(),
+            working: bytes[5],
+            failed: bytes[6],
+            homes,
+        };
+        control.sound().then_some(control)
+    }
+
+    /// The clauses of the form that speak of cards.
+    fn sound(&self) -> bool {
+        if self.working & self.failed != 0 {
+            return false;
+        }
+        for mask in &self.placements {
+            if count(*mask) < 2 || mask & !(self.working | self.failed) != 0 {
+                return false;
+            }
+        }
+        if let [_, _, third, fourth] = self.placements[..] {
+            let extra = third & !fourth;
+            if fourth & !third != 0 || count(extra) != 1 || extra & self.failed == 0 {
+                return false;
+            }
+        }
+        if self.stopped {
+            return self.homes.iter().all(|home| home.is_none());
+        }
+        self.newest() & !self.working == 0
+            && !self.must_stop()
+            && self.homes.iter().flatten().all(|home| has(self.working, *home as usize))
+    }
+
+    /// Some active placement has two failed or fewer than two working members.
+    pub fn must_stop(&self) -> bool {
+        self.placements
+            .iter()
+            .any(|mask| count(mask & self.failed) >= 2 || count(mask & self.working) < 2)
+    }
+
+    pub fn write(&self, bytes: &mut [u8]) {
+        bytes[..CONTROL].fill(0);
+        bytes[0] = (self.stopped as u8) << 7 | (self.placements.len() as u8) << 4;
+        for (at, mask) in self.placements.iter().enumerate() {
+            bytes[1 + at] = *mask;
+        }
+        bytes[5] = self.working;
+        bytes[6] = self.failed;
+        for transaction in 1..=TRANSACTIONS {
+            if let Some(home) = self.homes[transaction] {
+                bytes[7 + transaction] = 0x80 | home << 4;
+            }
+        }
+    }
+
+    pub fn newest(&self) -> u8 {
+        *self.placements.last().expect("a placement is active")
+    }
+
+    /// The card is a member of some active placement.
+    pub fn placed(&self, card: usize) -> bool {
+        self.placements.iter().any(|mask| has(*mask, card))
+    }
+
+    pub fn is_open(&self, transaction: u8) -> bool {
+        self.homes[transaction as usize].is_some()
+    }
+
+    pub fn open(&self) -> Vec<u8> {
+        (1..=TRANSACTIONS as u8).filter(|t| self.is_open(*t)).collect()
+    }
+
+    pub fn open_at(&self, card: usize) -> Vec<u8> {
+        self.open().into_iter().filter(|t| self.homes[*t as usize] == Some(card as u8)).collect()
+    }
+}

@@ -1,0 +1,116 @@
+//! Where things lie in the image, and the fields of a slot.
+
+use std::ops::Range;
+
+pub const LENGTH: usize = 21_024;
+pub const CONTROL: usize = 32;
+pub const CARDS: usize = 8;
+pub const BLOCKS: usize = 64;
+pub const PLACES: usize = 8;
+pub const RECORDS: usize = BLOCKS * PLACES;
+pub const SLOT_BYTES: usize = 5;
+pub const BLOCK_BYTES: usize = 1 + PLACES * SLOT_BYTES;
+pub const TABLE_BYTES: usize = BLOCKS * BLOCK_BYTES;
+
+/// The bytes of a card's table.
+pub fn table(card: usize) -> Range<usize> {
+    let first = CONTROL + card * TABLE_BYTES;
+    first..first + TABLE_BYTES
+}
+
+/// The bytes of one block in a card's table.
+pub fn block(card: usize, block: usize) -> Range<usize> {
+    let first = table(card).start + block * BLOCK_BYTES;
+    first..first + BLOCK_BYTES
+}
+
+/// The bytes of the slot at a place of a block.
+pub fn slot(card: usize, block_number: usize, place: usize) -> Range<usize> {
+    let first = block(card, block_number).start + 1 + place * SLOT_BYTES;
+    first..first + SLOT_BYTES
+}
+
+pub fn held(image: &[u8], card: usize, block_number: usize) -> bool {
+    image[block(card, block_number).start] & 0x80 != 0
+}
+
+/// The 40 bits of a slot by name. `rest` is the two unnamed bits.
+#[derive(Clone, Copy, Debug, PartialEq, Eq)]
+pub struct Slot {
+    pub present: bool,
+    pub value: u16,
+    pub lock: u8,
+    pub pending_present: bool,
+    pub pending_value: u16,
+    pub rest: u8,
+}
+
+impl Slot {
+    pub fn unpack(bytes: &[u8]) -> Slot {
+        let mut word: u64 = 0;
+        for byte in bytes {
+            word = word << 8 | *byte as u64;
+        }
+        // Fields are taken from the low end, so in reverse order.
+        let mut take = |bits: u32| {
+            let field = word & ((1 << bits) - 1);
+            word >>= bits;
+            field
+        };
+        let rest = take(2) as u8;
+        let pending_value = take(16) as u16;
+        let pending_present = take(1) == 1;
+        let lock = take(4) as u8;
+        let value = take(16) as u16;
+        let present = take(1) == 1;
+        Slot { present, value, lock, pending_present, pending_value, rest }
+    }
+
+    pub fn pack(&self) -> [u8; SLOT_BYTES] {
+        let mut word: u64 = 0;
+        let mut put = |bits: u32, field: u64| word = word << bits | field;
+        put(1, self.present as u64);
+        put(16, self.value as u64);
+        put(4, self.lock as u64);
+        put(1, self.pending_present as u64);
+        put(16, self.pending_value as u64);
+        put(2, self.rest as u64);
+        let wide = word.to_be_bytes();
+        [wide[3], wide[4], wide[5], wide[6], wide[7]]
+    }
+
+    pub fn committed(&self) -> Option<u16> {
+        self.present.then_some(self.value)
+    }
+
+    pub fn pending(&self) -> Option<u16> {
+        self.pending_present.then_some(self.pending_value)
+    }
+
+    /// Locks the slot; a pending absence has value 0.
+    pub fn set_pending(&mut self, transaction: u8, state: Option<u16>) {
+        self.lock = transaction;
+        self.pending_present = state.is_some();
+        self.pending_value = state.unwrap_or(0);
+    }
+
+    pub fn take_pending(&mut self) {
+        self.present = self.pending_present;
+        self.value = if self.pending_present { self.pending_value } else { 0 };
+        self.drop_pending();
+    }
+
+    pub fn drop_pending(&mut self) {
+        self.lock = 0;
+        self.pending_present = false;
+        self.pending_value = 0;
+    }
+}
+
+pub fn read_slot(image: &[u8], card: usize, block_number: usize, place: usize) -> Slot {
+    Slot::unpack(&image[slot(card, block_number, place)])
+}
+
+pub fn write_slot(image: &mut [u8], card: usize, block_number: usize, place: usize, new: Slot) {
+    image[slot(card, block_number, place)].copy_from_slice(&new.pack());
+}

@@ -1,0 +1,17 @@
+//! A second, plain implementation of the record store of document 01.
+//! Command files are run by it and by the proved program, and the listings are compared.
+
+pub mod calls;
+pub mod commands;
+pub mod control;
+pub mod image;
+pub mod images;
+pub mod kinds;
+pub mod listing;
+pub mod plain;
+pub mod random;
+pub mod sites;
+pub mod tally;
+
+pub use calls::{perform, Answer, Call};
+pub use commands::{read_command, write_command};

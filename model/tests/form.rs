@@ -1,0 +1,203 @@
+//! Each clause of the control form, broken alone, gives 2 for every call but start.
+
+use model::calls::{perform, Answer, Call};
+use model::image::LENGTH;
+
+const CALLS: [Call; 14] = [
+    Call::Begin { transaction: 1, home: 0 },
+    Call::Get { transaction: 1, record: 0 },
+    Call::Store { transaction: 1, record: 0, value: 0 },
+    Call::Delete { transaction: 1, record: 0 },
+    Call::Commit { transaction: 1 },
+    Call::Rollback { transaction: 1 },
+    Call::Fit { card: 7 },
+    Call::Withdraw { card: 7 },
+    Call::Place { mask: 0xC0 },
+    Call::Fail { card: 0 },
+    Call::Move { card: 0, block: 0 },
+    Call::Settle,
+    Call::State,
+    Call::Load { card: 0 },
+];
+
+fn with(control: &[(usize, u8)]) -> Vec<u8> {
+    let mut image = vec![0; LENGTH];
+    for (at, byte) in control {
+        image[*at] = *byte;
+    }
+    image
+}
+
+/// First five bytes, working, failed.
+fn part(head: [u8; 5], working: u8, failed: u8) -> Vec<u8> {
+    let mut image = vec![0; LENGTH];
+    image[..5].copy_from_slice(&head);
+    image[5] = working;
+    image[6] = failed;
+    image
+}
+
+fn broken(image: Vec<u8>) {
+    for call in CALLS {
+        let mut changed = image.clone();
+        assert_eq!(perform(&mut changed, &call), Answer::Refused(2), "{:?} {call:?}", &image[..32]);
+        assert!(changed == image);
+    }
+    // 2 comes before 3, and a start does not look.
+    let mut changed = image.clone();
+    assert_eq!(perform(&mut changed, &Call::Load { card: 8 }), Answer::Refused(2));
+    assert_eq!(perform(&mut changed, &Call::Start { mask: 0x80 }), Answer::Refused(9));
+    assert!(changed == image);
+    assert_eq!(perform(&mut changed, &Call::Start { mask: 0xC0 }), Answer::Ok);
+}
+
+/// The form is kept: a state call answers, or 4 where stopped.
+fn kept(image: Vec<u8>) {
+    let answer = perform(&mut image.clone(), &Call::State);
+    let wanted: &[Answer] = if image[0] & 0x80 != 0 {
+        &[Answer::Refused(4)]
+    } else {
+        &[Answer::Protected, Answer::Unprotected]
+    };
+    assert!(wanted.contains(&answer), "{:?} {answer:?}", &image[..32]);
+}
+
+#[test]
+fn count() {
+    kept(part([0x10, 0xE0, 0, 0, 0], 0xE0, 0));
+    broken(part([0x00, 0, 0, 0, 0], 0xE0, 0));
+    broken(part([0x80, 0, 0, 0, 0], 0xE0, 0));
+    for number in 5..8 {
+        broken(part([number << 4, 0xF0, 0xF0, 0xF0, 0xE0], 0xE0, 0x10));
+    }
+    broken(vec![0; LENGTH]);
+}
+
+#[test]
+fn zero_fields() {
+    let good = part([0x10, 0xE0, 0, 0, 0], 0xE0, 0);
+    kept(good.clone());
+    let mut bits: Vec<usize> = (4..8).collect();
+    bits.extend(7 * 8..8 * 8);
+    bits.extend(23 * 8..32 * 8);
+    for transaction in 1..=15 {
+        // Home and zero bits of a closed transaction.
+        bits.extend((7 + transaction) * 8 + 1..(8 + transaction) * 8);
+    }
+    for bit in bits {
+        let mut image = good.clone();
+        image[bit / 8] |= 0x80 >> bit % 8;
+        broken(image);
+    }
+    for transaction in 1..=15 {
+        let mut image = good.clone();
+        image[7 + transaction] = 0x80;
+        kept(image.clone());
+        for bit in 4..8 {
+            let mut image = image.clone();
+            image[7 + transaction] |= 0x80 >> bit;
+            broken(image);
+        }
+    }
+    // Unused masks.
+    for number in 1u8..4 {
+        for at in number as usize + 1..5 {
+            let mut image = part([number << 4, 0, 0, 0, 0], 0xE0, 0);
+            image[1..1 + number as usize].fill(0xE0);
+            kept(image.clone());
+            image[at] = 0xC0;
+            broken(image);
+        }
+    }
+}
+
+#[test]
+fn working_and_failed_share() {
+    kept(part([0x10, 0xE0, 0, 0, 0], 0xE0, 0x01));
+    broken(part([0x10, 0xE0, 0, 0, 0], 0xE1, 0x01));
+    broken(part([0x90, 0xE0, 0, 0, 0], 0xE0, 0x20));
+}
+
+#[test]
+fn members() {
+    // Stopped, so that no other clause speaks.
+    kept(part([0x90, 0xC0, 0, 0, 0], 0x80, 0x40));
+    broken(part([0x90, 0x80, 0, 0, 0], 0x80, 0x40));
+    broken(part([0x90, 0x00, 0, 0, 0], 0x80, 0x40));
+    broken(part([0xA0, 0x40, 0xC0, 0, 0], 0x80, 0x40));
+    // A member neither working nor failed.
+    broken(part([0x90, 0xE0, 0, 0, 0], 0xC0, 0));
+    kept(part([0x20, 0xE0, 0xC0, 0, 0], 0xE0, 0));
+    kept(part([0x20, 0xE0, 0xC0, 0, 0], 0xC0, 0x20));
+    broken(part([0x20, 0xE0, 0xC0, 0, 0], 0xC0, 0));
+}
+
+#[test]
+fn third_and_fourth() {
+    kept(part([0x40, 0xF0, 0xE0, 0xF0, 0xE0], 0xE0, 0x10));
+    // No card more, a working card more, another card, and a card less.
+    broken(part([0x40, 0xF0, 0xE0, 0xE0, 0xE0], 0xE0, 0x10));
+    broken(part([0x40, 0xF0, 0xE0, 0xE0, 0xC0], 0xE0, 0x10));
+    broken(part([0x40, 0xF0, 0xE0, 0xD0, 0xE0], 0xE0, 0x10));
+    broken(part([0x40, 0xF0, 0xE0, 0xC0, 0xE0], 0xE0, 0x10));
+    // One failed and one working card more.
+    broken(part([0x40, 0xF0, 0xE0, 0xF0, 0xC0], 0xE0, 0x10));
+    // Two failed cards more, stopped.
+    kept(part([0xC0, 0xF0, 0xE0, 0xF0, 0xE0], 0xC0, 0x30));
+    broken(part([0xC0, 0xF0, 0xE0, 0xF0, 0xC0], 0xC0, 0x30));
+    // The clause holds for a stopped store too, and for four only.
+    broken(part([0xC0, 0xF0, 0xE0, 0xE0, 0xC0], 0xE0, 0x10));
+    kept(part([0x30, 0xF0, 0xE0, 0xC0, 0], 0xE0, 0x10));
+}
+
+#[test]
+fn running() {
+    // A failed member in the newest placement.
+    broken(part([0x10, 0xE0, 0, 0, 0], 0xC0, 0x20));
+    kept(part([0x90, 0xE0, 0, 0, 0], 0xC0, 0x20));
+    // Two failed members in an older one.
+    kept(part([0x20, 0xF0, 0xC0, 0, 0], 0xE0, 0x10));
+    broken(part([0x20, 0xF0, 0xC0, 0, 0], 0xC0, 0x30));
+    kept(part([0xA0, 0xF0, 0xC0, 0, 0], 0xC0, 0x30));
+    // One working member in an older one.
+    broken(part([0x20, 0xA0, 0xC0, 0, 0], 0xC0, 0x20));
+    kept(part([0xA0, 0xA0, 0xC0, 0, 0], 0xC0, 0x20));
+    // Failed cards are counted in each placement, not in the cabinet.
+    kept(part([0x30, 0xE0, 0xD0, 0xC0, 0], 0xC0, 0x30));
+}
+
+#[test]
+fn homes() {
+    let mut image = part([0x10, 0xE0, 0, 0, 0], 0xE8, 0x10);
+    for (home, good) in [(0, true), (2, true), (3, false), (4, true), (5, false), (7, false)] {
+        image[8 + 6] = 0x80 | home << 4;
+        if good { kept(image.clone()) } else { broken(image.clone()) }
+    }
+}
+
+#[test]
+fn stopped_and_open() {
+    kept(part([0x90, 0xE0, 0, 0, 0], 0xE0, 0));
+    for transaction in 1..=15 {
+        let mut image = part([0x90, 0xE0, 0, 0, 0], 0xE0, 0);
+        image[7 + transaction] = 0x80;
+        broken(image);
+    }
+}
+
+#[test]
+fn length_comes_first() {
+    for length in [0, 1, 31, 32, LENGTH - 1, LENGTH + 1] {
+        let mut image = vec![0; length];
+        for call in CALLS {
+            assert_eq!(perform(&mut image, &call), Answer::Refused(1));
+        }
+        assert_eq!(perform(&mut image, &Call::Start { mask: 0 }), Answer::Refused(1));
+        assert_eq!(perform(&mut image, &Call::Start { mask: 0xFF }), Answer::Refused(1));
+        assert!(image.iter().all(|byte| *byte == 0));
+    }
+    let image = with(&[(0, 0x90), (1, 0xE0), (5, 0xE0)]);
+    // 3 comes before 4.
+    assert_eq!(perform(&mut image.clone(), &Call::Load { card: 8 }), Answer::Refused(3));
+    assert_eq!(perform(&mut image.clone(), &Call::Load { card: 7 }), Answer::Refused(4));
+}

@@ -1,0 +1,120 @@
+//! Random calls on random images: the lowest number that applies is returned, a
+//! refused call changes no byte, and an accepted one leaves the form whole.
+
+use model::calls::{perform, Answer, Call};
+use model::control::{count, has, Control};
+use model::images::{random_call, random_image};
+use model::image::*;
+use model::random::Random;
+use model::sites::sites;
+
+/// Lines 4 to 14 of the table, each on its own, for numbers in their ranges.
+fn applies(number: u8, image: &[u8], control: &Control, call: &Call) -> bool {
+    let open = |t: u8| control.homes[t as usize].is_some();
+    let in_some = |card: u8| control.placements.iter().any(|mask| has(*mask, card as usize));
+    let works = |card: u8| has(control.working, card as usize);
+    let locked_by_other = |t: u8, record: u16| {
+        let (b, place) = (record as usize / 8, record as usize % 8);
+        control.placements.iter().any(|mask| {
+            sites(*mask, b).iter().any(|card| {
+                let lock = read_slot(image, *card, b, place).lock;
+                !has(control.failed, *card) && held(image, *card, b) && lock != 0 && lock != t
+            })
+        })
+    };
+    match (number, *call) {
+        (4, _) => control.stopped,
+        (
+            5,
+            Call::Get { transaction, .. }
+            | Call::Store { transaction, .. }
+            | Call::Delete { transaction, .. }
+            | Call::Commit { transaction }
+            | Call::Rollback { transaction },
+        ) => !open(transaction),
+        (6, Call::Begin { transaction, .. }) => open(transaction),
+        (
+            7,
+            Call::Get { transaction, record }
+            | Call::Store { transaction, record, .. }
+            | Call::Delete { transaction, record },
+        ) => locked_by_other(transaction, record),
+        (8, Call::Fit { card }) => works(card) || in_some(card),
+        (8, Call::Withdraw { card }) => !works(card) || in_some(card),
+        (8, Call::Begin { home, .. }) => !has(control.newest(), home as usize),
+        (8, Call::Fail { card } | Call::Move { card, .. } | Call::Load { card }) => !works(card),
+        (9, Call::Place { mask }) => {
+            count(mask) < 2 || mask & control.working != mask || mask == control.newest()
+        }
+        (10, Call::Place { .. }) => control.placements.len() > 2,
+        (11, Call::Move { card, block }) => !held(image, card as usize, block as usize),
+        (12, Call::Move { card, block }) => {
+            (0..8).any(|place| read_slot(image, card as usize, block as usize, place).lock != 0)
+        }
+        (13, Call::Settle) => (0..BLOCKS).any(|b| {
+            let on = |card: usize| has(control.working, card) && held(image, card, b);
+            let pair = sites(control.newest(), b);
+            let spread = (0..CARDS).any(|card| on(card) && !pair.contains(&card));
+            let half = on(pair[0]) != on(pair[1]);
+            spread || half
+        }),
+        (14, Call::Withdraw { card }) => control.homes.contains(&Some(card)),
+        _ => false,
+    }
+}
+
+#[test]
+fn lowest_number_and_no_change() {
+    let mut random = Random::new(77);
+    let mut refused = [0; 16];
+    let mut accepted = 0;
+    for _ in 0..3_000 {
+        let mut image = random_image(&mut random);
+        for _ in 0..40 {
+            let call = random_call(&mut random);
+            let before = image.clone();
+            let answer = perform(&mut image, &call);
+            let wanted = match (call, Control::read(&before)) {
+                (Call::Start { mask }, _) => (count(mask) < 2).then_some(9),
+                (_, None) => Some(2),
+                (_, Some(_)) if !call.in_range() => Some(3),
+                (_, Some(control)) => (4..15).find(|n| applies(*n, &before, &control, &call)),
+            };
+            match answer {
+                Answer::Refused(number) => {
+                    assert_eq!(Some(number), wanted, "{call:?}");
+                    assert!(image == before, "{call:?} {answer:?}");
+                    refused[number as usize] += 1;
+                }
+                _ => {
+                    assert_eq!(wanted, None, "{call:?} {answer:?}");
+                    assert!(Control::read(&image).is_some(), "{call:?} {answer:?}");
+                    accepted += 1;
+                }
+            }
+            if matches!(call, Call::Start { .. } | Call::Fail { .. }) {
+                image = before;
+            }
+        }
+    }
+    assert!(accepted > 10_000, "{accepted}");
+    for number in 2..15 {
+        assert!(refused[number] > 20, "{number}: {refused:?}");
+    }
+}
+
+#[test]
+fn any_length_and_contents() {
+    let mut random = Random::new(78);
+    for _ in 0..2_000 {
+        let length = random.one_of(&[0, 5, 31, 32, 100, LENGTH - 1, LENGTH, LENGTH + 1]);
+        let mut image = vec![0; length];
+        random.fill(&mut image);
+        let before = image.clone();
+        let call = random_call(&mut random);
+        if let Answer::Refused(number) = perform(&mut image, &call) {
+            assert_eq!(number == 1, length != LENGTH);
+            assert!(image == before);
+        }
+    }
+}
