@@ -101,8 +101,8 @@ formed f = getD forms (f .operation) unknown f
 unfoldable pub wellFormed : List ℕ → Bool
 wellFormed l = eqb (length l) commandSize && formed (fieldsIn l)
 
--- A block is kept in a byte. A number too wide for it is read as the greatest byte: both are out of range, and a move of
--- either is refused with 3.
+-- A block is kept in a byte. A number too wide for it is read as the greatest byte: both are out of range, and a move
+-- of either is refused with 3.
 abbrev pub mostBlock : ℕ
 mostBlock = 255
 
