@@ -1,19 +1,20 @@
 -- What the form of an operation says of its fields. Assumes nothing.
 use mathlib.Core.Path.{_∙_, _≡_, ap, refl, subst, sym}
 use mathlib.Core.Logic.{_⊎_, inl, inr, ⊎-elim}
-use mathlib.Core.Bool.{Bool, _&&_, true}
+use mathlib.Core.Bool.{Bool, _&&_, false, true}
 use Prim.Native.Nat.{_+_, _<_, _≤_, ℕ, suc, zero, zero-le}
 use native.Mathlib.Omega.{arith}
 use native.Mathlib.Nat.{le-trans}
 use lib.Dec.{leb}
 use lib.ListN.{List·getD-eq-default, getD}
-use borrow.Author.Tests.{leb-true}
-use Rattle.lists.proofs.Bools.{and-l, and-r, tf}
+use borrow.Author.Tests.{eq-eqb, leb-true, lt-ltb}
+use Rattle.lists.proofs.Bools.{and-in, and-l, and-r, tf}
 use Rattle.lists.proofs.Cases.{by-eq, lt-or-ge}
 use Rattle.promise.specs.declared.Call.{Call}
 use Rattle.command.specs.declared.Fields.{Fields}
-use Rattle.command.specs.Commands.{callAt, calls, fieldsGiven, formed, forms, lastCall, mostCard, mostNumber}
-use Rattle.command.specs.Commands.{mostTran, mostValue, operationCount, unknown, within}
+use Rattle.command.specs.Commands.{callAt, calls, fieldsGiven, formed, forms, isWideMove, lastCall, mostBlock}
+use Rattle.command.specs.Commands.{mostCard, mostNumber, mostTran, mostValue, moveOperation, operationCount}
+use Rattle.command.specs.Commands.{unknown, within}
 
 infixr 5 _then_
 -- ---- the operation's entry in the tables
@@ -36,6 +37,14 @@ call-of f a e = ap (λ (n : ℕ). getD calls n lastCall f) (sym e)
 pub last-call : (f : Fields) → 14 ≤ f .operation → lastCall f ≡ callAt f
 unfolding callAt
 last-call f h = sym (ap (λ (g : Fields → Call). g f) (List·getD-eq-default calls lastCall h))
+
+-- a move that is not wide has a block
+pub narrow : (f : Fields) → f .operation ≡ moveOperation → isWideMove f ≡ false → f .number < 256
+unfolding isWideMove
+narrow f e h =
+    ⊎-elim (λ (p : f .number < 256). p)
+    (λ (q : 256 ≤ f .number). tf (isWideMove f) (and-in _ _ (eq-eqb _ _ e) (lt-ltb mostBlock (f .number) q)) h)
+    (lt-or-ge (f .number) 256)
 
 -- ---- numbers told apart
 pub one-or-next : (a n : ℕ) → a ≤ n → n < suc (suc a) → (n ≡ a) ⊎ (n ≡ suc a)

@@ -2,4 +2,4 @@ pub mod Forms
 pub mod Bytes
 pub mod Answers
 pub mod RoundTrip
-pub mod WideBlock
+pub mod Meaning

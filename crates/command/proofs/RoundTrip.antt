@@ -1,24 +1,26 @@
--- What is written reads as the call, and what is read writes back to the bytes. Assumes nothing.
-use mathlib.Core.Path.{_∙_, _≡_, ap, refl, sym}
-use mathlib.Core.Bool.{Bool, cond, true}
+-- What is written reads as the command, and what is read writes back to its bytes. Assumes nothing.
+use mathlib.Core.Path.{_∙_, _≡_, ap, refl, subst, sym}
+use mathlib.Core.Bool.{Bool, cond, false, not, true}
 use mathlib.Core.List.{List, _∷_, []}
 use Prim.Native.Nat.{_%_, _*_, _+_, _/_, _<_, _≤_, ℕ, suc, zero, zero-le}
 use native.Mathlib.Omega.{arith}
 use lib.Dec.{eqb}
 use lib.ListN.{getD, length}
-use borrow.Author.Tests.{eq-eqb, eqb-true, ltb-true}
+use borrow.Author.Tests.{eqb-true, ltb-true}
 use Rattle.lists.specs.Tests.{all}
-use Rattle.lists.proofs.Bools.{and-l, and-r, imp-out}
+use Rattle.lists.proofs.Bools.{and-in, and-l, and-r, not-is}
 use Rattle.promise.specs.declared.Call.{Call}
 use Rattle.promise.specs.declared.Call.the-variants.{Begin, Commit, Delete, Fail, Fit, Get, Load, Move, Place, Rollback}
 use Rattle.promise.specs.declared.Call.the-variants.{Settle, Start, State, Store, Withdraw}
+use Rattle.command.specs.declared.Command.{Command}
+use Rattle.command.specs.declared.Command.the-variants.{Of, WideMove}
 use Rattle.command.specs.declared.Fields.{Fields}
-use Rattle.command.specs.declared.Reading.the-variants.{Command}
-use Rattle.command.specs.Commands.{blockField, blockIsByte, bytesOf, callAt, callOf, calls, commandSize, encoded}
+use Rattle.command.specs.declared.Reading.the-variants.{Asks}
+use Rattle.command.specs.Commands.{bytesOf, callAt, callFields, calls, commandAt, commandOf, commandSize, encoded}
 use Rattle.command.specs.Commands.{fieldsFor, fieldsGiven, fieldsIn, fieldsOf, fits, formed, forms, isByte}
-use Rattle.command.specs.Commands.{lastCall, mostBlock, mostCard, mostMask, mostNumber, mostTran, mostValue}
-use Rattle.command.specs.Commands.{moveOperation, operationCount, readOf, unknown, wellFormed, within}
-use Rattle.command.proofs.Answers.{read-form}
+use Rattle.command.specs.Commands.{isOfCase, isWideMove, lastCall, mostCard, mostMask, mostNumber, mostTran}
+use Rattle.command.specs.Commands.{mostValue, moveOperation, operationCount, readOf, unknown, wellFormed, within}
+use Rattle.command.proofs.Answers.{command-is, fits-formed, read-asks, read-form}
 use Rattle.command.proofs.Bytes.{by-five}
 use Rattle.command.proofs.Forms.{AtMost, Each, Wide, _then_, at-most, each-at, form-of, formed-known}
 use Rattle.command.proofs.Forms.{formed-wide, none}
@@ -52,23 +54,23 @@ encoded-fields a b c d e h =
     λ i. pa i ∷ pb i ∷ pc i ∷ pd i ∷ pe i ∷ []
 
 -- ---- fields and calls
-pub call-back : (call : Call) → blockIsByte (fieldsFor call) ≡ true → callAt (fieldsFor call) ≡ call
-unfolding blockIsByte callAt fieldsFor
-call-back (Start m) h = refl
-call-back (Begin t c) h = refl
-call-back (Get t r) h = refl
-call-back (Store t r n) h = refl
-call-back (Delete t r) h = refl
-call-back (Commit t) h = refl
-call-back (Rollback t) h = refl
-call-back (Fit c) h = refl
-call-back (Withdraw c) h = refl
-call-back (Place m) h = refl
-call-back (Fail c) h = refl
-call-back (Move c b) h = λ i. Move c (record { 0 = ap (λ (t : Bool). cond t (b .0) mostBlock) h i })
-call-back Settle h = refl
-call-back State h = refl
-call-back (Load c) h = refl
+pub call-back : (call : Call) → callAt (callFields call) ≡ call
+unfolding callAt callFields
+call-back (Start m) = refl
+call-back (Begin t c) = refl
+call-back (Get t r) = refl
+call-back (Store t r n) = refl
+call-back (Delete t r) = refl
+call-back (Commit t) = refl
+call-back (Rollback t) = refl
+call-back (Fit c) = refl
+call-back (Withdraw c) = refl
+call-back (Place m) = refl
+call-back (Fail c) = refl
+call-back (Move c b) = refl
+call-back Settle = refl
+call-back State = refl
+call-back (Load c) = refl
 
 -- a number in a field with this limit: none but 0 where the limit is 0
 abbrev kept : ℕ → ℕ → ℕ
@@ -86,17 +88,12 @@ back f n a b c d e h =
     same-fields (sym e) (kept-fits a (f .tran) (m .tran-fits)) (kept-fits b (f .card) (m .card-fits))
     (kept-fits c (f .number) (m .number-fits)) (kept-fits d (f .value) (m .value-fits))
 
-block-kept : (f : Fields) → blockIsByte f ≡ true → f .operation ≡ moveOperation → blockField (f .number) ≡ f .number
-unfolding blockIsByte
-block-kept f k e =
-    ap (λ (t : Bool). cond t (f .number) mostBlock) (imp-out (eqb (f .operation) moveOperation) _ k (eq-eqb _ _ e))
-
 BackAt : Fields → ℕ → Type 0
-BackAt f n = f .operation ≡ n → getD forms n unknown f ≡ true → fieldsFor (getD calls n lastCall f) ≡ f
+BackAt f n = f .operation ≡ n → getD forms n unknown f ≡ true → callFields (getD calls n lastCall f) ≡ f
 
-calls-back : (f : Fields) → blockIsByte f ≡ true → Each (BackAt f) operationCount 0
-unfolding BackAt fieldsFor
-calls-back f k =
+calls-back : (f : Fields) → Each (BackAt f) operationCount 0
+unfolding BackAt callFields
+calls-back f =
     back f 0 0 0 0 mostMask
     then back f 1 mostTran mostCard 0 0
     then back f 2 mostTran 0 mostNumber 0
@@ -108,29 +105,62 @@ calls-back f k =
     then back f 8 0 mostCard 0 0
     then back f 9 0 0 0 mostMask
     then back f 10 0 mostCard 0 0
-    then (λ e h. ap (λ (n : ℕ). fieldsGiven moveOperation 0 (f .card) n 0) (block-kept f k e) ∙ back f moveOperation 0 mostCard mostNumber 0 e h)
+    then back f moveOperation 0 mostCard mostNumber 0
     then back f 12 0 0 0 0
     then back f 13 0 0 0 0
     then back f 14 0 mostCard 0 0
     then none
 
-pub fields-back : (f : Fields) → formed f ≡ true → blockIsByte f ≡ true → fieldsFor (callAt f) ≡ f
+pub call-fields-back : (f : Fields) → formed f ≡ true → callFields (callAt f) ≡ f
 unfolding BackAt callAt
-fields-back f h k =
-    each-at (BackAt f) operationCount 0 (f .operation) (calls-back f k) zero-le (formed-known f h) refl (form-of f (f .operation) refl ∙ h)
+call-fields-back f h =
+    each-at (BackAt f) operationCount 0 (f .operation) (calls-back f) zero-le (formed-known f h) refl (form-of f (f .operation) refl ∙ h)
+
+-- ---- fields and commands
+pub command-back : (c : Command) → isOfCase c ≡ true → commandAt (fieldsFor c) ≡ c
+unfolding isWideMove
+command-back (Of call) h = command-is (callFields call) false (not-is _ h) ∙ ap Of (call-back call)
+command-back (WideMove c n) h = command-is (fieldsGiven moveOperation 0 (c .0) n 0) true h
+
+-- fields of a known operation are those of the command that they ask for, and it is of its case
+abbrev Back : Fields → Command → Type 0
+Back f c = (isOfCase c ≡ true) × (fieldsFor c ≡ f)
+
+back-at : (f : Fields) (b : Bool) → isWideMove f ≡ b → formed f ≡ true → Back f (cond b (WideMove (record { 0 = f .card }) (f .number)) (Of (callAt f)))
+unfolding isWideMove
+back-at f true e h =
+    let m : f .operation ≡ moveOperation = eqb-true _ _ (and-l (eqb (f .operation) moveOperation) _ e) in
+    (and-r (eqb (f .operation) moveOperation) _ e, back f moveOperation 0 mostCard mostNumber 0 m (form-of f moveOperation m ∙ h))
+back-at f false e h =
+    let k : callFields (callAt f) ≡ f = call-fields-back f h in
+    (ap not (ap isWideMove k ∙ e), k)
+
+pub fields-back : (f : Fields) → formed f ≡ true → Back f (commandAt f)
+unfolding commandAt
+fields-back f h = back-at f (isWideMove f) refl h
 
 -- ---- the two theorems
--- What is written reads as the call. (A call of the code has its block in a byte.)
-pub written-reads : (call : Call) → fits call ≡ true → blockIsByte (fieldsFor call) ≡ true → readOf (bytesOf call) ≡ Command call
+-- What is written reads as the command.
+pub written-reads : (c : Command) → fits c ≡ true → readOf (bytesOf c) ≡ Asks c
 unfolding fits bytesOf
-written-reads call h k =
-    let e : fieldsIn (encoded (fieldsFor call)) ≡ fieldsFor call = fields-encoded (fieldsFor call) (formed-wide (fieldsFor call) h) in
-    sym (read-form (encoded (fieldsFor call)) true refl (ap formed e ∙ h)) ∙ ap Command (ap callAt e ∙ call-back call k)
+written-reads c h =
+    let k : formed (fieldsFor c) ≡ true = fits-formed c h in
+    let e : fieldsIn (encoded (fieldsFor c)) ≡ fieldsFor c = fields-encoded (fieldsFor c) (formed-wide (fieldsFor c) k) in
+    sym (read-form (encoded (fieldsFor c)) true refl (ap formed e ∙ k))
+    ∙ ap Asks (ap commandAt e ∙ command-back c (and-l (isOfCase c) _ h))
 
--- What is read writes back to the bytes, but for a move of a block too wide for a byte (WideBlock).
-pub read-writes : (l : List ℕ) → all isByte l ≡ true → wellFormed l ≡ true → blockIsByte (fieldsIn l) ≡ true → bytesOf (callOf l) ≡ l
-unfolding wellFormed bytesOf fieldsIn
-read-writes l bytes h k =
+of-form : (l : List ℕ) → all isByte l ≡ true → wellFormed l ≡ true → (fits (commandOf l) ≡ true) × (bytesOf (commandOf l) ≡ l)
+unfolding wellFormed fits bytesOf fieldsIn
+of-form l bytes h =
     let size : length l ≡ commandSize = eqb-true _ _ (and-l (eqb (length l) commandSize) _ h) in
-    ap encoded (fields-back (fieldsIn l) (and-r (eqb (length l) commandSize) _ h) k)
-    ∙ by-five (λ m. all isByte m ≡ true → encoded (fieldsIn m) ≡ m) encoded-fields l size bytes
+    let k : formed (fieldsIn l) ≡ true = and-r (eqb (length l) commandSize) _ h in
+    let b : Back (fieldsIn l) (commandOf l) = fields-back (fieldsIn l) k in (
+      and-in _ _ (b .0) (ap formed (b .1) ∙ k),
+      ap encoded (b .1) ∙ by-five (λ m. all isByte m ≡ true → encoded (fieldsIn m) ≡ m) encoded-fields l size bytes,
+    )
+
+-- What is read can be written, and writes back to its bytes.
+pub read-writes : (l : List ℕ) (c : Command) → all isByte l ≡ true → readOf l ≡ Asks c → (fits c ≡ true) × (bytesOf c ≡ l)
+read-writes l c bytes e =
+    let r = read-asks l c e in
+    subst (λ (d : Command). (fits d ≡ true) × (bytesOf d ≡ l)) (r .1) (of-form l bytes (r .0))

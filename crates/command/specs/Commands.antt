@@ -1,15 +1,17 @@
--- Commands: document 01, "Commands". What five bytes ask for, and the five bytes of a call. Assumes nothing.
+-- Commands: document 01, "Commands". What five bytes ask for, and the five bytes of a command. Assumes nothing.
 use Prim.Native.Nat.{_%_, _*_, _+_, _/_, _^_, ℕ}
 use lib.Dec.{eqb, leb, ltb}
 use lib.ListN.{getD, length}
-use mathlib.Core.Bool.{Bool, _&&_, _||_, cond, false, not}
+use mathlib.Core.Bool.{Bool, _&&_, cond, false, not}
 use mathlib.Core.List.{List, _∷_, []}
 use Rattle.promise.specs.declared.Call.{Call}
 use Rattle.promise.specs.declared.Call.the-variants.{Begin, Commit, Delete, Fail, Fit, Get, Load, Move, Place, Rollback}
 use Rattle.promise.specs.declared.Call.the-variants.{Settle, Start, State, Store, Withdraw}
+use Rattle.command.specs.declared.Command.{Command}
+use Rattle.command.specs.declared.Command.the-variants.{Of, WideMove}
 use Rattle.command.specs.declared.Fields.{Fields}
 use Rattle.command.specs.declared.Reading.{Reading}
-use Rattle.command.specs.declared.Reading.the-variants.{Command, Malformed}
+use Rattle.command.specs.declared.Reading.the-variants.{Asks, Malformed}
 
 -- The bytes of a command, the known operations, and the one that has a block.
 abbrev pub commandSize : ℕ
@@ -101,14 +103,6 @@ formed f = getD forms (f .operation) unknown f
 unfoldable pub wellFormed : List ℕ → Bool
 wellFormed l = eqb (length l) commandSize && formed (fieldsIn l)
 
--- A block is kept in a byte. A number too wide for it is read as the greatest byte: both are out of range, and a move
--- of either is refused with 3.
-abbrev pub mostBlock : ℕ
-mostBlock = 255
-
-abbrev pub blockField : ℕ → ℕ
-blockField n = cond (leb n mostBlock) n mostBlock
-
 -- "They are start, begin, get, store, delete, commit, rollback, fit, withdraw, place, fail, move, settle, state,
 -- load": the call of each operation, from its fields. The last, load, stands apart.
 abbrev pub calls : List (Fields → Call)
@@ -124,7 +118,7 @@ calls =
     ∷ (λ f. Withdraw (record { 0 = f .card }))
     ∷ (λ f. Place (f .value))
     ∷ (λ f. Fail (record { 0 = f .card }))
-    ∷ (λ f. Move (record { 0 = f .card }) (record { 0 = blockField (f .number) }))
+    ∷ (λ f. Move (record { 0 = f .card }) (record { 0 = f .number }))
     ∷ (λ f. Settle)
     ∷ (λ f. State)
     ∷ []
@@ -136,44 +130,60 @@ lastCall f = Load (record { 0 = f .card })
 unfoldable pub callAt : Fields → Call
 callAt f = getD calls (f .operation) lastCall f
 
--- Fields by their numbers, and the fields of a call: zero where it lacks one.
+-- A block is a byte, and its field has 12 bits: a move of a number that no block can have.
+abbrev pub mostBlock : ℕ
+mostBlock = 255
+
+unfoldable pub isWideMove : Fields → Bool
+isWideMove f = eqb (f .operation) moveOperation && ltb mostBlock (f .number)
+
+-- The command of a known operation with these fields: such a move with its number, or a call.
+unfoldable pub commandAt : Fields → Command
+commandAt f = cond (isWideMove f) (WideMove (record { 0 = f .card }) (f .number)) (Of (callAt f))
+
+-- The command that a list of bytes shows, and what the reader says of the list.
+abbrev pub commandOf : List ℕ → Command
+commandOf l = commandAt (fieldsIn l)
+
+unfoldable pub readOf : List ℕ → Reading
+readOf l = cond (wellFormed l) (Asks (commandOf l)) Malformed
+
+-- Fields by their numbers, those of a call, and those of a command: zero where it lacks one.
 abbrev pub fieldsGiven : ℕ → ℕ → ℕ → ℕ → ℕ → Fields
 fieldsGiven operation tran card number value =
     record { operation = operation; tran = tran; card = card; number = number; value = value }
 
-unfoldable pub fieldsFor : Call → Fields
-fieldsFor (Start m) = fieldsGiven 0 0 0 0 m
-fieldsFor (Begin t h) = fieldsGiven 1 (t .0) (h .0) 0 0
-fieldsFor (Get t r) = fieldsGiven 2 (t .0) 0 (r .0) 0
-fieldsFor (Store t r n) = fieldsGiven 3 (t .0) 0 (r .0) n
-fieldsFor (Delete t r) = fieldsGiven 4 (t .0) 0 (r .0) 0
-fieldsFor (Commit t) = fieldsGiven 5 (t .0) 0 0 0
-fieldsFor (Rollback t) = fieldsGiven 6 (t .0) 0 0 0
-fieldsFor (Fit c) = fieldsGiven 7 0 (c .0) 0 0
-fieldsFor (Withdraw c) = fieldsGiven 8 0 (c .0) 0 0
-fieldsFor (Place m) = fieldsGiven 9 0 0 0 m
-fieldsFor (Fail c) = fieldsGiven 10 0 (c .0) 0 0
-fieldsFor (Move c b) = fieldsGiven moveOperation 0 (c .0) (b .0) 0
-fieldsFor Settle = fieldsGiven 12 0 0 0 0
-fieldsFor State = fieldsGiven 13 0 0 0 0
-fieldsFor (Load c) = fieldsGiven 14 0 (c .0) 0 0
+unfoldable pub callFields : Call → Fields
+callFields (Start m) = fieldsGiven 0 0 0 0 m
+callFields (Begin t h) = fieldsGiven 1 (t .0) (h .0) 0 0
+callFields (Get t r) = fieldsGiven 2 (t .0) 0 (r .0) 0
+callFields (Store t r n) = fieldsGiven 3 (t .0) 0 (r .0) n
+callFields (Delete t r) = fieldsGiven 4 (t .0) 0 (r .0) 0
+callFields (Commit t) = fieldsGiven 5 (t .0) 0 0 0
+callFields (Rollback t) = fieldsGiven 6 (t .0) 0 0 0
+callFields (Fit c) = fieldsGiven 7 0 (c .0) 0 0
+callFields (Withdraw c) = fieldsGiven 8 0 (c .0) 0 0
+callFields (Place m) = fieldsGiven 9 0 0 0 m
+callFields (Fail c) = fieldsGiven 10 0 (c .0) 0 0
+callFields (Move c b) = fieldsGiven moveOperation 0 (c .0) (b .0) 0
+callFields Settle = fieldsGiven 12 0 0 0 0
+callFields State = fieldsGiven 13 0 0 0 0
+callFields (Load c) = fieldsGiven 14 0 (c .0) 0 0
 
--- The operation is not move, or its block is a byte.
-unfoldable pub blockIsByte : Fields → Bool
-blockIsByte f = not (eqb (f .operation) moveOperation) || leb (f .number) mostBlock
+abbrev pub fieldsFor : Command → Fields
+fieldsFor (Of call) = callFields call
+fieldsFor (WideMove c n) = fieldsGiven moveOperation 0 (c .0) n 0
 
--- The call that a list of bytes shows, and what the reader says of the list.
-abbrev pub callOf : List ℕ → Call
-callOf l = callAt (fieldsIn l)
+-- A command is of its case: a call has no wider block than a byte, and a wide move no number that a block can have.
+abbrev pub isOfCase : Command → Bool
+isOfCase (Of call) = not (isWideMove (callFields call))
+isOfCase (WideMove c n) = ltb mostBlock n
 
-unfoldable pub readOf : List ℕ → Reading
-readOf l = cond (wellFormed l) (Command (callOf l)) Malformed
+-- "The writer refuses alike, also a number too wide for its field": the command is of its case, and its fields formed.
+unfoldable pub fits : Command → Bool
+fits command = isOfCase command && formed (fieldsFor command)
 
--- "The writer refuses alike, also a number too wide for its field."
-unfoldable pub fits : Call → Bool
-fits call = formed (fieldsFor call)
-
--- The five bytes with these fields, and those of a call.
+-- The five bytes with these fields, and those of a command.
 abbrev pub encoded : Fields → List ℕ
 encoded f =
     (f .operation * 2 ^ 4 + f .tran)
@@ -183,12 +193,12 @@ encoded f =
     ∷ (f .value % 2 ^ 8)
     ∷ []
 
-unfoldable pub bytesOf : Call → List ℕ
-bytesOf call = encoded (fieldsFor call)
+unfoldable pub bytesOf : Command → List ℕ
+bytesOf command = encoded (fieldsFor command)
 
 -- Whether the writer writes, and the lent bytes after it: "then leaves its lent bytes as found".
-abbrev pub written : List ℕ → Call → Bool
-written l call = eqb (length l) commandSize && fits call
+abbrev pub written : List ℕ → Command → Bool
+written l command = eqb (length l) commandSize && fits command
 
-abbrev pub leftBy : List ℕ → Call → List ℕ
-leftBy l call = cond (written l call) (bytesOf call) l
+abbrev pub leftBy : List ℕ → Command → List ℕ
+leftBy l command = cond (written l command) (bytesOf command) l

@@ -1,21 +1,25 @@
 // Commands: the five bytes that ask for a call, read and written.
 ghost use mathlib.Core.Path.{_≡_};
-ghost use mathlib.Core.Bool.{true};
+ghost use mathlib.Core.Bool.{false, true};
 ghost use lib.ListN.{length};
 ghost use Rattle.command.specs.Commands.{
-  blockField,
   callAt,
+  callFields,
+  commandAt,
   commandSize,
   encoded,
   fieldsFor,
   fieldsGiven,
   fieldsOf,
+  fits,
   formed,
+  isWideMove,
   leftBy,
   readOf,
   within,
   written,
 };
+ghost use Rattle.command.specs.Meaning.{blockFor, callFor};
 use image::Block;
 use image::Card;
 use image::Rec;
@@ -72,12 +76,18 @@ const MOST_VALUE: u16 = 65535;
 
 const MOST_MASK: u16 = 255;
 
-// The greatest block that is kept: out of range, as every wider number is.
-const MOST_BLOCK: u8 = 255;
+// The greatest number that a `Block` can have.
+const MOST_BLOCK: u16 = 255;
 
-// What five bytes ask for.
+// What a command asks for: a call, or a move of a number that no block can have: its field has 12 bits, a block 8.
+pub enum Command {
+    Of(Call),
+    WideMove(Card, u16),
+}
+
+// What a list of bytes asks for.
 pub enum Reading {
-    Command(Call),
+    Asks(Command),
     Malformed,
 }
 
@@ -138,20 +148,20 @@ fn is_formed(f: Fields) -> bool
     }
 }
 
-// The block of a move. A number too wide for a byte is out of range, and so is the block kept for it: the store refuses
-// both with 3.
-fn block_field(number: u16) -> Block
-    ensures { λ r. ⌜ r .0 ≡ blockField number ⌝ }
+// Whether the operation is move and the number one that no block can have.
+fn is_wide_move(f: Fields) -> bool
+    ensures { λ r. ⌜ r ≡ isWideMove f ⌝ }
 {
-    if number < EIGHT_BITS {
-        return Block(number as u8);
+    if f.operation != MOVE {
+        return false;
     }
-    Block(MOST_BLOCK)
+    f.number > MOST_BLOCK
 }
 
 // The call of a known operation.
 fn call_at(f: Fields) -> Call
     requires { ⌜ formed f ≡ true ⌝ }
+    requires { ⌜ isWideMove f ≡ false ⌝ }
     ensures { λ r. ⌜ r ≡ callAt f ⌝ }
 {
     let operation = f.operation;
@@ -167,11 +177,22 @@ fn call_at(f: Fields) -> Call
         WITHDRAW => return Call::Withdraw(Card(f.card)),
         PLACE => return Call::Place(f.value as u8),
         FAIL => return Call::Fail(Card(f.card)),
-        MOVE => return Call::Move(Card(f.card), block_field(f.number)),
+        MOVE => return Call::Move(Card(f.card), Block(f.number as u8)),
         SETTLE => return Call::Settle,
         STATE => return Call::State,
         _ => return Call::Load(Card(f.card)),
     }
+}
+
+// The command of a known operation.
+fn command_at(f: Fields) -> Command
+    requires { ⌜ formed f ≡ true ⌝ }
+    ensures { λ r. ⌜ r ≡ commandAt f ⌝ }
+{
+    if is_wide_move(f) {
+        return Command::WideMove(Card(f.card), f.number);
+    }
+    Command::Of(call_at(f))
 }
 
 // What the bytes ask for.
@@ -183,7 +204,7 @@ pub fn read(bytes: &[u8]) -> Reading
     }
     let f = decode(bytes[0], bytes[1], bytes[2], bytes[3], bytes[4]);
     if is_formed(f) {
-        return Reading::Command(call_at(f));
+        return Reading::Asks(command_at(f));
     }
     Reading::Malformed
 }
@@ -201,9 +222,9 @@ fn given(operation: u8, tran: u8, card: u8, number: u16, value: u16) -> Fields
     }
 }
 
-// The fields of a call.
-fn fields_for(call: Call) -> Fields
-    ensures { λ r. ⌜ r ≡ fieldsFor call ⌝ }
+// The fields of a call. Its block is a byte.
+fn call_fields(call: Call) -> Fields
+    ensures { λ r. ⌜ (r ≡ callFields call) × (isWideMove r ≡ false) ⌝ }
 {
     match call {
         Call::Start(mask) => given(START, 0, 0, 0, mask as u16),
@@ -224,6 +245,31 @@ fn fields_for(call: Call) -> Fields
     }
 }
 
+// The fields of a command.
+fn fields_for(command: Command) -> Fields
+    ensures { λ r. ⌜ r ≡ fieldsFor command ⌝ }
+{
+    match command {
+        Command::Of(call) => call_fields(call),
+        Command::WideMove(card, number) => given(MOVE, 0, card.0, number, 0),
+    }
+}
+
+// Whether the command can be written. A wide move of a number that a block can have is not of its form.
+fn is_fit(command: Command) -> bool
+    ensures { λ r. ⌜ r ≡ fits command ⌝ }
+{
+    match command {
+        Command::Of(call) => return is_formed(call_fields(call)),
+        Command::WideMove(_, number) => {
+            if number <= MOST_BLOCK {
+                return false;
+            }
+            return is_formed(fields_for(command));
+        }
+    }
+}
+
 // Writes the fields into five lent bytes.
 fn encode(bytes: &mut [u8], f: Fields)
     requires { ⌜ length (now bytes) ≡ commandSize ⌝ }
@@ -237,18 +283,38 @@ fn encode(bytes: &mut [u8], f: Fields)
     bytes[4] = (f.value % EIGHT_BITS) as u8;
 }
 
-// Writes the command of a call: whether it was written. Refused, the bytes stay as found.
-pub fn write(bytes: &mut [u8], call: Call) -> bool
-    ensures { λ r. ⌜ (r ≡ written (now (bytes .entry)) call)
-        × (now (bytes .exit) ≡ leftBy (now (bytes .entry)) call) ⌝ }
+// Writes a command: whether it was written. Refused, the bytes stay as found.
+pub fn write(bytes: &mut [u8], command: Command) -> bool
+    ensures { λ r. ⌜ (r ≡ written (now (bytes .entry)) command)
+        × (now (bytes .exit) ≡ leftBy (now (bytes .entry)) command) ⌝ }
 {
     if bytes.len() != SIZE {
         return false;
     }
-    let asked = fields_for(call);
-    if is_formed(asked) {
-        encode(bytes, asked);
+    if is_fit(command) {
+        encode(bytes, fields_for(command));
         return true;
     }
     false
+}
+
+// The block of the call that performs a move of this number.
+fn block_for(number: u16) -> Block
+    ensures { λ r. ⌜ r .0 ≡ blockFor number ⌝ }
+{
+    if number <= MOST_BLOCK {
+        return Block(number as u8);
+    }
+    Block(MOST_BLOCK as u8)
+}
+
+// The call that performs a command. A number that no block can have is out of range, and so is block 255: a move of
+// either answers and leaves the same.
+pub fn call_for(command: Command) -> Call
+    ensures { λ r. ⌜ r ≡ callFor command ⌝ }
+{
+    match command {
+        Command::Of(call) => call,
+        Command::WideMove(card, number) => Call::Move(card, block_for(number)),
+    }
 }

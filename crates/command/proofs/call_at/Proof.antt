@@ -1,18 +1,15 @@
 -- `call_at` meets its contract: each arm has its operation's entry of the table. Assumes nothing.
-use mathlib.Core.Path.{_∙_, ap}
+use mathlib.Core.Path.{_∙_}
 use Prim.Native.Nat.{_≤_, ℕ, zero-le}
 use native.Mathlib.Omega.{arith}
-use Rattle.command.proofs.Forms.{at-most, call-of, form-of, last-call, past-seven}
+use Rattle.command.proofs.Forms.{at-most, call-of, form-of, last-call, narrow, past-seven}
 use Rattle.command.specs.Commands.{mostMask}
-use Rattle.image.specs.declared.Block.{Block}
-use Rattle.promise.specs.declared.Call.the-variants.{Move}
-use borrow.Author.Needs.{needs}
 use Rattle.command.proofs.call_at.Statement.{statement}
 use Rattle.command.proofs.call_at.Tie as tie
 
 cast-t3 : tie.Need-cast-t3
 cast-t3 c =
-    let m = at-most 0 0 0 mostMask (c .before .before .args .f) (form-of (c .before .before .args .f) 0 (c .before .match .keys1) ∙ c .before .before .pre) in
+    let m = at-most 0 0 0 mostMask (c .before .before .args .f) (form-of (c .before .before .args .f) 0 (c .before .match .keys1) ∙ c .before .before .pre .0) in
     omega arith
 
 returns : tie.Need-returns
@@ -44,7 +41,7 @@ returns-9 c = call-of (c .before .args .f) 8 (c .match .keys9)
 
 cast-t16 : tie.Need-cast-t16
 cast-t16 c =
-    let m = at-most 0 0 0 mostMask (c .before .before .args .f) (form-of (c .before .before .args .f) 9 (c .before .match .keys10) ∙ c .before .before .pre) in
+    let m = at-most 0 0 0 mostMask (c .before .before .args .f) (form-of (c .before .before .args .f) 9 (c .before .match .keys10) ∙ c .before .before .pre .0) in
     omega arith
 
 returns-10 : tie.Need-returns-10
@@ -53,11 +50,13 @@ returns-10 c = call-of (c .before .before .args .f) 9 (c .before .match .keys10)
 returns-11 : tie.Need-returns-11
 returns-11 c = call-of (c .before .args .f) 10 (c .match .keys11)
 
-block-field-requires : tie.Need-block-field-requires
-block-field-requires c κs = search needs
+cast-t19 : tie.Need-cast-t19
+cast-t19 c =
+    let m = narrow (c .before .before .args .f) (c .before .match .keys12) (c .before .before .pre .1) in
+    omega arith
 
 returns-12 : tie.Need-returns-12
-returns-12 c = ap (λ (b : Block). Move (record { 0 = c .before .before .args .f .card }) b) (λ i. record { 0 = c .block-field .ensures i }) ∙ call-of (c .before .before .args .f) 11 (c .before .match .keys12)
+returns-12 c = call-of (c .before .before .args .f) 11 (c .before .match .keys12)
 
 returns-13 : tie.Need-returns-13
 returns-13 c = call-of (c .before .args .f) 12 (c .match .keys13)
@@ -88,7 +87,7 @@ call-at-spec =
     cast-t16
     returns-10
     returns-11
-    block-field-requires
+    cast-t19
     returns-12
     returns-13
     returns-14

@@ -3,8 +3,8 @@ use mathlib.Core.Path.{_∙_, _≡_, ap, sym}
 use mathlib.Core.Bool.{false, true}
 use denote.Ref.{now}
 use Rattle.command.proofs.Answers.{read-form, read-length}
-use Rattle.command.specs.declared.Reading.the-variants.{Command}
-use Rattle.command.specs.Commands.{callAt, fieldsIn, formed}
+use Rattle.command.specs.declared.Reading.the-variants.{Asks}
+use Rattle.command.specs.Commands.{commandAt, fieldsIn, formed}
 use borrow.Author.Needs.{needs}
 use Rattle.command.proofs.read.Statement.{statement}
 use Rattle.command.proofs.read.Tie as tie
@@ -33,15 +33,15 @@ decode-requires c κs = search needs
 is-formed-requires : tie.Need-is-formed-requires
 is-formed-requires c κs = search needs
 
-call-at-requires : tie.Need-call-at-requires
-call-at-requires c κs = sym (c .before .is-formed .ensures) ∙ c .if2 .taken
+command-at-requires : tie.Need-command-at-requires
+command-at-requires c κs = sym (c .before .is-formed .ensures) ∙ c .if2 .taken
 
 returns-2 : tie.Need-returns-2
 unfolding fieldsIn
 returns-2 c =
     let l = now (c .before .before .before .before .before .before .before .before .before .before .before .args .bytes) in
     let e : c .before .before .before .decode .result ≡ fieldsIn l = c .before .before .before .decode .ensures in
-    ap Command (c .call-at .ensures ∙ ap callAt e) ∙ read-form l true (c .before .before .before .before .before .before .before .before .before .if1 .left) (sym (ap formed e) ∙ (sym (c .before .before .is-formed .ensures) ∙ c .before .if2 .taken))
+    ap Asks (c .command-at .ensures ∙ ap commandAt e) ∙ read-form l true (c .before .before .before .before .before .before .before .before .before .if1 .left) (sym (ap formed e) ∙ (sym (c .before .before .is-formed .ensures) ∙ c .before .if2 .taken))
 
 returns-3 : tie.Need-returns-3
 unfolding fieldsIn
@@ -62,6 +62,6 @@ read-spec =
     shared-slice-read-decode-5
     decode-requires
     is-formed-requires
-    call-at-requires
+    command-at-requires
     returns-2
     returns-3)
