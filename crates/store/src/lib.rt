@@ -1,13 +1,19 @@
-// The store: document 01's fifteen calls on a lent image of any length and contents, and one entry that runs any of
-// them. Each promises that its answer and the image that it leaves are those of the rules.
+// The store: document 01's fifteen calls on a lent image of any length and contents, one entry that runs any of them,
+// and one that runs the bytes of a command. Each promises that its answer and the image that it leaves are those of the
+// rules.
+ghost use Rattle.command.specs.Meaning.{Obeyed};
 ghost use Rattle.promise.specs.Promise.{Done, asked};
 ghost use Rattle.promise.specs.declared.Call.{Call};
+use command::Reading;
 use image::Block;
 use image::Card;
 use image::Rec;
 use image::Tran;
 use promise::Answer;
 use promise::Call;
+
+// The refusal of a malformed command.
+const MALFORMED: u8 = 15;
 
 // All zero, then the mask's cards work and are the one placement.
 pub fn start(image: &mut [u8], mask: u8) -> Answer
@@ -134,5 +140,16 @@ pub fn perform(image: &mut [u8], call: Call) -> Answer
         Call::Settle => settle(image),
         Call::State => state(image),
         Call::Load(card) => load(image, card),
+    }
+}
+
+// The call that the bytes of a command ask for. Their form comes before all other refusals.
+pub fn perform_command(image: &mut [u8], bytes: &[u8]) -> Answer
+    ensures { λ r. ⌜ Obeyed (now (bytes .entry)) (now (image .entry)) r (now (image .exit)) ⌝ }
+{
+    let reading = command::read(bytes);
+    match reading {
+        Reading::Asks(asked) => perform(image, command::call_for(asked)),
+        Reading::Malformed => Answer::Refused(MALFORMED),
     }
 }
