@@ -20,7 +20,7 @@ abbrev pub ruled : Command → Call cabinet
 ruled (Of call) = asked call
 ruled (WideMove c n) = move (c .0) n
 
--- "15: command malformed", and "Command form comes before all others": what the bytes of a command are answered.
+-- 15 is "command malformed", and "Command form comes before all others": what the bytes of a command are answered.
 abbrev pub malformed : ℕ
 malformed = 15
 

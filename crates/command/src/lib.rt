@@ -1,4 +1,4 @@
-// Commands: the five bytes that ask for a call, read and written.
+// Commands: the five bytes that ask for a call, read and written, and the call that performs them.
 ghost use mathlib.Core.Path.{_≡_};
 ghost use mathlib.Core.Bool.{false, true};
 ghost use lib.ListN.{length};
