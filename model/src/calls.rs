@@ -39,7 +39,53 @@ pub enum Call {
     Load { card: u8 },
 }
 
+/// A number of each naming, of which a call takes those that it has.
+#[derive(Clone, Copy, Debug, Default)]
+pub struct Numbers {
+    pub transaction: u8,
+    pub card: u8,
+    pub record: u16,
+    pub block: u16,
+    pub value: u16,
+    pub mask: u8,
+}
+
 impl Call {
+    /// The call of an operation 0 to 14.
+    pub fn of(operation: u8, numbers: &Numbers) -> Option<Call> {
+        let Numbers { transaction, card, record, block, value, mask } = *numbers;
+        Some(match operation {
+            0 => Call::Start { mask },
+            1 => Call::Begin { transaction, home: card },
+            2 => Call::Get { transaction, record },
+            3 => Call::Store { transaction, record, value },
+            4 => Call::Delete { transaction, record },
+            5 => Call::Commit { transaction },
+            6 => Call::Rollback { transaction },
+            7 => Call::Fit { card },
+            8 => Call::Withdraw { card },
+            9 => Call::Place { mask },
+            10 => Call::Fail { card },
+            11 => Call::Move { card, block },
+            12 => Call::Settle,
+            13 => Call::State,
+            14 => Call::Load { card },
+            _ => return None,
+        })
+    }
+
+    /// The transaction of every use but begin.
+    pub fn used_transaction(&self) -> Option<u8> {
+        match *self {
+            Call::Get { transaction, .. }
+            | Call::Store { transaction, .. }
+            | Call::Delete { transaction, .. }
+            | Call::Commit { transaction }
+            | Call::Rollback { transaction } => Some(transaction),
+            _ => None,
+        }
+    }
+
     /// Every number lies in its range. A mask is a byte and has none.
     pub fn in_range(&self) -> bool {
         let transaction_fits = |t: u8| (1..=15).contains(&t);
@@ -65,6 +111,13 @@ impl Call {
     }
 }
 
+/// An image after an accepted start.
+pub fn started(mask: u8) -> Vec<u8> {
+    let mut image = vec![0; LENGTH];
+    assert_eq!(perform(&mut image, &Call::Start { mask }), Answer::Ok);
+    image
+}
+
 /// Runs one call. A refused call changes no byte.
 pub fn perform(image: &mut [u8], call: &Call) -> Answer {
     if image.len() != LENGTH {
@@ -82,6 +135,9 @@ pub fn perform(image: &mut [u8], call: &Call) -> Answer {
     }
     if control.stopped {
         return Answer::Refused(4);
+    }
+    if call.used_transaction().is_some_and(|transaction| !control.is_open(transaction)) {
+        return Answer::Refused(5);
     }
     match *call {
         Call::Start { .. } => unreachable!(),
@@ -126,18 +182,15 @@ fn begin(image: &mut [u8], mut control: Control, transaction: u8, home: u8) -> A
     Answer::Ok
 }
 
-/// What get, store and delete share: refusals 5 and 7, else the holders and
-/// the state that the transaction sees.
+/// What get, store and delete share: refusal 7, else the holders and the state
+/// that the transaction sees.
 fn look(
     image: &[u8],
     control: &Control,
     transaction: u8,
     record: u16,
 ) -> Result<(Vec<usize>, Option<u16>), Answer> {
-    if !control.is_open(transaction) {
-        return Err(Answer::Refused(5));
-    }
-    let (block, place) = (record as usize / PLACES, record as usize % PLACES);
+    let (block, place) = place_of(record);
     let holders = holders(image, control, block);
     let slots: Vec<Slot> = holders.iter().map(|c| read_slot(image, *c, block, place)).collect();
     if slots.iter().any(|slot| slot.lock != 0 && slot.lock != transaction) {
@@ -164,11 +217,11 @@ fn store(image: &mut [u8], control: &Control, transaction: u8, record: u16, valu
         Err(refused) => return refused,
         Ok((holders, _)) => holders,
     };
-    let block_number = record as usize / PLACES;
+    let (block, _) = place_of(record);
     if targets.is_empty() {
-        targets = sites(control.newest(), block_number).to_vec();
+        targets = sites(control.newest(), block).to_vec();
         for card in &targets {
-            let bytes = &mut image[block(*card, block_number)];
+            let bytes = &mut image[block_at(*card, block)];
             bytes.fill(0);
             bytes[0] = 0x80;
         }
@@ -189,18 +242,13 @@ fn delete(image: &mut [u8], control: &Control, transaction: u8, record: u16) -> 
 }
 
 fn lock_all(image: &mut [u8], cards: &[usize], transaction: u8, record: u16, state: Option<u16>) {
-    let (block, place) = (record as usize / PLACES, record as usize % PLACES);
+    let (block, place) = place_of(record);
     for card in cards {
-        let mut slot = read_slot(image, *card, block, place);
-        slot.set_pending(transaction, state);
-        write_slot(image, *card, block, place, slot);
+        change_slot(image, *card, block, place, |slot| slot.set_pending(transaction, state));
     }
 }
 
 fn close(image: &mut [u8], mut control: Control, transaction: u8, step: fn(&mut Slot)) -> Answer {
-    if !control.is_open(transaction) {
-        return Answer::Refused(5);
-    }
     unlock(image, &mut control, &[transaction], step);
     control.write(image);
     Answer::Ok
@@ -210,15 +258,10 @@ fn close(image: &mut [u8], mut control: Control, transaction: u8, step: fn(&mut 
 /// all held blocks, and closes the transactions.
 fn unlock(image: &mut [u8], control: &mut Control, closing: &[u8], step: fn(&mut Slot)) {
     for card in members(control.working) {
-        for block in 0..BLOCKS {
-            if !held(image, card, block) {
-                continue;
-            }
+        for block in held_blocks(image, card) {
             for place in 0..PLACES {
-                let mut slot = read_slot(image, card, block, place);
-                if closing.contains(&slot.lock) {
-                    step(&mut slot);
-                    write_slot(image, card, block, place, slot);
+                if closing.contains(&read_slot(image, card, block, place).lock) {
+                    change_slot(image, card, block, place, step);
                 }
             }
         }
@@ -234,7 +277,7 @@ fn fit(image: &mut [u8], mut control: Control, card: usize) -> Answer {
     }
     control.failed &= !bit(card);
     control.working |= bit(card);
-    image[table(card)].fill(0);
+    image[table_at(card)].fill(0);
     control.write(image);
     Answer::Ok
 }
@@ -247,7 +290,7 @@ fn withdraw(image: &mut [u8], mut control: Control, card: usize) -> Answer {
         return Answer::Refused(14);
     }
     control.working &= !bit(card);
-    image[table(card)].fill(0);
+    image[table_at(card)].fill(0);
     control.write(image);
     Answer::Ok
 }
@@ -268,59 +311,52 @@ fn fail(image: &mut [u8], mut control: Control, card: usize) -> Answer {
     if !has(control.working, card) {
         return Answer::Refused(8);
     }
-    control.working &= !bit(card);
-    control.failed |= bit(card);
-    let answer;
-    if control.must_stop() {
-        let all = control.open();
-        unlock(image, &mut control, &all, Slot::drop_pending);
-        control.stopped = true;
-        answer = Answer::Stopped;
+    control.mark_failed(card);
+    control.stopped = control.must_stop();
+    let closing = if control.stopped { control.open() } else { control.open_at(card) };
+    unlock(image, &mut control, &closing, Slot::drop_pending);
+    let answer = if control.stopped {
+        Answer::Stopped
+    } else if has(control.newest(), card) {
+        let mask = control.newest() & !bit(card);
+        control.placements.push(mask);
+        Answer::Placed(mask)
     } else {
-        let there = control.open_at(card);
-        unlock(image, &mut control, &there, Slot::drop_pending);
-        if has(control.newest(), card) {
-            let mask = control.newest() & !bit(card);
-            control.placements.push(mask);
-            answer = Answer::Placed(mask);
-        } else {
-            answer = Answer::Unplaced;
-        }
-    }
+        Answer::Unplaced
+    };
     control.write(image);
     answer
 }
 
-fn move_block(image: &mut [u8], control: &Control, card: usize, number: usize) -> Answer {
+fn move_block(image: &mut [u8], control: &Control, card: usize, block: usize) -> Answer {
     if !has(control.working, card) {
         return Answer::Refused(8);
     }
-    if !held(image, card, number) {
+    if !held(image, card, block) {
         return Answer::Refused(11);
     }
-    if (0..PLACES).any(|place| read_slot(image, card, number, place).lock != 0) {
+    if (0..PLACES).any(|place| read_slot(image, card, block, place).lock != 0) {
         return Answer::Refused(12);
     }
-    let targets = sites(control.newest(), number);
+    let targets = sites(control.newest(), block);
     let mut copies = 0;
     for target in targets {
-        if !held(image, target, number) {
-            image.copy_within(block(card, number), block(target, number).start);
+        if !held(image, target, block) {
+            image.copy_within(block_at(card, block), block_at(target, block).start);
             copies += 1;
         }
     }
     if !targets.contains(&card) {
-        image[block(card, number)].fill(0);
+        image[block_at(card, block)].fill(0);
     }
     Answer::Copies(copies)
 }
 
 fn settle(image: &mut [u8], mut control: Control) -> Answer {
-    for number in 0..BLOCKS {
-        let mut holding: Vec<usize> =
-            members(control.working).into_iter().filter(|c| held(image, *c, number)).collect();
-        let mut wanted = sites(control.newest(), number).to_vec();
-        holding.sort();
+    for block in 0..BLOCKS {
+        let mut holding = members(control.working);
+        holding.retain(|card| held(image, *card, block));
+        let mut wanted = sites(control.newest(), block).to_vec();
         wanted.sort();
         if !holding.is_empty() && holding != wanted {
             return Answer::Refused(13);
@@ -336,9 +372,7 @@ fn load(image: &[u8], control: &Control, card: usize) -> Answer {
     if !has(control.working, card) {
         return Answer::Refused(8);
     }
-    let mut records = 0;
-    for number in (0..BLOCKS).filter(|b| held(image, card, *b)) {
-        records += (0..PLACES).filter(|p| read_slot(image, card, number, *p).present).count();
-    }
+    let present = |block: usize| (0..PLACES).filter(|place| read_slot(image, card, block, *place).present).count();
+    let records: usize = held_blocks(image, card).into_iter().map(present).sum();
     Answer::Load(records as u16)
 }

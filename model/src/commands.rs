@@ -1,7 +1,7 @@
 //! Five-byte commands: operation (4 bits), transaction (4), card (4), record or
 //! block (12), value or mask (16).
 
-use crate::calls::Call;
+use crate::calls::{Call, Numbers};
 
 pub const COMMAND_BYTES: usize = 5;
 
@@ -39,106 +39,52 @@ impl Fields {
             self.value as u8,
         ])
     }
+
+    pub fn of(call: &Call) -> Fields {
+        let (operation, transaction, card, number, value) = match *call {
+            Call::Start { mask } => (0, 0, 0, 0, mask as u16),
+            Call::Begin { transaction, home } => (1, transaction, home, 0, 0),
+            Call::Get { transaction, record } => (2, transaction, 0, record, 0),
+            Call::Store { transaction, record, value } => (3, transaction, 0, record, value),
+            Call::Delete { transaction, record } => (4, transaction, 0, record, 0),
+            Call::Commit { transaction } => (5, transaction, 0, 0, 0),
+            Call::Rollback { transaction } => (6, transaction, 0, 0, 0),
+            Call::Fit { card } => (7, 0, card, 0, 0),
+            Call::Withdraw { card } => (8, 0, card, 0, 0),
+            Call::Place { mask } => (9, 0, 0, 0, mask as u16),
+            Call::Fail { card } => (10, 0, card, 0, 0),
+            Call::Move { card, block } => (11, 0, card, block, 0),
+            Call::Settle => (12, 0, 0, 0, 0),
+            Call::State => (13, 0, 0, 0, 0),
+            Call::Load { card } => (14, 0, card, 0, 0),
+        };
+        Fields { operation, transaction, card, number, value }
+    }
+
+    /// The call of the operation, from the fields that it has and the low byte
+    /// of a mask. None for operation 15.
+    fn call(&self) -> Option<Call> {
+        let Fields { operation, transaction, card, number, value } = *self;
+        let mask = value as u8;
+        Call::of(operation, &Numbers { transaction, card, record: number, block: number, value, mask })
+    }
+
+    /// Zero in the fields that the operation lacks and in a mask's high byte.
+    /// Operation 15 keeps all.
+    pub fn named(self) -> Fields {
+        self.call().map_or(self, |call| Fields::of(&call))
+    }
 }
 
 /// None when malformed.
 pub fn read_command(bytes: &[u8]) -> Option<Call> {
-    let bytes: &[u8; COMMAND_BYTES] = bytes.try_into().ok()?;
-    let f = Fields::unpack(bytes);
-    let (transaction, card, number, value) = (f.transaction, f.card, f.number, f.value);
-    let mask = u8::try_from(value);
-    // Which of transaction, card, record or block, value or mask the operation has.
-    let (has_t, has_c, has_n, has_v, call) = match f.operation {
-        0 => (false, false, false, true, Call::Start { mask: mask.ok()? }),
-        1 => (true, true, false, false, Call::Begin { transaction, home: card }),
-        2 => (true, false, true, false, Call::Get { transaction, record: number }),
-        3 => (true, false, true, true, Call::Store { transaction, record: number, value }),
-        4 => (true, false, true, false, Call::Delete { transaction, record: number }),
-        5 => (true, false, false, false, Call::Commit { transaction }),
-        6 => (true, false, false, false, Call::Rollback { transaction }),
-        7 => (false, true, false, false, Call::Fit { card }),
-        8 => (false, true, false, false, Call::Withdraw { card }),
-        9 => (false, false, false, true, Call::Place { mask: mask.ok()? }),
-        10 => (false, true, false, false, Call::Fail { card }),
-        11 => (false, true, true, false, Call::Move { card, block: number }),
-        12 => (false, false, false, false, Call::Settle),
-        13 => (false, false, false, false, Call::State),
-        14 => (false, true, false, false, Call::Load { card }),
-        _ => return None,
-    };
-    let lacking_is_zero = (has_t || transaction == 0)
-        && (has_c || card == 0)
-        && (has_n || number == 0)
-        && (has_v || value == 0);
-    lacking_is_zero.then_some(call)
+    let fields = Fields::unpack(bytes.try_into().ok()?);
+    (fields.named() == fields).then(|| fields.call()).flatten()
 }
 
 /// False when refused; the bytes are then as found.
 pub fn write_command(call: &Call, bytes: &mut [u8]) -> bool {
-    let mut f = Fields { operation: 0, transaction: 0, card: 0, number: 0, value: 0 };
-    match *call {
-        Call::Start { mask } => {
-            f.operation = 0;
-            f.value = mask as u16;
-        }
-        Call::Begin { transaction, home } => {
-            f.operation = 1;
-            f.transaction = transaction;
-            f.card = home;
-        }
-        Call::Get { transaction, record } => {
-            f.operation = 2;
-            f.transaction = transaction;
-            f.number = record;
-        }
-        Call::Store { transaction, record, value } => {
-            f.operation = 3;
-            f.transaction = transaction;
-            f.number = record;
-            f.value = value;
-        }
-        Call::Delete { transaction, record } => {
-            f.operation = 4;
-            f.transaction = transaction;
-            f.number = record;
-        }
-        Call::Commit { transaction } => {
-            f.operation = 5;
-            f.transaction = transaction;
-        }
-        Call::Rollback { transaction } => {
-            f.operation = 6;
-            f.transaction = transaction;
-        }
-        Call::Fit { card } => {
-            f.operation = 7;
-            f.card = card;
-        }
-        Call::Withdraw { card } => {
-            f.operation = 8;
-            f.card = card;
-        }
-        Call::Place { mask } => {
-            f.operation = 9;
-            f.value = mask as u16;
-        }
-        Call::Fail { card } => {
-            f.operation = 10;
-            f.card = card;
-        }
-        Call::Move { card, block } => {
-            f.operation = 11;
-            f.card = card;
-            f.number = block;
-        }
-        Call::Settle => f.operation = 12,
-        Call::State => f.operation = 13,
-        Call::Load { card } => {
-            f.operation = 14;
-            f.card = card;
-        }
-    }
-    match f.pack() {
+    match Fields::of(call).pack() {
         Some(packed) if bytes.len() == COMMAND_BYTES => {
             bytes.copy_from_slice(&packed);
             true

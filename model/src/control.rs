@@ -4,6 +4,11 @@ use crate::image::{CARDS, CONTROL};
 
 pub const TRANSACTIONS: usize = 15;
 
+/// Home of each open transaction; place 0 is not used.
+pub type Homes = [Option<u8>; TRANSACTIONS + 1];
+
+pub const NO_HOMES: Homes = [None; TRANSACTIONS + 1];
+
 #[derive(Clone, Debug, PartialEq, Eq)]
 pub struct Control {
     pub stopped: bool,
@@ -11,8 +16,7 @@ pub struct Control {
     pub placements: Vec<u8>,
     pub working: u8,
     pub failed: u8,
-    /// Home of each open transaction; place 0 is not used.
-    pub homes: [Option<u8>; TRANSACTIONS + 1],
+    pub homes: Homes,
 }
 
 /// Card 0 is the highest bit.
@@ -30,7 +34,7 @@ pub fn count(mask: u8) -> usize {
 
 impl Control {
     pub fn fresh(mask: u8) -> Control {
-        Control { stopped: false, placements: vec![mask], working: mask, failed: 0, homes: [None; 16] }
+        Control { stopped: false, placements: vec![mask], working: mask, failed: 0, homes: NO_HOMES }
     }
 
     /// None when the form is broken.
@@ -48,7 +52,7 @@ impl Control {
         if bytes[1 + number..5].iter().any(|b| *b != 0) {
             return None;
         }
-        let mut homes = [None; 16];
+        let mut homes = NO_HOMES;
         for transaction in 1..=TRANSACTIONS {
             let byte = bytes[7 + transaction];
             if byte & 0x0F != 0 {
@@ -114,6 +118,12 @@ impl Control {
                 bytes[7 + transaction] = 0x80 | home << 4;
             }
         }
+    }
+
+    /// The card no longer works and is marked failed.
+    pub fn mark_failed(&mut self, card: usize) {
+        self.working &= !bit(card);
+        self.failed |= bit(card);
     }
 
     pub fn newest(&self) -> u8 {

@@ -12,26 +12,35 @@ pub const SLOT_BYTES: usize = 5;
 pub const BLOCK_BYTES: usize = 1 + PLACES * SLOT_BYTES;
 pub const TABLE_BYTES: usize = BLOCKS * BLOCK_BYTES;
 
-/// The bytes of a card's table.
-pub fn table(card: usize) -> Range<usize> {
+/// Where a card's table lies.
+pub fn table_at(card: usize) -> Range<usize> {
     let first = CONTROL + card * TABLE_BYTES;
     first..first + TABLE_BYTES
 }
 
-/// The bytes of one block in a card's table.
-pub fn block(card: usize, block: usize) -> Range<usize> {
-    let first = table(card).start + block * BLOCK_BYTES;
+/// Where a block of a card's table lies.
+pub fn block_at(card: usize, block: usize) -> Range<usize> {
+    let first = table_at(card).start + block * BLOCK_BYTES;
     first..first + BLOCK_BYTES
 }
 
-/// The bytes of the slot at a place of a block.
-pub fn slot(card: usize, block_number: usize, place: usize) -> Range<usize> {
-    let first = block(card, block_number).start + 1 + place * SLOT_BYTES;
+/// Where the slot at a place of a block lies.
+pub fn slot_at(card: usize, block: usize, place: usize) -> Range<usize> {
+    let first = block_at(card, block).start + 1 + place * SLOT_BYTES;
     first..first + SLOT_BYTES
 }
 
-pub fn held(image: &[u8], card: usize, block_number: usize) -> bool {
-    image[block(card, block_number).start] & 0x80 != 0
+/// The block of a record and its place there.
+pub fn place_of(record: u16) -> (usize, usize) {
+    (record as usize / PLACES, record as usize % PLACES)
+}
+
+pub fn held(image: &[u8], card: usize, block: usize) -> bool {
+    image[block_at(card, block).start] & 0x80 != 0
+}
+
+pub fn held_blocks(image: &[u8], card: usize) -> Vec<usize> {
+    (0..BLOCKS).filter(|block| held(image, card, *block)).collect()
 }
 
 /// The 40 bits of a slot by name. `rest` is the two unnamed bits.
@@ -107,10 +116,12 @@ impl Slot {
     }
 }
 
-pub fn read_slot(image: &[u8], card: usize, block_number: usize, place: usize) -> Slot {
-    Slot::unpack(&image[slot(card, block_number, place)])
+pub fn read_slot(image: &[u8], card: usize, block: usize, place: usize) -> Slot {
+    Slot::unpack(&image[slot_at(card, block, place)])
 }
 
-pub fn write_slot(image: &mut [u8], card: usize, block_number: usize, place: usize, new: Slot) {
-    image[slot(card, block_number, place)].copy_from_slice(&new.pack());
+pub fn change_slot(image: &mut [u8], card: usize, block: usize, place: usize, change: impl FnOnce(&mut Slot)) {
+    let mut slot = read_slot(image, card, block, place);
+    change(&mut slot);
+    image[slot_at(card, block, place)].copy_from_slice(&slot.pack());
 }

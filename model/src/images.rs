@@ -1,7 +1,7 @@
 //! Random images and calls, also such as no list of calls reaches.
 
-use crate::calls::Call;
-use crate::control::{bit, Control};
+use crate::calls::{Call, Numbers};
+use crate::control::{bit, Control, NO_HOMES};
 use crate::image::*;
 use crate::random::Random;
 use crate::sites::{members, sites};
@@ -42,11 +42,11 @@ pub fn random_control(random: &mut Random, image: &mut [u8]) {
         *newest &= working;
     }
     let stopped = random.chance(50);
-    let mut homes = [None; 16];
-    for transaction in 1..16 {
+    let mut homes = NO_HOMES;
+    for home in &mut homes[1..] {
         if !stopped && working != 0 && random.chance(300) {
             let cards = members(working);
-            homes[transaction] = Some(random.one_of(&cards) as u8);
+            *home = Some(random.one_of(&cards) as u8);
         }
     }
     Control { stopped, placements, working, failed, homes }.write(image);
@@ -61,33 +61,32 @@ pub fn random_tables(random: &mut Random, image: &mut [u8]) {
     let dense = random.one_of(&[20, 200, 500, 1000]);
     let locked = random.one_of(&[0, 20, 300]);
     for card in 0..CARDS {
-        for number in 0..BLOCKS {
+        for block in 0..BLOCKS {
             if !random.chance(dense) {
-                image[block(card, number).start] &= 0x7F;
+                image[block_at(card, block).start] &= 0x7F;
             }
             for place in 0..PLACES {
                 if !random.chance(locked) {
-                    let mut slot = read_slot(image, card, number, place);
-                    slot.lock = 0;
-                    write_slot(image, card, number, place, slot);
+                    change_slot(image, card, block, place, |slot| slot.lock = 0);
                 }
             }
         }
     }
-    // A tidy image: only the newest sites hold.
     if random.chance(200) {
         if let Some(control) = Control::read(image) {
-            for number in 0..BLOCKS {
-                let pair = sites(control.newest(), number);
-                let held_anywhere = random.chance(500);
-                for card in 0..CARDS {
-                    let first = block(card, number).start;
-                    image[first] &= 0x7F;
-                    if held_anywhere && pair.contains(&card) {
-                        image[first] |= 0x80;
-                    }
-                }
-            }
+            tidy(random, image, control.newest());
+        }
+    }
+}
+
+/// Each block is held by both sites of the placement or by no card.
+fn tidy(random: &mut Random, image: &mut [u8], placement: u8) {
+    for block in 0..BLOCKS {
+        let pair = sites(placement, block);
+        let held = random.chance(500);
+        for card in 0..CARDS {
+            let first = &mut image[block_at(card, block).start];
+            *first = *first & 0x7F | if held && pair.contains(&card) { 0x80 } else { 0 };
         }
     }
 }
@@ -100,21 +99,6 @@ pub fn random_call(random: &mut Random) -> Call {
     let block = if random.chance(950) { random.below(64) as u16 } else { random.one_of(&[64, 255, 4095, 65535]) };
     let value = random.below(0x1_0000) as u16;
     let mask = random.byte();
-    match random.below(15) {
-        0 => Call::Start { mask },
-        1 => Call::Begin { transaction, home: card },
-        2 => Call::Get { transaction, record },
-        3 => Call::Store { transaction, record, value },
-        4 => Call::Delete { transaction, record },
-        5 => Call::Commit { transaction },
-        6 => Call::Rollback { transaction },
-        7 => Call::Fit { card },
-        8 => Call::Withdraw { card },
-        9 => Call::Place { mask },
-        10 => Call::Fail { card },
-        11 => Call::Move { card, block },
-        12 => Call::Settle,
-        13 => Call::State,
-        _ => Call::Load { card },
-    }
+    let operation = random.below(15) as u8;
+    Call::of(operation, &Numbers { transaction, card, record, block, value, mask }).expect("operations 0 to 14")
 }

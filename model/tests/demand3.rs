@@ -13,7 +13,7 @@ use model::random::Random;
 fn disturb(random: &mut Random, image: &mut [u8]) {
     let failed = image[6];
     for card in (0..CARDS).filter(|card| has(failed, *card)) {
-        let bytes = &mut image[table(card)];
+        let bytes = &mut image[table_at(card)];
         match random.below(4) {
             0 => random.fill(bytes),
             1 => bytes.fill(0),
@@ -28,7 +28,7 @@ fn disturb(random: &mut Random, image: &mut [u8]) {
     }
 }
 
-#[derive(Default)]
+#[derive(Debug, Default)]
 struct Seen {
     calls: usize,
     stops: usize,
@@ -81,5 +81,5 @@ fn store_equals_plain_list() {
             run(&mut maker, &mut random, 3_000, name, &mut seen);
         }
     }
-    assert!(seen.calls > 200_000 && seen.stops > 100 && seen.noisy > 50_000, "{} {} {}", seen.calls, seen.stops, seen.noisy);
+    assert!(seen.calls > 200_000 && seen.stops > 100 && seen.noisy > 50_000, "{seen:?}");
 }

@@ -1,15 +1,9 @@
 //! Points of the rules that answers alone do not show.
 
-use model::calls::{perform, Answer, Call};
+use model::calls::{perform, started, Answer, Call};
 use model::control::Control;
 use model::image::*;
 use model::sites::{holders, sites, trail};
-
-fn started(mask: u8) -> Vec<u8> {
-    let mut image = vec![0; LENGTH];
-    assert_eq!(perform(&mut image, &Call::Start { mask }), Answer::Ok);
-    image
-}
 
 fn ok(image: &mut [u8], call: Call) {
     assert_eq!(perform(image, &call), Answer::Ok, "{call:?}");
@@ -35,26 +29,23 @@ fn get_reads_the_first_holder_of_the_oldest_placement() {
     ok(&mut image, Call::Begin { transaction: 1, home: 1 });
     // Block 0: sites 0, 1 and then 1, 2. The copies are made to differ.
     for (card, value) in [(0, 10), (1, 11), (2, 12)] {
-        image[block(card, 0).start] = 0x80;
-        let mut slot = read_slot(&image, card, 0, 0);
-        slot.present = true;
-        slot.value = value;
-        write_slot(&mut image, card, 0, 0, slot);
+        image[block_at(card, 0).start] = 0x80;
+        change_slot(&mut image, card, 0, 0, |slot| {
+            slot.present = true;
+            slot.value = value;
+        });
     }
     let control = Control::read(&image).unwrap();
     assert_eq!(holders(&image, &control, 0), [0, 1, 2]);
     let get = Call::Get { transaction: 1, record: 0 };
     assert_eq!(perform(&mut image, &get), Answer::Value(10));
-    image[block(0, 0).start] = 0x7F;
+    image[block_at(0, 0).start] = 0x7F;
     assert_eq!(perform(&mut image, &get), Answer::Value(11));
     // A lock of its own on a later holder alone does not show its pending state.
-    let mut slot = read_slot(&image, 2, 0, 0);
-    slot.set_pending(1, Some(77));
-    write_slot(&mut image, 2, 0, 0, slot);
+    change_slot(&mut image, 2, 0, 0, |slot| slot.set_pending(1, Some(77)));
     assert_eq!(perform(&mut image, &get), Answer::Value(11));
     // Another's lock on any holder refuses.
-    slot.set_pending(2, Some(77));
-    write_slot(&mut image, 2, 0, 0, slot);
+    change_slot(&mut image, 2, 0, 0, |slot| slot.set_pending(2, Some(77)));
     assert_eq!(perform(&mut image, &get), Answer::Refused(7));
 }
 
@@ -67,10 +58,10 @@ fn marks_of_failed_cards() {
     ok(&mut image, Call::Fit { card: 7 });
     ok(&mut image, Call::Withdraw { card: 7 });
     assert_eq!(image[..8], [0x10, 0xE0, 0, 0, 0, 0xE0, 0x10, 0]);
-    image[table(3)].fill(0xEE);
+    image[table_at(3)].fill(0xEE);
     ok(&mut image, Call::Fit { card: 3 });
     assert_eq!(image[..8], [0x10, 0xE0, 0, 0, 0, 0xF0, 0, 0]);
-    assert!(image[table(3)].iter().all(|byte| *byte == 0));
+    assert!(image[table_at(3)].iter().all(|byte| *byte == 0));
 }
 
 #[test]
@@ -79,8 +70,8 @@ fn what_is_not_held_is_not_read() {
     ok(&mut image, Call::Begin { transaction: 1, home: 0 });
     image[CONTROL..].fill(0xFF);
     for card in 0..CARDS {
-        for number in 0..BLOCKS {
-            image[block(card, number).start] = 0x7F;
+        for block in 0..BLOCKS {
+            image[block_at(card, block).start] = 0x7F;
         }
     }
     assert_eq!(perform(&mut image, &Call::Load { card: 0 }), Answer::Load(0));
@@ -92,12 +83,12 @@ fn what_is_not_held_is_not_read() {
     let mut wanted = [0; BLOCK_BYTES];
     wanted[0] = 0x80;
     wanted[6..11].copy_from_slice(&[0, 0, 0x0C, 0, 0]);
-    assert_eq!(image[block(0, 0)], wanted);
-    assert_eq!(image[block(1, 0)], wanted);
-    assert!(image[block(2, 0)].iter().skip(1).all(|byte| *byte == 0xFF));
+    assert_eq!(image[block_at(0, 0)], wanted);
+    assert_eq!(image[block_at(1, 0)], wanted);
+    assert!(image[block_at(2, 0)].iter().skip(1).all(|byte| *byte == 0xFF));
     // Unheld blocks keep their bytes at a commit.
     ok(&mut image, Call::Commit { transaction: 1 });
-    assert!(image[block(2, 0)].iter().skip(1).all(|byte| *byte == 0xFF));
+    assert!(image[block_at(2, 0)].iter().skip(1).all(|byte| *byte == 0xFF));
 }
 
 #[test]
@@ -105,10 +96,8 @@ fn commit_takes_locks_off_the_trail_too() {
     let mut image = started(0xF0);
     ok(&mut image, Call::Begin { transaction: 1, home: 0 });
     // Card 3 is no site of block 0, yet holds it.
-    image[block(3, 0).start] = 0x80;
-    let mut slot = read_slot(&image, 3, 0, 0);
-    slot.set_pending(1, Some(9));
-    write_slot(&mut image, 3, 0, 0, slot);
+    image[block_at(3, 0).start] = 0x80;
+    change_slot(&mut image, 3, 0, 0, |slot| slot.set_pending(1, Some(9)));
     assert_eq!(perform(&mut image, &Call::Get { transaction: 1, record: 0 }), Answer::Absent);
     ok(&mut image, Call::Commit { transaction: 1 });
     assert_eq!(read_slot(&image, 3, 0, 0).committed(), Some(9));
@@ -123,13 +112,11 @@ fn stop_rolls_back_on_working_cards_only() {
     ok(&mut image, Call::Store { transaction: 1, record: 0, value: 9 });
     ok(&mut image, Call::Store { transaction: 2, record: 8, value: 9 });
     // A lock by a number that is not open stays.
-    let mut slot = read_slot(&image, 0, 0, 3);
-    slot.set_pending(7, Some(1));
-    write_slot(&mut image, 0, 0, 3, slot);
-    let left = image[table(1)].to_vec();
+    change_slot(&mut image, 0, 0, 3, |slot| slot.set_pending(7, Some(1)));
+    let left = image[table_at(1)].to_vec();
     assert_eq!(perform(&mut image, &Call::Fail { card: 1 }), Answer::Stopped);
     assert_eq!(image[..23], [0x90, 0xC0, 0, 0, 0, 0x80, 0x40, 0, 0, 0, 0, 0, 0, 0, 0, 0, 0, 0, 0, 0, 0, 0, 0]);
-    assert!(image[table(1)] == left[..]);
+    assert!(image[table_at(1)] == left[..]);
     assert_eq!(read_slot(&image, 0, 0, 0).lock, 0);
     assert_eq!(read_slot(&image, 0, 1, 0).lock, 0);
     assert_eq!(read_slot(&image, 0, 0, 3).lock, 7);
@@ -142,9 +129,9 @@ fn absences_have_value_zero() {
     ok(&mut image, Call::Begin { transaction: 1, home: 0 });
     ok(&mut image, Call::Store { transaction: 1, record: 0, value: 9 });
     ok(&mut image, Call::Delete { transaction: 1, record: 0 });
-    assert_eq!(image[slot(0, 0, 0)], [0, 0, 0x08, 0, 0]);
+    assert_eq!(image[slot_at(0, 0, 0)], [0, 0, 0x08, 0, 0]);
     // A pending absence with a value, as no call leaves it.
-    image[slot(0, 0, 0)].copy_from_slice(&[0, 0, 0x08, 0, 0x24]);
+    image[slot_at(0, 0, 0)].copy_from_slice(&[0, 0, 0x08, 0, 0x24]);
     ok(&mut image, Call::Commit { transaction: 1 });
-    assert_eq!(image[slot(0, 0, 0)], [0, 0, 0, 0, 0]);
+    assert_eq!(image[slot_at(0, 0, 0)], [0, 0, 0, 0, 0]);
 }

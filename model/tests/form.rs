@@ -20,15 +20,7 @@ const CALLS: [Call; 14] = [
     Call::Load { card: 0 },
 ];
 
-fn with(control: &[(usize, u8)]) -> Vec<u8> {
-    let mut image = vec![0; LENGTH];
-    for (at, byte) in control {
-        image[*at] = *byte;
-    }
-    image
-}
-
-/// First five bytes, working, failed.
+/// A control part without open transactions: its first five bytes, working, failed.
 fn part(head: [u8; 5], working: u8, failed: u8) -> Vec<u8> {
     let mut image = vec![0; LENGTH];
     image[..5].copy_from_slice(&head);
@@ -196,7 +188,7 @@ fn length_comes_first() {
         assert_eq!(perform(&mut image, &Call::Start { mask: 0xFF }), Answer::Refused(1));
         assert!(image.iter().all(|byte| *byte == 0));
     }
-    let image = with(&[(0, 0x90), (1, 0xE0), (5, 0xE0)]);
+    let image = part([0x90, 0xE0, 0, 0, 0], 0xE0, 0);
     // 3 comes before 4.
     assert_eq!(perform(&mut image.clone(), &Call::Load { card: 8 }), Answer::Refused(3));
     assert_eq!(perform(&mut image.clone(), &Call::Load { card: 7 }), Answer::Refused(4));

@@ -144,7 +144,7 @@ fn situations(before: &[u8], call: &Call, answer: &Answer) -> Vec<String> {
         }
         (Call::Fit { card }, Answer::Ok) if has(control.failed, card as usize) => {
             found.push("fit of a failed card".into());
-            if before[table(card as usize)].iter().any(|byte| *byte != 0) {
+            if before[table_at(card as usize)].iter().any(|byte| *byte != 0) {
                 found.push("fit of a failed card with old contents".into());
             }
         }

@@ -1,6 +1,6 @@
 //! Image layout, slot fields and command form.
 
-use model::calls::{perform, Answer, Call};
+use model::calls::{perform, started, Answer, Call};
 use model::commands::{read_command, write_command};
 use model::control::Control;
 use model::image::*;
@@ -10,12 +10,12 @@ use model::random::Random;
 fn lengths() {
     assert_eq!(BLOCK_BYTES, 41);
     assert_eq!(TABLE_BYTES, 2_624);
-    assert_eq!(table(0).start, 32);
-    assert_eq!(table(7).end, LENGTH);
-    assert_eq!(block(0, 0), 32..73);
-    assert_eq!(block(7, 63).end, LENGTH);
-    assert_eq!(slot(0, 0, 0), 33..38);
-    assert_eq!(slot(7, 63, 7).end, LENGTH);
+    assert_eq!(table_at(0).start, 32);
+    assert_eq!(table_at(7).end, LENGTH);
+    assert_eq!(block_at(0, 0), 32..73);
+    assert_eq!(block_at(7, 63).end, LENGTH);
+    assert_eq!(slot_at(0, 0, 0), 33..38);
+    assert_eq!(slot_at(7, 63, 7).end, LENGTH);
 }
 
 #[test]
@@ -50,38 +50,34 @@ fn control_part() {
 
 #[test]
 fn unnamed_bits_are_kept_and_copied() {
-    let mut image = vec![0; LENGTH];
-    perform(&mut image, &Call::Start { mask: 0xE0 });
+    let mut image = started(0xE0);
     perform(&mut image, &Call::Begin { transaction: 3, home: 0 });
     perform(&mut image, &Call::Store { transaction: 3, record: 0, value: 7 });
     // Unnamed bits on card 0 alone.
-    image[block(0, 0).start] |= 0x55;
-    image[slot(0, 0, 0).end - 1] |= 3;
-    image[slot(0, 0, 1).end - 1] |= 2;
+    image[block_at(0, 0).start] |= 0x55;
+    image[slot_at(0, 0, 0).end - 1] |= 3;
+    image[slot_at(0, 0, 1).end - 1] |= 2;
     perform(&mut image, &Call::Store { transaction: 3, record: 0, value: 8 });
     perform(&mut image, &Call::Commit { transaction: 3 });
-    assert_eq!(image[block(0, 0).start], 0xD5);
-    assert_eq!(image[slot(0, 0, 0)], [0x80, 0x04, 0, 0, 3]);
-    assert_eq!(image[slot(0, 0, 1)], [0, 0, 0, 0, 2]);
-    assert_eq!(image[slot(1, 0, 0)], [0x80, 0x04, 0, 0, 0]);
+    assert_eq!(image[block_at(0, 0).start], 0xD5);
+    assert_eq!(image[slot_at(0, 0, 0)], [0x80, 0x04, 0, 0, 3]);
+    assert_eq!(image[slot_at(0, 0, 1)], [0, 0, 0, 0, 2]);
+    assert_eq!(image[slot_at(1, 0, 0)], [0x80, 0x04, 0, 0, 0]);
     // A copied block takes all 41 bytes; a copy that is met is kept.
-    let whole = image[block(0, 0)].to_vec();
+    let whole = image[block_at(0, 0)].to_vec();
     perform(&mut image, &Call::Place { mask: 0x60 });
     assert_eq!(perform(&mut image, &Call::Move { card: 0, block: 0 }), Answer::Copies(1));
-    assert!(image[block(2, 0)] == whole[..]);
-    assert_eq!(image[block(1, 0).start], 0x80);
-    assert!(image[block(0, 0)].iter().all(|byte| *byte == 0));
+    assert!(image[block_at(2, 0)] == whole[..]);
+    assert_eq!(image[block_at(1, 0).start], 0x80);
+    assert!(image[block_at(0, 0)].iter().all(|byte| *byte == 0));
 }
 
 #[test]
 fn rollback_leaves_the_value_and_commit_clears_it() {
-    let mut image = vec![0; LENGTH];
-    perform(&mut image, &Call::Start { mask: 0xC0 });
+    let mut image = started(0xC0);
     perform(&mut image, &Call::Begin { transaction: 2, home: 0 });
     perform(&mut image, &Call::Store { transaction: 2, record: 0, value: 8 });
-    let mut odd = read_slot(&image, 0, 0, 0);
-    odd.value = 99;
-    write_slot(&mut image, 0, 0, 0, odd);
+    change_slot(&mut image, 0, 0, 0, |slot| slot.value = 99);
     let mut rolled = image.clone();
     perform(&mut rolled, &Call::Rollback { transaction: 2 });
     let blank = Slot { present: false, value: 99, lock: 0, pending_present: false, pending_value: 0, rest: 0 };
@@ -120,7 +116,8 @@ fn command_form() {
     assert_eq!(read_command(&[0x00, 0, 0, 1, 0xE0]), None);
     assert_eq!(read_command(&[0x90, 0, 0, 1, 0x00]), None);
     assert_eq!(read_command(&[0xF0, 0, 0, 0, 0]), None);
-    assert_eq!(read_command(&[0x3F, 0x0F, 0xFF, 0xFF, 0xFF]), Some(Call::Store { transaction: 15, record: 4095, value: 65535 }));
+    let widest = Call::Store { transaction: 15, record: 4095, value: 65535 };
+    assert_eq!(read_command(&[0x3F, 0x0F, 0xFF, 0xFF, 0xFF]), Some(widest));
     assert_eq!(read_command(&[0x3F, 0x10, 0, 0, 0]), None);
     assert_eq!(read_command(&[0xB0, 0xFF, 0xFF, 0, 0]), Some(Call::Move { card: 15, block: 4095 }));
     assert_eq!(read_command(&[0xB1, 0xFF, 0xFF, 0, 0]), None);
@@ -132,7 +129,8 @@ fn command_form() {
     }
     // Each field that an operation lacks, set alone.
     let lacks: [&[u8]; 15] = [
-        b"tcn", b"nv", b"cv", b"c", b"cv", b"cnv", b"cnv", b"tnv", b"tnv", b"tcn", b"tnv", b"tv", b"tcnv", b"tcnv", b"tnv",
+        b"tcn", b"nv", b"cv", b"c", b"cv", b"cnv", b"cnv", b"tnv", b"tnv", b"tcn", b"tnv", b"tv", b"tcnv", b"tcnv",
+        b"tnv",
     ];
     for (operation, lacking) in lacks.iter().enumerate() {
         let zero = [(operation as u8) << 4, 0, 0, 0, 0];
@@ -170,8 +168,7 @@ fn writer_refuses_wide_numbers() {
         let mut lent = [0xAA; 5];
         assert!(!write_command(&call, &mut lent));
         assert_eq!(lent, [0xAA; 5]);
-        let mut image = vec![0; LENGTH];
-        perform(&mut image, &Call::Start { mask: 0xFF });
+        let mut image = started(0xFF);
         assert_eq!(perform(&mut image, &call), Answer::Refused(3));
     }
 }

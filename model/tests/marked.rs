@@ -1,15 +1,9 @@
 //! The marked examples M1 to M10 and the listing of document 01.
 
-use model::calls::{perform, Answer, Call};
-use model::image::{self, LENGTH};
+use model::calls::{perform, started, Answer, Call};
+use model::image::{held, slot_at, LENGTH};
 use model::listing::listing;
 use model::sites::sites;
-
-fn started(mask: u8) -> Vec<u8> {
-    let mut image = vec![0; LENGTH];
-    assert_eq!(perform(&mut image, &Call::Start { mask }), Answer::Ok);
-    image
-}
 
 fn begin(image: &mut [u8], transaction: u8, home: u8) {
     assert_eq!(perform(image, &Call::Begin { transaction, home }), Answer::Ok);
@@ -32,7 +26,7 @@ fn m3_last_record() {
     begin(&mut image, 1, 0);
     let store = |record| Call::Store { transaction: 1, record, value: 1 };
     assert_eq!(perform(&mut image, &store(511)), Answer::Ok);
-    assert!(image::held(&image, 7, 63) && image::held(&image, 0, 63));
+    assert!(held(&image, 7, 63) && held(&image, 0, 63));
     assert_eq!(perform(&mut image, &store(512)), Answer::Refused(3));
 }
 
@@ -49,11 +43,11 @@ fn m5_slot_bytes() {
     begin(&mut image, 1, 0);
     perform(&mut image, &Call::Store { transaction: 1, record: 9, value: 4660 });
     for card in 0..2 {
-        assert_eq!(image[image::slot(card, 1, 1)], [0x00, 0x00, 0x0C, 0x48, 0xD0]);
+        assert_eq!(image[slot_at(card, 1, 1)], [0x00, 0x00, 0x0C, 0x48, 0xD0]);
     }
     perform(&mut image, &Call::Commit { transaction: 1 });
     for card in 0..2 {
-        assert_eq!(image[image::slot(card, 1, 1)], [0x89, 0x1A, 0x00, 0x00, 0x00]);
+        assert_eq!(image[slot_at(card, 1, 1)], [0x89, 0x1A, 0x00, 0x00, 0x00]);
     }
 }
 

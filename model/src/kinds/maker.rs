@@ -1,0 +1,174 @@
+//! The maker of a command file: it keeps a store of its own and chooses each
+//! command by what that store has.
+
+use super::profiles::{profile, Profile};
+use super::{Kind, KINDS};
+use crate::calls::{perform, Answer, Call};
+use crate::commands::{read_command, write_command, COMMAND_BYTES};
+use crate::control::Control;
+use crate::image::{CONTROL, LENGTH, RECORDS};
+use crate::random::Random;
+use std::collections::VecDeque;
+
+pub struct Maker {
+    kind: Kind,
+    pub(super) profile: Profile,
+    pub(super) random: Random,
+    pub(super) image: Vec<u8>,
+    pub(super) records: Vec<u16>,
+    pub(super) plan: VecDeque<Call>,
+    /// The plan goes on without other commands between.
+    pub(super) steady: bool,
+    /// Calls before the first start.
+    before: Vec<Call>,
+}
+
+/// Five bytes of a command; the numbers fit their fields.
+pub(super) fn bytes_of(call: &Call) -> [u8; COMMAND_BYTES] {
+    let mut bytes = [0; COMMAND_BYTES];
+    assert!(write_command(call, &mut bytes), "{call:?} is too wide");
+    bytes
+}
+
+impl Maker {
+    pub fn new(kind: Kind, seed: u64) -> Maker {
+        let at = KINDS.iter().position(|(_, known)| *known == kind).unwrap() as u64;
+        let mut random = Random::new(seed.wrapping_mul(64).wrapping_add(at));
+        let profile = profile(kind);
+        let mut records: Vec<u16> = (0..RECORDS as u16).collect();
+        random.shuffle(&mut records);
+        if profile.pool > 0 {
+            records.truncate(profile.pool);
+        }
+        if kind == Kind::Edges {
+            records.extend([0, 7, 8, 503, 504, 511]);
+        }
+        let image = vec![0; LENGTH];
+        let (plan, before) = (VecDeque::new(), Vec::new());
+        let mut maker = Maker { kind, profile, random, image, records, plan, steady: false, before };
+        if kind == Kind::Refusals {
+            maker.before = maker.calls_before_a_start();
+        }
+        maker
+    }
+
+    /// Chooses a command and runs it on the store kept beside.
+    pub fn next_command(&mut self) -> [u8; COMMAND_BYTES] {
+        let bytes = self.choose();
+        if let Some(call) = read_command(&bytes) {
+            let answer = perform(&mut self.image, &call);
+            if matches!(answer, Answer::Stopped) || matches!(call, Call::Start { .. }) {
+                self.plan.clear();
+            }
+        }
+        bytes
+    }
+
+    /// One to four bytes.
+    pub(super) fn part_of_a_command(&mut self) -> Vec<u8> {
+        let mut bytes = vec![0; 1 + self.random.below(COMMAND_BYTES - 1)];
+        self.random.fill(&mut bytes);
+        bytes
+    }
+
+    fn choose(&mut self) -> [u8; COMMAND_BYTES] {
+        if let Some(call) = self.before.pop() {
+            return bytes_of(&call);
+        }
+        if self.steady {
+            if let Some(call) = self.plan.pop_front() {
+                return bytes_of(&call);
+            }
+            self.steady = false;
+        }
+        match self.kind {
+            Kind::Noise => self.noise(),
+            Kind::Flips => self.flipped(),
+            Kind::Edges if self.random.chance(350) => self.edge(),
+            Kind::Refusals if self.random.chance(500) => self.aimed(),
+            _ if self.random.chance(self.profile.malformed) => self.malformed(),
+            _ => bytes_of(&self.ordinary()),
+        }
+    }
+
+    /// None before the first start and after a stop.
+    pub(super) fn running(&self) -> Option<Control> {
+        Control::read(&self.image).filter(|control| !control.stopped)
+    }
+
+    /// A call by the plan or by the profile's weights.
+    pub(super) fn ordinary(&mut self) -> Call {
+        let Some(control) = self.running() else { return self.outside() };
+        self.refill_plan(&control);
+        if let Some(call) = self.planned(&control) {
+            return call;
+        }
+        let operation = self.operation();
+        if self.random.chance(self.profile.wild) {
+            return self.careless(operation);
+        }
+        let crowded = operation == 1 && control.open().len() > self.profile.open;
+        if crowded && self.random.chance(700) {
+            let commit = 5;
+            return self.careful(commit, &control);
+        }
+        self.careful(operation, &control)
+    }
+
+    /// A start, or a call that is refused where no store runs.
+    fn outside(&mut self) -> Call {
+        if !self.random.chance(self.profile.outside) {
+            return self.start_call();
+        }
+        let operation = self.random.below(15) as u8;
+        match self.careless(operation) {
+            Call::Start { .. } => Call::Start { mask: self.random.one_of(&[0, 0x80, 0x01, 0x10]) },
+            call => call,
+        }
+    }
+
+    fn refill_plan(&mut self, control: &Control) {
+        let empty = self.image[CONTROL..].iter().all(|byte| *byte == 0);
+        if empty && self.plan.is_empty() && self.random.chance(600) {
+            self.plan_batch(control, true);
+        }
+        if !self.plan.is_empty() {
+            return;
+        }
+        if self.random.chance(self.profile.reorganise) {
+            self.plan_reorganisation(control);
+        } else if self.random.chance(self.profile.batch) {
+            let writes = self.random.chance(600);
+            self.plan_batch(control, writes);
+        } else if self.random.chance(self.profile.four) {
+            self.plan_four(control);
+        }
+    }
+
+    /// Most often the plan's next call. Most uses of a transaction closed
+    /// meanwhile are left out.
+    fn planned(&mut self, control: &Control) -> Option<Call> {
+        if !self.random.chance(880) {
+            return None;
+        }
+        while let Some(call) = self.plan.pop_front() {
+            let closed = call.used_transaction().is_some_and(|transaction| !control.is_open(transaction));
+            if !closed || self.random.chance(50) {
+                return Some(call);
+            }
+        }
+        None
+    }
+
+    fn operation(&mut self) -> u8 {
+        let total: usize = self.profile.weights.iter().sum();
+        let mut left = self.random.below(total);
+        for (operation, weight) in (0..).zip(self.profile.weights) {
+            if left < weight {
+                return operation;
+            }
+            left -= weight;
+        }
+        unreachable!()
+    }
+}
