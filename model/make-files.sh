@@ -1,12 +1,14 @@
 #!/bin/sh
-# Makes the stored command files and their listings anew, from fixed seeds.
+# Makes the stored command files and their listings anew, from fixed seeds:
+# crates/file_KIND/stdin and crates/file_KIND/stdout.
 set -eu
 cd "$(dirname "$0")"
 cargo build --release --offline --quiet
-mkdir -p files
 while read -r kind seed count; do
-    target/release/generate "$kind" "$seed" "$count" > "files/$kind.bin"
-    target/release/listing < "files/$kind.bin" > "files/$kind.txt"
+    folder=../crates/file_$kind
+    mkdir -p "$folder"
+    target/release/generate "$kind" "$seed" "$count" > "$folder/stdin"
+    target/release/listing < "$folder/stdin" > "$folder/stdout"
 done <<LIST
 mixed 101 3000
 reorganise 102 3000
@@ -21,4 +23,4 @@ refusals 110 3000
 pairs 111 3000
 sweep 112 3000
 LIST
-target/release/count files/*.bin
+target/release/count ../crates/file_*/stdin

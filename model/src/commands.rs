@@ -79,7 +79,7 @@ impl Fields {
 /// None when malformed.
 pub fn read_command(bytes: &[u8]) -> Option<Call> {
     let fields = Fields::unpack(bytes.try_into().ok()?);
-    (fields.named() == fields).then(|| fields.call()).flatten()
+    if fields.named() == fields { fields.call() } else { None }
 }
 
 /// False when refused; the bytes are then as found.

@@ -11,6 +11,7 @@ pub mod listing;
 pub mod plain;
 pub mod random;
 pub mod sites;
+pub mod situations;
 pub mod tally;
 
 pub use calls::{perform, Answer, Call};

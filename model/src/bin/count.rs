@@ -1,8 +1,8 @@
 //! count FILE..: counts the answers and refusals over command files, for each
-//! file and over all, and says which of the answers and of 2 to 15 are missing.
-//! With --pairs first, also by operation and answer over all files.
+//! file and over all, and says which answers of an operation and which situations
+//! are missing. With --pairs first, also by operation and answer over all files.
 
-use model::tally::{Tally, ANSWERS, OPERATIONS};
+use model::tally::{Tally, ANSWERS, MARKS};
 use std::process::exit;
 
 fn print(name: &str, tally: &Tally) {
@@ -13,6 +13,9 @@ fn print(name: &str, tally: &Tally) {
     let refusals: Vec<String> =
         (1..=15).map(|n| format!("{n}: {}", tally.count(&format!("refused {n}")))).collect();
     println!("  refused {}", refusals.join(", "));
+    let marks: Vec<String> =
+        MARKS.iter().map(|(word, name)| format!("{word} {}", tally.count(name))).collect();
+    println!("  {}", marks.join(", "));
 }
 
 fn main() {
@@ -38,13 +41,13 @@ fn main() {
     }
     print("all", &all);
     if pairs {
-        for ((operation, label), number) in &all.pairs {
-            println!("  {} {label}: {number}", OPERATIONS[*operation as usize]);
+        for (pair, number) in &all.pairs {
+            println!("  {pair}: {number}");
         }
     }
     let missing = all.missing();
     if missing.is_empty() {
-        println!("every answer and every refusal from 2 to 15 occurs");
+        println!("every answer of every operation and every situation occurs");
     } else {
         println!("missing: {}", missing.join(", "));
         exit(1);
