@@ -7,14 +7,11 @@ use std::process::exit;
 fn main() -> io::Result<()> {
     let words: Vec<String> = std::env::args().skip(1).collect();
     let parsed = match &words[..] {
-        [kind, seed, commands] => {
-            kinds::kind(kind).zip(seed.parse().ok()).zip(commands.parse().ok())
-        }
+        [kind, seed, commands] => kinds::kind(kind).zip(seed.parse().ok()).zip(commands.parse().ok()),
         _ => None,
     };
     let Some(((kind, seed), commands)) = parsed else {
-        let names: Vec<&str> = kinds::KINDS.iter().map(|(name, _)| *name).collect();
-        eprintln!("usage: generate KIND SEED COUNT\nkinds: {}", names.join(" "));
+        eprintln!("usage: generate KIND SEED COUNT\nkinds: {}", kinds::names());
         exit(2);
     };
     io::stdout().lock().write_all(&kinds::generate(kind, seed, commands))

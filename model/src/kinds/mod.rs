@@ -45,6 +45,11 @@ pub fn kind(name: &str) -> Option<Kind> {
     KINDS.iter().find(|(known, _)| *known == name).map(|(_, kind)| *kind)
 }
 
+/// The names of all kinds, with spaces between.
+pub fn names() -> String {
+    KINDS.map(|(name, _)| name).join(" ")
+}
+
 /// A whole command file. Noise ends within a command.
 pub fn generate(kind: Kind, seed: u64, commands: usize) -> Vec<u8> {
     let mut maker = Maker::new(kind, seed);
