@@ -126,19 +126,10 @@ pub fn perform(image: &mut [u8], call: &Call) -> Answer {
     if let Call::Start { mask } = *call {
         return start(image, mask);
     }
-    let control = match Control::read(image) {
-        Some(control) => control,
-        None => return Answer::Refused(2),
+    let control = match admit(image, call) {
+        Err(refused) => return refused,
+        Ok(control) => control,
     };
-    if !call.in_range() {
-        return Answer::Refused(3);
-    }
-    if control.stopped {
-        return Answer::Refused(4);
-    }
-    if call.used_transaction().is_some_and(|transaction| !control.is_open(transaction)) {
-        return Answer::Refused(5);
-    }
     match *call {
         Call::Start { .. } => unreachable!(),
         Call::Begin { transaction, home } => begin(image, control, transaction, home),
@@ -159,6 +150,21 @@ pub fn perform(image: &mut [u8], call: &Call) -> Answer {
         Call::State => Answer::Unprotected,
         Call::Load { card } => load(image, &control, card as usize),
     }
+}
+
+/// The lowest that applies of refusals 2 to 5, else the control part.
+fn admit(image: &[u8], call: &Call) -> Result<Control, Answer> {
+    let control = Control::read(image).ok_or(Answer::Refused(2))?;
+    if !call.in_range() {
+        return Err(Answer::Refused(3));
+    }
+    if control.stopped {
+        return Err(Answer::Refused(4));
+    }
+    if call.used_transaction().is_some_and(|transaction| !control.is_open(transaction)) {
+        return Err(Answer::Refused(5));
+    }
+    Ok(control)
 }
 
 fn start(image: &mut [u8], mask: u8) -> Answer {

@@ -40,6 +40,7 @@ impl Fields {
         ])
     }
 
+    /// The fields of a call; those that it lacks are zero.
     pub fn of(call: &Call) -> Fields {
         let (operation, transaction, card, number, value) = match *call {
             Call::Start { mask } => (0, 0, 0, 0, mask as u16),

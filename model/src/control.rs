@@ -40,7 +40,7 @@ impl Control {
     /// None when the form is broken.
     pub fn read(bytes: &[u8]) -> Option<Control> {
         let number = (bytes[0] >> 4 & 7) as usize;
-        if number < 1 || number > 4 {
+        if !(1..=4).contains(&number) {
             return None;
         }
         if bytes[0] & 0x0F != 0 || bytes[7] != 0 {

@@ -6,7 +6,7 @@ use crate::image::*;
 use crate::random::Random;
 use crate::sites::{members, sites};
 
-/// A whole image; its control form is mostly whole.
+/// An image of the right length; its control form is often whole.
 pub fn random_image(random: &mut Random) -> Vec<u8> {
     let mut image = vec![0; LENGTH];
     random_control(random, &mut image);
@@ -18,13 +18,8 @@ fn random_mask(random: &mut Random, from: u8) -> u8 {
     from & (random.byte() | random.byte())
 }
 
-/// A control part that is often whole.
-pub fn random_control(random: &mut Random, image: &mut [u8]) {
-    let mut failed = 0;
-    for _ in 0..random.below(4) {
-        failed |= bit(random.below(CARDS));
-    }
-    let working = (random.byte() | random.byte() | random.byte()) & !failed;
+/// One to four masks, of which few break the form.
+fn random_placements(random: &mut Random, working: u8, failed: u8) -> Vec<u8> {
     let number = 1 + random.below(4);
     let mut placements = Vec::new();
     for _ in 0..number {
@@ -41,12 +36,22 @@ pub fn random_control(random: &mut Random, image: &mut [u8]) {
     if let Some(newest) = placements.last_mut() {
         *newest &= working;
     }
+    placements
+}
+
+/// A control part that is often whole.
+fn random_control(random: &mut Random, image: &mut [u8]) {
+    let mut failed = 0;
+    for _ in 0..random.below(4) {
+        failed |= bit(random.below(CARDS));
+    }
+    let working = (random.byte() | random.byte() | random.byte()) & !failed;
+    let placements = random_placements(random, working, failed);
     let stopped = random.chance(50);
     let mut homes = NO_HOMES;
     for home in &mut homes[1..] {
         if !stopped && working != 0 && random.chance(300) {
-            let cards = members(working);
-            *home = Some(random.one_of(&cards) as u8);
+            *home = Some(random.one_of(&members(working)) as u8);
         }
     }
     Control { stopped, placements, working, failed, homes }.write(image);
@@ -56,7 +61,7 @@ pub fn random_control(random: &mut Random, image: &mut [u8]) {
 }
 
 /// Tables of any bytes, with few held blocks and few locks.
-pub fn random_tables(random: &mut Random, image: &mut [u8]) {
+fn random_tables(random: &mut Random, image: &mut [u8]) {
     random.fill(&mut image[CONTROL..]);
     let dense = random.one_of(&[20, 200, 500, 1000]);
     let locked = random.one_of(&[0, 20, 300]);

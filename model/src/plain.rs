@@ -1,8 +1,8 @@
 //! The plain record list, fed the calls with their arguments alone.
 
-use crate::calls::{perform, Answer, Call};
-use crate::control::{bit, count, has};
-use crate::image::{LENGTH, RECORDS};
+use crate::calls::{perform, started, Answer, Call};
+use crate::control::{bit, count, has, Homes, NO_HOMES};
+use crate::image::RECORDS;
 
 #[derive(Clone, Copy)]
 struct Record {
@@ -15,7 +15,7 @@ const BLANK: Record = Record { committed: None, lock: 0, pending: None };
 
 pub struct Plain {
     records: [Record; RECORDS],
-    homes: [Option<u8>; 16],
+    homes: Homes,
     pub working: u8,
     pub failed: u8,
     pub active: Vec<u8>,
@@ -34,174 +34,125 @@ pub enum Expected {
     Free,
 }
 
+/// The number of the first condition that holds.
+fn lowest(conditions: &[(u8, bool)]) -> Option<u8> {
+    conditions.iter().find(|(_, holds)| *holds).map(|(number, _)| *number)
+}
+
 impl Plain {
-    /// The list after an accepted start; None if the start is refused.
-    pub fn start(mask: u8) -> Option<Plain> {
-        if count(mask) < 2 {
-            return None;
-        }
-        let mut rules = vec![0; LENGTH];
-        perform(&mut rules, &Call::Start { mask });
-        Some(Plain {
+    /// The list after an accepted start.
+    pub fn start(mask: u8) -> Plain {
+        Plain {
             records: [BLANK; RECORDS],
-            homes: [None; 16],
+            homes: NO_HOMES,
             working: mask,
             failed: 0,
             active: vec![mask],
-            rules,
-        })
+            rules: started(mask),
+        }
     }
 
     fn newest(&self) -> u8 {
         self.active[self.active.len() - 1]
     }
 
-    fn in_active(&self, card: u8) -> bool {
-        self.active.iter().any(|mask| has(*mask, card as usize))
-    }
-
-    /// Refusals of begin, fit, withdraw and place, from the fields alone.
-    pub fn refusal(&self, call: &Call) -> Option<u8> {
+    /// Refusals that the list knows by itself: of all calls but settle, fail,
+    /// move, state and load.
+    fn refusal(&self, call: &Call) -> Option<u8> {
+        let is_open = |transaction: u8| self.homes[transaction as usize].is_some();
+        let works = |card: u8| has(self.working, card as usize);
+        let placed = |card: u8| self.active.iter().any(|mask| has(*mask, card as usize));
         match *call {
+            Call::Settle | Call::Fail { .. } | Call::Move { .. } | Call::State | Call::Load { .. } => None,
+            _ if !call.in_range() => Some(3),
+            Call::Start { mask } => lowest(&[(9, count(mask) < 2)]),
             Call::Begin { transaction, home } => {
-                if transaction == 0 || transaction > 15 || home > 7 {
-                    Some(3)
-                } else if self.homes[transaction as usize].is_some() {
-                    Some(6)
-                } else if !has(self.newest(), home as usize) {
-                    Some(8)
-                } else {
-                    None
-                }
+                lowest(&[(6, is_open(transaction)), (8, !has(self.newest(), home as usize))])
             }
-            Call::Fit { card } => {
-                if card > 7 {
-                    Some(3)
-                } else if has(self.working, card as usize) || self.in_active(card) {
-                    Some(8)
-                } else {
-                    None
-                }
+            Call::Get { transaction, record }
+            | Call::Store { transaction, record, .. }
+            | Call::Delete { transaction, record } => {
+                let lock = self.records[record as usize].lock;
+                lowest(&[(5, !is_open(transaction)), (7, lock != 0 && lock != transaction)])
             }
+            Call::Commit { transaction } | Call::Rollback { transaction } => lowest(&[(5, !is_open(transaction))]),
+            Call::Fit { card } => lowest(&[(8, works(card) || placed(card))]),
             Call::Withdraw { card } => {
-                if card > 7 {
-                    Some(3)
-                } else if !has(self.working, card as usize) || self.in_active(card) {
-                    Some(8)
-                } else if self.homes.contains(&Some(card)) {
-                    Some(14)
-                } else {
-                    None
-                }
+                lowest(&[(8, !works(card) || placed(card)), (14, self.homes.contains(&Some(card)))])
             }
             Call::Place { mask } => {
-                if count(mask) < 2 || mask & !self.working != 0 || mask == self.newest() {
-                    Some(9)
-                } else if self.active.len() >= 3 {
-                    Some(10)
-                } else {
-                    None
-                }
+                let unfit = count(mask) < 2 || mask & !self.working != 0 || mask == self.newest();
+                lowest(&[(9, unfit), (10, self.active.len() >= 3)])
             }
-            _ => None,
         }
     }
 
-    /// Steps the list. A start goes on with the list only if accepted.
+    /// Steps the list.
     pub fn step(&mut self, call: &Call) -> Expected {
-        let rules_answer = perform(&mut self.rules, call);
+        let by_the_rules = perform(&mut self.rules, call);
         if let Some(number) = self.refusal(call) {
             return Expected::Exactly(Answer::Refused(number));
         }
         match *call {
-            Call::Start { mask } => match Plain::start(mask) {
-                Some(fresh) => {
-                    *self = fresh;
-                    Expected::Exactly(Answer::Ok)
+            Call::Fail { card } => self.fail(card),
+            Call::Move { .. } | Call::State | Call::Load { .. } => Expected::Free,
+            Call::Settle => {
+                if let Answer::Retired(_) = by_the_rules {
+                    self.active = vec![self.newest()];
                 }
-                None => Expected::Exactly(Answer::Refused(9)),
-            },
-            Call::Begin { transaction, home } => {
-                self.homes[transaction as usize] = Some(home);
-                Expected::Exactly(Answer::Ok)
+                Expected::Exactly(by_the_rules)
             }
-            Call::Get { transaction, record } => Expected::Exactly(self.get(transaction, record)),
-            Call::Store { transaction, record, value } => {
-                match self.get(transaction, record) {
-                    refused @ Answer::Refused(_) => Expected::Exactly(refused),
-                    _ => {
-                        let entry = &mut self.records[record as usize];
-                        entry.lock = transaction;
-                        entry.pending = Some(value);
-                        Expected::Exactly(Answer::Ok)
-                    }
-                }
+            _ => Expected::Exactly(self.accept(call)),
+        }
+    }
+
+    /// Steps the list by a call of those that it can refuse, and does not.
+    fn accept(&mut self, call: &Call) -> Answer {
+        match *call {
+            Call::Start { mask } => *self = Plain::start(mask),
+            Call::Begin { transaction, home } => self.homes[transaction as usize] = Some(home),
+            Call::Get { transaction, record } => {
+                return self.seen(transaction, record).map_or(Answer::Absent, Answer::Value);
             }
-            Call::Delete { transaction, record } => match self.get(transaction, record) {
-                Answer::Value(_) => {
-                    let entry = &mut self.records[record as usize];
-                    entry.lock = transaction;
-                    entry.pending = None;
-                    Expected::Exactly(Answer::Ok)
+            Call::Store { transaction, record, value } => self.lock(transaction, record, Some(value)),
+            Call::Delete { transaction, record } => {
+                if self.seen(transaction, record).is_none() {
+                    return Answer::Absent;
                 }
-                absent_or_refused => Expected::Exactly(absent_or_refused),
-            },
-            Call::Commit { transaction } => Expected::Exactly(self.end(transaction, true)),
-            Call::Rollback { transaction } => Expected::Exactly(self.end(transaction, false)),
+                self.lock(transaction, record, None);
+            }
+            Call::Commit { transaction } => self.end(transaction, true),
+            Call::Rollback { transaction } => self.end(transaction, false),
             Call::Fit { card } => {
                 self.working |= bit(card as usize);
                 self.failed &= !bit(card as usize);
-                Expected::Exactly(Answer::Ok)
             }
-            Call::Withdraw { card } => {
-                self.working &= !bit(card as usize);
-                Expected::Exactly(Answer::Ok)
-            }
-            Call::Place { mask } => {
-                self.active.push(mask);
-                Expected::Exactly(Answer::Ok)
-            }
-            Call::Settle => {
-                if let Answer::Retired(_) = rules_answer {
-                    self.active = vec![self.newest()];
-                }
-                Expected::Exactly(rules_answer)
-            }
-            Call::Fail { card } => self.fail(card),
-            Call::Move { .. } | Call::State | Call::Load { .. } => Expected::Free,
+            Call::Withdraw { card } => self.working &= !bit(card as usize),
+            Call::Place { mask } => self.active.push(mask),
+            _ => unreachable!("{call:?}"),
         }
+        Answer::Ok
     }
 
-    fn get(&self, transaction: u8, record: u16) -> Answer {
-        if transaction == 0 || transaction > 15 || record > 511 {
-            return Answer::Refused(3);
-        }
-        if self.homes[transaction as usize].is_none() {
-            return Answer::Refused(5);
-        }
+    /// What a get of the transaction sees.
+    fn seen(&self, transaction: u8, record: u16) -> Option<u16> {
         let entry = &self.records[record as usize];
-        let state = if entry.lock == transaction {
-            entry.pending
-        } else if entry.lock == 0 {
-            entry.committed
-        } else {
-            return Answer::Refused(7);
-        };
-        state.map_or(Answer::Absent, Answer::Value)
+        if entry.lock == transaction { entry.pending } else { entry.committed }
     }
 
-    fn end(&mut self, transaction: u8, take: bool) -> Answer {
-        if transaction == 0 || transaction > 15 {
-            return Answer::Refused(3);
-        }
-        if self.homes[transaction as usize].take().is_none() {
-            return Answer::Refused(5);
-        }
+    fn lock(&mut self, transaction: u8, record: u16, pending: Option<u16>) {
+        let entry = &mut self.records[record as usize];
+        entry.lock = transaction;
+        entry.pending = pending;
+    }
+
+    /// The records that the transaction locks take or drop the pending state; it closes.
+    fn end(&mut self, transaction: u8, take: bool) {
         for entry in self.records.iter_mut().filter(|entry| entry.lock == transaction) {
             let committed = if take { entry.pending } else { entry.committed };
             *entry = Record { committed, ..BLANK };
         }
-        Answer::Ok
+        self.homes[transaction as usize] = None;
     }
 
     fn fail(&mut self, card: u8) -> Expected {

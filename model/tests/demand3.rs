@@ -48,7 +48,7 @@ fn run(maker: &mut Maker, random: &mut Random, commands: usize, name: &str, seen
         let answer = perform(&mut image, &call);
         let Some(list) = &mut plain else {
             if let (Call::Start { mask }, Answer::Ok) = (call, answer) {
-                plain = Plain::start(mask);
+                plain = Some(Plain::start(mask));
             }
             continue;
         };

@@ -78,7 +78,7 @@ fn zero_fields() {
     }
     for bit in bits {
         let mut image = good.clone();
-        image[bit / 8] |= 0x80 >> bit % 8;
+        image[bit / 8] |= 0x80 >> (bit % 8);
         broken(image);
     }
     for transaction in 1..=15 {

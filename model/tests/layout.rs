@@ -138,7 +138,7 @@ fn command_form() {
         for (name, bits) in [(b't', 4..8), (b'c', 8..12), (b'n', 12..24), (b'v', 24..40)] {
             for bit in bits {
                 let mut bytes = zero;
-                bytes[bit / 8] |= 0x80 >> bit % 8;
+                bytes[bit / 8] |= 0x80 >> (bit % 8);
                 let mask_too_wide = matches!(operation, 0 | 9) && name == b'v' && bit < 32;
                 let malformed = lacking.contains(&name) || mask_too_wide;
                 assert_eq!(read_command(&bytes).is_none(), malformed, "{bytes:?}");

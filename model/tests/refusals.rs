@@ -8,20 +8,32 @@ use model::image::*;
 use model::random::Random;
 use model::sites::sites;
 
+/// Refusal 7.
+fn locked_by_other(image: &[u8], control: &Control, transaction: u8, record: u16) -> bool {
+    let (block, place) = (record as usize / 8, record as usize % 8);
+    control.placements.iter().any(|mask| {
+        sites(*mask, block).iter().any(|card| {
+            let lock = read_slot(image, *card, block, place).lock;
+            !has(control.failed, *card) && held(image, *card, block) && lock != 0 && lock != transaction
+        })
+    })
+}
+
+/// Refusal 13.
+fn unsettled(image: &[u8], control: &Control) -> bool {
+    (0..BLOCKS).any(|block| {
+        let on = |card: usize| has(control.working, card) && held(image, card, block);
+        let pair = sites(control.newest(), block);
+        let spread = (0..CARDS).any(|card| on(card) && !pair.contains(&card));
+        spread || on(pair[0]) != on(pair[1])
+    })
+}
+
 /// Lines 4 to 14 of the table, each on its own, for numbers in their ranges.
 fn applies(number: u8, image: &[u8], control: &Control, call: &Call) -> bool {
     let open = |t: u8| control.homes[t as usize].is_some();
     let in_some = |card: u8| control.placements.iter().any(|mask| has(*mask, card as usize));
     let works = |card: u8| has(control.working, card as usize);
-    let locked_by_other = |t: u8, record: u16| {
-        let (b, place) = (record as usize / 8, record as usize % 8);
-        control.placements.iter().any(|mask| {
-            sites(*mask, b).iter().any(|card| {
-                let lock = read_slot(image, *card, b, place).lock;
-                !has(control.failed, *card) && held(image, *card, b) && lock != 0 && lock != t
-            })
-        })
-    };
     match (number, *call) {
         (4, _) => control.stopped,
         (
@@ -38,7 +50,7 @@ fn applies(number: u8, image: &[u8], control: &Control, call: &Call) -> bool {
             Call::Get { transaction, record }
             | Call::Store { transaction, record, .. }
             | Call::Delete { transaction, record },
-        ) => locked_by_other(transaction, record),
+        ) => locked_by_other(image, control, transaction, record),
         (8, Call::Fit { card }) => works(card) || in_some(card),
         (8, Call::Withdraw { card }) => !works(card) || in_some(card),
         (8, Call::Begin { home, .. }) => !has(control.newest(), home as usize),
@@ -51,13 +63,7 @@ fn applies(number: u8, image: &[u8], control: &Control, call: &Call) -> bool {
         (12, Call::Move { card, block }) => {
             (0..8).any(|place| read_slot(image, card as usize, block as usize, place).lock != 0)
         }
-        (13, Call::Settle) => (0..BLOCKS).any(|b| {
-            let on = |card: usize| has(control.working, card) && held(image, card, b);
-            let pair = sites(control.newest(), b);
-            let spread = (0..CARDS).any(|card| on(card) && !pair.contains(&card));
-            let half = on(pair[0]) != on(pair[1]);
-            spread || half
-        }),
+        (13, Call::Settle) => unsettled(image, control),
         (14, Call::Withdraw { card }) => control.homes.contains(&Some(card)),
         _ => false,
     }

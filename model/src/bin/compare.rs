@@ -138,7 +138,8 @@ fn main() {
         }
     }
     let Totals { files, commands, differences } = totals;
-    print!("{files} files, {commands} commands, {differences} differences; seeds {} to {}", request.first, request.last);
-    println!("{}", if request.bad_inputs { format!(", noise seed {NOISE_SEED}") } else { String::new() });
+    let noise = if request.bad_inputs { format!(", noise seed {NOISE_SEED}") } else { String::new() };
+    let Request { first, last, .. } = request;
+    println!("{files} files, {commands} commands, {differences} differences; seeds {first} to {last}{noise}");
     exit(if differences == 0 { 0 } else { 1 });
 }

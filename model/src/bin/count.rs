@@ -20,7 +20,7 @@ fn print(name: &str, tally: &Tally) {
 
 fn main() {
     let mut files: Vec<String> = std::env::args().skip(1).collect();
-    let pairs = files.first().map_or(false, |word| word == "--pairs");
+    let pairs = files.first().is_some_and(|word| word == "--pairs");
     if pairs {
         files.remove(0);
     }
