@@ -43,8 +43,8 @@ fn possible() -> BTreeSet<String> {
     all
 }
 
-/// Words for some of the answers and situations, with their names.
-pub const MARKS: [(&str, &str); 4] = [
+/// Answers and situations that are counted by a word of their own.
+pub const SPECIAL_CASES: [(&str, &str); 4] = [
     ("four active", "placed with 3 active"),
     ("stops", "stopped"),
     ("conflicts", "refused 7"),

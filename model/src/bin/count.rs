@@ -1,8 +1,8 @@
-//! count FILE..: counts the answers and refusals over command files, for each
-//! file and over all, and says which answers of an operation and which situations
+//! count FILE..: counts answers, refusals and special cases over command files, for
+//! each and over all, and says which answers of an operation and which situations
 //! are missing. With --pairs first, also by operation and answer over all files.
 
-use model::tally::{Tally, ANSWERS, MARKS};
+use model::tally::{Tally, ANSWERS, SPECIAL_CASES};
 use std::process::exit;
 
 fn print(name: &str, tally: &Tally) {
@@ -13,9 +13,9 @@ fn print(name: &str, tally: &Tally) {
     let refusals: Vec<String> =
         (1..=15).map(|n| format!("{n}: {}", tally.count(&format!("refused {n}")))).collect();
     println!("  refused {}", refusals.join(", "));
-    let marks: Vec<String> =
-        MARKS.iter().map(|(word, name)| format!("{word} {}", tally.count(name))).collect();
-    println!("  {}", marks.join(", "));
+    let special: Vec<String> =
+        SPECIAL_CASES.iter().map(|(word, name)| format!("{word} {}", tally.count(name))).collect();
+    println!("  {}", special.join(", "));
 }
 
 fn main() {
