@@ -25,9 +25,9 @@ use Rattle.method.specs.Rules.{unplaced, writing}
 use Rattle.method.proofs.Refusals.{row-3}
 use Rattle.control.specs.ControlBytes.{Part}
 use Rattle.control.specs.ControlForm.{formRefusal, fourthOk, isSafe}
-use Rattle.control.specs.Meaning.{Is, maskIn, meaning}
+use Rattle.control.specs.Meaning.{Is, maskIn, meaning, newestMask}
 use Rattle.control.proofs.RoundTrip.{form-part, part-clauses}
-use Rattle.control.proofs.Struct.{length-placements}
+use Rattle.control.proofs.Struct.{length-placements, newest-by}
 use Rattle.cabinet_rules.specs.Cabinet.{cabinet, mostPlaced}
 use Rattle.cabinet_rules.specs.Images.{Image, controlIn, planOn, stateIn}
 use Rattle.cabinet_rules.proofs.Form.{safe-is}
@@ -180,5 +180,5 @@ module _ (g : Image) (clear : formRefusal g ≡ 0) (k : Struct) (i : Is k (contr
               omega (arith, e, older-count k, i .counted .few)
 
   -- the newest mask in the struct
-  pub newest-is : byte (maskIn k (k .count - 1)) ≡ controlIn g .newest .mask
-  newest-is = unfold meaning in (ap (λ (p : Part). p .newest .mask) (i .means))
+  pub newest-is : {n : ℕ} → n ≡ newestMask k → byte n ≡ controlIn g .newest .mask
+  newest-is {n} e = ap (λ (p : Placement). p .mask) (newest-by k n e) ∙ ap (λ (p : Part). p .newest .mask) (i .means)

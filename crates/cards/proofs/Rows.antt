@@ -16,7 +16,7 @@ use Rattle.method.specs.PlainList.{noBlocks}
 use Rattle.method.specs.Rules.{Call, View, fit, inActive, place, refusal, row, withdraw}
 use Rattle.method.proofs.Refusals.{row-3, row-clear}
 use Rattle.control.specs.ControlBytes.{Part, placementsIn}
-use Rattle.control.specs.Meaning.{Counted, maskIn, meaning}
+use Rattle.control.specs.Meaning.{Counted, maskIn, newestMask, meaning}
 use Rattle.control.proofs.Struct.{active-is, length-placements}
 use Rattle.cabinet_rules.specs.Cabinet.{cabinet, mostPlaced, placeRows}
 use Rattle.tables.specs.Tables.{setOf}
@@ -54,15 +54,15 @@ withdraw-by k c w a n ew ea en =
     ∙ ap (λ (x : Bool). row 3 (not (ltb c cardCount)) (row 4 (k .stopped) (row 8 (not (hasCard (byte (k .working)) c) || inActive cabinet (meaning k) c) (row 14 x 0)))) (ap (λ (x : ℕ). not (eqb x 0)) en ∙ some-set (begunAt (meaning k) c))
     ∙ unfold meaning in refl
 
-pub place-by : (k : Struct) → Counted k → (m : ℕ) → m < 256 → maskIn k (k .count - 1) < 256 → (n : ℕ) (w : Bool) → n ≡ size (byte m) → w ≡ isWithin (byte m) (byte (k .working))
-    → row 4 (k .stopped) (row 9 (ltb n leastMembers || (not w || eqb m (maskIn k (k .count - 1)))) (row 10 (leb mostPlaced (k .count)) 0)) ≡ rowsOf (place (byte m)) (meaning k)
+pub place-by : (k : Struct) → Counted k → (m : ℕ) → m < 256 → newestMask k < 256 → (n : ℕ) (w : Bool) → n ≡ size (byte m) → w ≡ isWithin (byte m) (byte (k .working))
+    → row 4 (k .stopped) (row 9 (ltb n leastMembers || (not w || eqb m (newestMask k))) (row 10 (leb mostPlaced (k .count)) 0)) ≡ rowsOf (place (byte m)) (meaning k)
 unfolding refusal placeRows meaning
 place-by k c m hm hk n w en ew =
-    ap₂ (λ (a : ℕ) (x : Bool). row 4 (k .stopped) (row 9 (ltb a leastMembers || (not x || eqb m (maskIn k (k .count - 1)))) (row 10 (leb mostPlaced (k .count)) 0))) en ew
+    ap₂ (λ (a : ℕ) (x : Bool). row 4 (k .stopped) (row 9 (ltb a leastMembers || (not x || eqb m (newestMask k))) (row 10 (leb mostPlaced (k .count)) 0))) en ew
     ∙ ap₂ (λ (x y : ℕ). row 4 (k .stopped) (row 9 (ltb (size (byte m)) leastMembers || (not (isWithin (byte m) (byte (k .working))) || eqb x y)) (row 10 (leb mostPlaced (k .count)) 0))) (sym (mod-eq-of-lt hm)) (sym (mod-eq-of-lt hk))
-    ∙ ap (λ (x : ℕ). row 4 (k .stopped) (row 9 (ltb (size (byte m)) leastMembers || (not (isWithin (byte m) (byte (k .working))) || eqb (byte m .0) (byte (maskIn k (k .count - 1)) .0))) (row 10 (leb mostPlaced x) 0))) (sym count-is)
+    ∙ ap (λ (x : ℕ). row 4 (k .stopped) (row 9 (ltb (size (byte m)) leastMembers || (not (isWithin (byte m) (byte (k .working))) || eqb (byte m .0) (byte (newestMask k) .0))) (row 10 (leb mostPlaced x) 0))) (sym count-is)
   where
-    count-is : length (placementsIn (maskIn k) (k .count - 1) ++ (fromMask (byte (maskIn k (k .count - 1))) ∷ [])) ≡ k .count
+    count-is : length (placementsIn (maskIn k) (k .count - 1) ++ (fromMask (byte (newestMask k)) ∷ [])) ≡ k .count
     count-is = ap length (active-is k c) ∙ length-placements (maskIn k) (k .count)
 
 -- ---- what an accepted call has shown
@@ -77,8 +77,8 @@ withdraw-range k c e = ltb-true c cardCount (row-3 (ltb c cardCount) (sym e) .0)
 pub place-few : (k : Struct) → Counted k → (m : Byte) → 0 ≡ rowsOf (place m) (meaning k) → k .count < 4
 unfolding refusal placeRows meaning
 place-few k c m e =
-    let bad : Bool = ltb (size m) leastMembers || (not (isWithin m (byte (k .working))) || eqb (m .0) (byte (maskIn k (k .count - 1)) .0)) in
-    let full : Bool = leb mostPlaced (length (placementsIn (maskIn k) (k .count - 1) ++ (fromMask (byte (maskIn k (k .count - 1))) ∷ []))) in
-    let h : length (placementsIn (maskIn k) (k .count - 1) ++ (fromMask (byte (maskIn k (k .count - 1))) ∷ [])) < mostPlaced =
+    let bad : Bool = ltb (size m) leastMembers || (not (isWithin m (byte (k .working))) || eqb (m .0) (byte (newestMask k) .0)) in
+    let full : Bool = leb mostPlaced (length (placementsIn (maskIn k) (k .count - 1) ++ (fromMask (byte (newestMask k)) ∷ []))) in
+    let h : length (placementsIn (maskIn k) (k .count - 1) ++ (fromMask (byte (newestMask k)) ∷ [])) < mostPlaced =
     leb-false mostPlaced _ (row-clear full 9 (row-clear bad 8 (row-clear (k .stopped) 3 (sym e) .1) .1) .0) in
     omega (arith, h, ap length (active-is k c) ∙ length-placements (maskIn k) (k .count))

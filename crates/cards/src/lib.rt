@@ -155,8 +155,7 @@ fn place_refusal(k: Control, mask: u8) -> u8
     if !mask::within(mask, k.working) {
         return 9;
     }
-    let i = (k.count - 1) as usize;
-    if mask == k.masks[i] {
+    if mask == k.newest_mask() {
         return 9;
     }
     if k.count >= MOST_PLACED {
@@ -222,8 +221,7 @@ pub fn fail(image: &mut [u8], card: Card) -> Answer
     }
     tables::end_held(image, marked.working, false, tables::begun_at(k, card));
     let closed = marked.close_at(card);
-    let i = (k.count - 1) as usize;
-    let newest = k.masks[i];
+    let newest = k.newest_mask();
     if mask::has(newest, card) {
         let mask = mask::without_card(newest, card);
         codec::write(image, closed.add(mask));

@@ -16,7 +16,7 @@ use Rattle.mask.specs.Masks.{Byte, byte, noCards}
 use Rattle.mask.specs.Placements.{fromMask}
 use Rattle.method.specs.ControlPart.{active, isCard, begunAt, started, withHome, withCards, withPlacements, opened, closed, added, onlyNewest, halted}
 use Rattle.control.specs.ControlBytes.{homeIn, homeOf, placementsIn}
-use Rattle.control.specs.Meaning.{maskIn, meaning, keptHome, Counted, Is}
+use Rattle.control.specs.Meaning.{maskIn, newestMask, meaning, keptHome, Counted, Is}
 use Rattle.control.specs.declared.Control.{Control}
 use Rattle.control.proofs.Struct.{placements-same, active-is}
 
@@ -110,10 +110,10 @@ module _ (k : Control) (w : Counted k) where
       new : getD masks (k .count + 1 - 1) 0 ≡ m
       new = ap (λ (i : ℕ). getD masks i 0) c ∙ getD-set-same (k .masks) (k .count) m 0 (omega arith)
 
-  pub retire-is : Is (record { stopped = k .stopped; count = 1; masks = maskIn k (k .count - 1) ∷ 0 ∷ 0 ∷ 0 ∷ []; working = k .working; failed = k .failed; homes = k .homes })
-      (onlyNewest (meaning k))
+  pub retire-is : (m : ℕ) → m ≡ newestMask k
+      → Is (record { stopped = k .stopped; count = 1; masks = m ∷ 0 ∷ 0 ∷ 0 ∷ []; working = k .working; failed = k .failed; homes = k .homes }) (onlyNewest (meaning k))
   unfolding meaning
-  retire-is = record { counted = record { some = omega arith; few = omega arith }; means = refl }
+  retire-is m e = record { counted = record { some = omega arith; few = omega arith }; means = ap (λ (n : ℕ). withPlacements (meaning k) [] (fromMask (byte n))) e }
 
   pub cards-are : (x y : ℕ) (p q : Byte) → byte x ≡ p → byte y ≡ q
       → Is (record { stopped = k .stopped; count = k .count; masks = k .masks; working = x; failed = y; homes = k .homes }) (withCards (meaning k) p q)

@@ -14,7 +14,7 @@ use Rattle.image.specs.Layout.{tranBound}
 use Rattle.mask.specs.Masks.{byte}
 use Rattle.mask.specs.Placements.{Placement, fromMask}
 use Rattle.control.specs.ControlBytes.{maskBytes, homeByte, controlByte, countIn, homeIn, homeOf, placementsIn, controlOf}
-use Rattle.control.specs.Meaning.{rowOf, structOf, maskIn, meaning, Counted}
+use Rattle.control.specs.Meaning.{rowOf, structOf, maskIn, newestMask, meaning, Counted}
 use Rattle.control.specs.declared.Control.{Control}
 
 -- ---- lists of placements: one more, the same masks, the length, the masks
@@ -95,10 +95,15 @@ read-means l lo hi = λ i. record {
             let s : 8 + (t - 1) ≡ t + 7 = omega arith in
             ap (homeOf t) (at-row l 15 8 (t - 1) (omega arith) ∙ ap (λ (j : ℕ). getD l j 0) s)
 
+-- The newest placement by its mask.
+pub newest-by : (k : Control) (m : ℕ) → m ≡ newestMask k → fromMask (byte m) ≡ meaning k .newest
+unfolding meaning
+newest-by k m e = ap (λ (n : ℕ). fromMask (byte n)) e
+
 -- ---- the bytes of a struct, each as the rules give it
 module _ (k : Control) (w : Counted k) where
   -- the active placements are those of the first `count` masks
-  pub active-is : placementsIn (maskIn k) (k .count - 1) ++ (fromMask (byte (maskIn k (k .count - 1))) ∷ []) ≡ placementsIn (maskIn k) (k .count)
+  pub active-is : placementsIn (maskIn k) (k .count - 1) ++ (fromMask (byte (newestMask k)) ∷ []) ≡ placementsIn (maskIn k) (k .count)
   active-is = placements-more (maskIn k) (k .count - 1) ∙ ap (placementsIn (maskIn k)) e
     where
       e : suc (k .count - 1) ≡ k .count

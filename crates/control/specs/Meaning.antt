@@ -32,15 +32,19 @@ structOf l = record {
   homes = rowOf l 8 15;
 }
 
+-- Mask i, and the mask of the newest placement: the last that counts.
 abbrev pub maskIn : Control → ℕ → ℕ
 maskIn k i = getD (k .masks) i 0
+
+abbrev pub newestMask : Control → ℕ
+newestMask k = maskIn k (k .count - 1)
 
 -- The meaning of the struct. Masks from the count on, and what the byte of a closed transaction has, mean nothing.
 unfoldable pub meaning : Control → Part
 meaning k = record {
   stopped = k .stopped;
   older = placementsIn (maskIn k) (k .count - 1);
-  newest = fromMask (byte (maskIn k (k .count - 1)));
+  newest = fromMask (byte (newestMask k));
   working = byte (k .working);
   failed = byte (k .failed);
   home = λ t. homeOf t (getD (k .homes) (t - 1) 0);

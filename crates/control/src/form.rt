@@ -109,8 +109,7 @@ fn newest_works(k: Control) -> bool
     if k.stopped {
         return true;
     }
-    let at = (k.count - 1) as usize;
-    mask::within(k.masks[at], k.working)
+    mask::within(k.newest_mask(), k.working)
 }
 
 // A placement with this mask has at most one failed and at least two working members.

@@ -14,8 +14,9 @@ ghost use Rattle.method.specs.ControlPart.{
   added,
   onlyNewest,
   halted,
+  isOpen,
 };
-ghost use Rattle.control.specs.Meaning.{meaning, keptHome, Counted, Is};
+ghost use Rattle.control.specs.Meaning.{meaning, newestMask, keptHome, Counted, Is};
 
 pub mod codec;
 pub mod form;
@@ -62,6 +63,24 @@ impl Control {
             failed: 0,
             homes: [0u8; TRAN_COUNT],
         }
+    }
+
+    // Whether the transaction is open.
+    pub fn is_open(self, tran: Tran) -> bool
+        requires { ⌜ (0 < tran .0) × (tran .0 < tranBound) ⌝ }
+        ensures { λ r. ⌜ r ≡ isOpen (meaning self) (tran .0) ⌝ }
+    {
+        let i = (tran.0 - 1) as usize;
+        self.homes[i] >= OPEN
+    }
+
+    // The newest placement's mask.
+    pub fn newest_mask(self) -> u8
+        requires { ⌜ Counted self ⌝ }
+        ensures { λ r. ⌜ r ≡ newestMask self ⌝ }
+    {
+        let i = (self.count - 1) as usize;
+        self.masks[i]
     }
 
     // The transaction opens with its home.
@@ -119,8 +138,7 @@ impl Control {
         requires { ⌜ Counted self ⌝ }
         ensures { λ r. ⌜ Is r (onlyNewest (meaning self)) ⌝ }
     {
-        let i = (self.count - 1) as usize;
-        let newest = self.masks[i];
+        let newest = self.newest_mask();
         self.masks = [newest, 0, 0, 0];
         self.count = 1;
         self

@@ -1,21 +1,16 @@
 -- The rows of the refusal table that a call on a record asks. Assumes nothing.
-use Prim.Native.Nat.{_-_, _<_, _≤_, ℕ}
+use Prim.Native.Nat.{_<_, _≤_, ℕ}
 use borrow.Author.Tests.{le-ltb, lt-ltb, ltb-true}
-use lib.Dec.{leb, ltb}
-use lib.ListN.{getD}
-use mathlib.Core.Bool.{Bool, _&&_, cond, false, not, true}
+use lib.Dec.{ltb}
+use mathlib.Core.Bool.{Bool, _&&_, false, not, true}
 use mathlib.Core.Logic.{_≢_}
-use mathlib.Core.Option.{none, some}
-use mathlib.Core.Path.{_∙_, _≡_, refl, sym}
+use mathlib.Core.Path.{_∙_, _≡_, sym}
 use native.Mathlib.Omega.{arith}
 use Rattle.lists.proofs.Bools.{and-l, and-r}
 use Rattle.image.specs.Layout.{recordCount, tranBound}
 use Rattle.method.specs.ControlPart.{isOpen}
 use Rattle.method.specs.Rules.{row}
-use Rattle.method.specs.Slots.{isSome}
 use Rattle.control.specs.ControlBytes.{Part}
-use Rattle.control.specs.Meaning.{meaning}
-use Rattle.control.specs.declared.Control.{Control}
 use Rattle.cabinet_rules.specs.Cabinet.{tranOk}
 use Rattle.records.specs.Access.{earlyRows}
 
@@ -42,15 +37,6 @@ module _ (t r : ℕ) where
 
     pub rec-lt : r < recordCount
     rec-lt = ltb-true r recordCount (and-r (tranOk t) (ltb r recordCount) e)
-
--- ---- an open transaction, by its byte
-pub open-is : (k : Control) (t : ℕ) → 0 < t → t < tranBound → leb 128 (getD (k .homes) (t - 1) 0) ≡ isOpen (meaning k) t
-unfolding meaning
-open-is k t lo hi = rw (lt-ltb 0 t lo, lt-ltb t tranBound hi) (go (leb 128 (getD (k .homes) (t - 1) 0)) _)
-  where
-    go : (b : Bool) (x : ℕ) → b ≡ isSome (cond b (some x) none)
-    go true x = refl
-    go false x = refl
 
 -- ---- rows 3, 4 and 5 by their tests
 pub early-by : (k : Part) (t r : ℕ) (a s o : Bool) (n : ℕ) → (tranOk t && ltb r recordCount) ≡ a → k .stopped ≡ s → isOpen k t ≡ o

@@ -1,18 +1,13 @@
 // What every call on a record asks first: rows 1 to 5 and 7 of the refusal table, and the holders of its block.
 ghost use mathlib.Core.Path.{_≡_};
 ghost use mathlib.Core.Bool.{_&&_};
-ghost use Prim.Native.Nat.{_<_};
 ghost use lib.Dec.{ltb};
-ghost use Rattle.image.specs.Layout.{recordCount, tranBound};
-ghost use Rattle.mask.specs.Masks.{byte};
-ghost use Rattle.mask.specs.Placements.{fromMask};
-ghost use Rattle.method.specs.ControlPart.{isOpen};
-ghost use Rattle.control.specs.Meaning.{Counted, meaning};
+ghost use Rattle.image.specs.Layout.{recordCount};
+ghost use Rattle.control.specs.Meaning.{meaning};
 ghost use Rattle.cabinet_rules.specs.Cabinet.{tranOk};
 ghost use Rattle.records.specs.Access.{LooksUp, earlyRows};
 use control::Control;
 use control::TRAN_COUNT;
-use control::codec::OPEN;
 use image::Rec;
 use image::Tran;
 use trail::Holders;
@@ -54,16 +49,6 @@ fn in_range(tran: Tran, rec: Rec) -> bool
     (rec.0 as usize) < RECORD_COUNT
 }
 
-// Whether the transaction is open.
-fn is_open(k: Control, tran: Tran) -> bool
-    requires { ⌜ (0 < tran .0) × (tran .0 < tranBound) ⌝ }
-    ensures { λ r. ⌜ r ≡ isOpen (meaning k) (tran .0) ⌝ }
-{
-    let homes = k.homes;
-    let i = (tran.0 - 1) as usize;
-    homes[i] >= OPEN
-}
-
 // Rows 3, 4 and 5.
 fn early_rows(k: Control, tran: Tran, rec: Rec) -> u8
     ensures { λ r. ⌜ r ≡ earlyRows (meaning k) (tran .0) (rec .0) ⌝ }
@@ -74,20 +59,10 @@ fn early_rows(k: Control, tran: Tran, rec: Rec) -> u8
     if k.stopped {
         return 4;
     }
-    if !is_open(k, tran) {
+    if !k.is_open(tran) {
         return 5;
     }
     0
-}
-
-// The newest placement's mask.
-fn newest_mask(k: Control) -> u8
-    requires { ⌜ Counted k ⌝ }
-    ensures { λ r. ⌜ fromMask (byte r) ≡ meaning k .newest ⌝ }
-{
-    let masks = k.masks;
-    let i = (k.count - 1) as usize;
-    masks[i]
 }
 
 // The record's rows and holders.
@@ -109,7 +84,7 @@ pub fn look_up(image: &[u8], tran: Tran, rec: Rec) -> Access
     }
     Access {
         refusal: 0,
-        newest: newest_mask(k),
+        newest: k.newest_mask(),
         holders: holders,
     }
 }

@@ -47,9 +47,7 @@ pub fn newest_sites(k: Control, block: Block) -> Sites
     requires { ⌜ block .0 < blockCount ⌝ }
     ensures { λ r. ⌜ AreSites r (sitesOf (meaning k .newest) (block .0)) ⌝ }
 {
-    let masks = k.masks;
-    let at = (k.count - 1) as usize;
-    let newest = Placement::from_mask(masks[at]);
+    let newest = Placement::from_mask(k.newest_mask());
     Sites {
         first: newest.first_site(block),
         second: newest.second_site(block),

@@ -4,7 +4,7 @@ ghost use Prim.Native.Nat.{_<_};
 ghost use lib.Dec.{eqb};
 ghost use Rattle.image.specs.Layout.{Whole, tranBound};
 ghost use Rattle.slot.specs.Blocks.{inSet};
-ghost use Rattle.method.specs.ControlPart.{closed, isOpen};
+ghost use Rattle.method.specs.ControlPart.{closed};
 ghost use Rattle.control.specs.Meaning.{Counted, meaning, putControl};
 ghost use Rattle.cabinet_rules.specs.Cabinet.{tranOk};
 ghost use Rattle.promise.specs.Promise.{Done, asked};
@@ -14,7 +14,6 @@ ghost use Rattle.tables.specs.Tables.{endWrites, setOf};
 ghost use Rattle.transactions.specs.Transactions.{beginRows, endCall, endRows};
 use control::Control;
 use control::TRAN_COUNT;
-use control::codec::OPEN;
 use image::CARD_COUNT;
 use image::Card;
 use image::Tran;
@@ -28,15 +27,6 @@ fn in_range(tran: Tran) -> bool
         return false;
     }
     tran.0 as usize <= TRAN_COUNT
-}
-
-// Whether the transaction is open.
-fn is_open(k: Control, tran: Tran) -> bool
-    requires { ⌜ (0 < tran .0) × (tran .0 < tranBound) ⌝ }
-    ensures { λ r. ⌜ r ≡ isOpen (meaning k) (tran .0) ⌝ }
-{
-    let i = (tran.0 - 1) as usize;
-    k.homes[i] >= OPEN
 }
 
 // Why a begin is refused, from row 3 on; 0 if it is not.
@@ -53,11 +43,10 @@ fn begin_refusal(k: Control, tran: Tran, home: Card) -> u8
     if k.stopped {
         return 4;
     }
-    if is_open(k, tran) {
+    if k.is_open(tran) {
         return 6;
     }
-    let newest = (k.count - 1) as usize;
-    if !mask::has(k.masks[newest], home) {
+    if !mask::has(k.newest_mask(), home) {
         return 8;
     }
     0
@@ -90,7 +79,7 @@ fn end_refusal(k: Control, tran: Tran) -> u8
     if k.stopped {
         return 4;
     }
-    if !is_open(k, tran) {
+    if !k.is_open(tran) {
         return 5;
     }
     0

@@ -1,13 +1,21 @@
 -- The proof of `begin_refusal`. Assumes nothing.
-use mathlib.Core.Path.{_∙_, sym}
+use Prim.Native.Nat.{ℕ}
+use mathlib.Core.Bool.{Bool}
+use mathlib.Core.Path.{_∙_, _≡_, ap, sym}
 use borrow.Author.Needs.{needs}
 use borrow.Author.Tests.{le-ltb, lt-ltb, not-false, not-true}
+use Rattle.mask.specs.Masks.{byte, hasCard}
 use Rattle.method.specs.Rules.{refusal}
-use Rattle.control.specs.Meaning.{meaning}
+use Rattle.control.specs.Meaning.{meaning, newestMask}
+use Rattle.control.specs.declared.Control.{Control}
 use Rattle.transactions.specs.Transactions.{beginRows}
 use Rattle.transactions.proofs.Rows.{tran-range}
 use Rattle.transactions.proofs.begin_refusal.Statement.{statement}
 use Rattle.transactions.proofs.begin_refusal.Tie as tie
+
+-- Whether the newest placement has card h, by its mask.
+has-newest : (k : Control) (h : ℕ) {m : ℕ} (on : Bool) → m ≡ newestMask k → on ≡ hasCard (byte m) h → hasCard (byte (newestMask k)) h ≡ on
+has-newest k h on e f = sym (f ∙ ap (λ (x : ℕ). hasCard (byte x) h) e)
 
 in-range-requires : tie.Need-in-range-requires
 in-range-requires c κs = search needs
@@ -47,14 +55,8 @@ returns-4 c =
       c .before .before .if3 .left,
     )
 
-sub-newest : tie.Need-sub-newest
-sub-newest c = search needs
-
-cast-newest : tie.Need-cast-newest
-cast-newest c = search needs
-
-element-copy-out-has : tie.Need-element-copy-out-has
-element-copy-out-has c = search needs
+newest-mask-requires : tie.Need-newest-mask-requires
+newest-mask-requires c κs = search needs
 
 has-requires : tie.Need-has-requires
 has-requires c κs = search needs
@@ -62,27 +64,29 @@ has-requires c κs = search needs
 returns-5 : tie.Need-returns-5
 unfolding beginRows refusal meaning
 returns-5 c =
-    let o = c .before .before .before in
+    let n = c .before .before in
+    let o = n .before in
     let s = o .before .before .before .before .before in
     rw (
       sym (o .before .is-open .ensures) ∙ o .if4 .left,
       sym (s .before .in-range .ensures) ∙ not-false _ (s .if1 .left),
       lt-ltb _ _ (o .before .before .before .if2 .left),
       o .before .before .if3 .left,
-      sym (c .before .has .ensures) ∙ not-true _ (c .if5 .taken),
+      has-newest (s .before .before .args .k) _ _ (n .newest-mask .ensures) (c .before .has .ensures) ∙ not-true _ (c .if5 .taken),
     )
 
 returns-6 : tie.Need-returns-6
 unfolding beginRows refusal meaning
 returns-6 c =
-    let o = c .before .before .before in
+    let n = c .before .before in
+    let o = n .before in
     let s = o .before .before .before .before .before in
     rw (
       sym (o .before .is-open .ensures) ∙ o .if4 .left,
       sym (s .before .in-range .ensures) ∙ not-false _ (s .if1 .left),
       lt-ltb _ _ (o .before .before .before .if2 .left),
       o .before .before .if3 .left,
-      sym (c .before .has .ensures) ∙ not-false _ (c .if5 .left),
+      has-newest (s .before .before .args .k) _ _ (n .newest-mask .ensures) (c .before .has .ensures) ∙ not-false _ (c .if5 .left),
     )
 
 pub begin-refusal-spec : {M : Type 1} → statement M
@@ -96,9 +100,7 @@ begin-refusal-spec =
     returns-3
     is-open-requires
     returns-4
-    sub-newest
-    cast-newest
-    element-copy-out-has
+    newest-mask-requires
     has-requires
     returns-5
     returns-6)

@@ -4,6 +4,7 @@ use Prim.Native.Nat.{_<_}
 use native.Mathlib.Omega.{arith}
 use borrow.Author.Needs.{needs}
 use Rattle.image.specs.Layout.{recordCount}
+use Rattle.control.proofs.Struct.{newest-by}
 use Rattle.promise.proofs.Finish.{form-long}
 use Rattle.records.proofs.LookUp.{early-row, form-row, given, lists-at, locked-row, ready-up, rec-known, refused-up}
 use Rattle.records.proofs.access.look_up.Statement.{statement}
@@ -101,7 +102,7 @@ returns-4 c =
     let f = e .before .before in
     let a = f .before .before .args in
     ready-up (a .image .now) (a .tran .0) (a .rec .0) (f .read .result) (f .read .ensures) (e .if1 .left) (y .early-rows .result) (y .early-rows .ensures) (x .if2 .left) _ (sym (o .locked-out .ensures) ∙ t .if3 .left) refl
-    (c .newest-mask .ensures) (lists-at (a .image .now) (h .find .result) (b .block-of .ensures) (h .find .ensures))
+    (newest-by (f .read .result .control) (c .newest-mask .result) (c .newest-mask .ensures)) (lists-at (a .image .now) (h .find .result) (b .block-of .ensures) (h .find .ensures))
 
 pub look-up-spec : {M : Type 1} → statement M
 look-up-spec =

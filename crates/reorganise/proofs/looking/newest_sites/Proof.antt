@@ -3,43 +3,40 @@ use Prim.Native.Nat.{ℕ}
 use mathlib.Core.List.{[], _∷_}
 use mathlib.Core.Path.{_∙_, ap, ap₂, subst, sym}
 use Rattle.mask.specs.Placements.{Placement, Usable, sitesOf}
-use Rattle.control.specs.Meaning.{meaning}
+use Rattle.control.proofs.Struct.{newest-by}
 use borrow.Author.Needs.{needs}
 use Rattle.reorganise.proofs.looking.newest_sites.Statement.{statement}
 use Rattle.reorganise.proofs.looking.newest_sites.Tie as tie
 
-sub-at : tie.Need-sub-at
-sub-at c = search needs
-
-cast-at : tie.Need-cast-at
-cast-at c = search needs
-
-array-read-from-mask : tie.Need-array-read-from-mask
-array-read-from-mask c = search needs
+newest-mask-requires : tie.Need-newest-mask-requires
+newest-mask-requires c κs = search needs
 
 from-mask-requires : tie.Need-from-mask-requires
 from-mask-requires c κs = search needs
 
 first-site-requires : tie.Need-first-site-requires
-unfolding meaning
 first-site-requires c κs =
-    let s = c .before .before .before in
-    (subst Usable (sym (c .from-mask .ensures)) (s .pre .1 .0), s .pre .1 .1)
+    let n = c .before in
+    let s = n .before in
+    (subst Usable (sym (c .from-mask .ensures ∙ newest-by (s .args .k) (n .newest-mask .result) (n .newest-mask .ensures))) (s .pre .1 .0), s .pre .1 .1)
 
 second-site-requires : tie.Need-second-site-requires
-unfolding meaning
 second-site-requires c κs =
-    let s = c .before .before .before .before in
-    (subst Usable (sym (c .before .from-mask .ensures)) (s .pre .1 .0), s .pre .1 .1)
-
-returns : tie.Need-returns
-unfolding meaning sitesOf
-returns c =
     let f = c .before in
     let n = f .before in
-    let b : ℕ = n .before .before .before .args .block .0 in
+    let s = n .before in
+    (subst Usable (sym (f .from-mask .ensures ∙ newest-by (s .args .k) (n .newest-mask .result) (n .newest-mask .ensures))) (s .pre .1 .0), s .pre .1 .1)
+
+returns : tie.Need-returns
+unfolding sitesOf
+returns c =
+    let f = c .before in
+    let p = f .before in
+    let n = p .before in
+    let s = n .before in
     record {
-      listed = ap₂ (λ (x y : ℕ). x ∷ y ∷ []) (f .first-site .ensures .0) (c .second-site .ensures .0) ∙ ap (λ (p : Placement). sitesOf p b) (n .from-mask .ensures);
+      listed = ap₂ (λ (x y : ℕ). x ∷ y ∷ []) (f .first-site .ensures .0) (c .second-site .ensures .0)
+          ∙ ap (λ (p : Placement). sitesOf p (s .args .block .0)) (p .from-mask .ensures ∙ newest-by (s .args .k) (n .newest-mask .result) (n .newest-mask .ensures));
       first-fits = f .first-site .ensures .1;
       second-fits = c .second-site .ensures .1;
     }
@@ -48,9 +45,7 @@ pub newest-sites-spec : {M : Type 1} → statement M
 newest-sites-spec =
     tie.close
     (tie.spec
-    sub-at
-    cast-at
-    array-read-from-mask
+    newest-mask-requires
     from-mask-requires
     first-site-requires
     second-site-requires

@@ -1,4 +1,4 @@
--- The proof of `is_open`. Assumes nothing.
+-- The proof of `Control::is_open`. Assumes nothing.
 use Prim.Native.Nat.{_%_, _-_, _/_, ℕ}
 use lib.Dec.{leb}
 use lib.ListN.{getD}
@@ -9,10 +9,10 @@ use borrow.Author.Needs.{needs}
 use borrow.Author.Tests.{lt-ltb}
 use Rattle.image.specs.Layout.{tranBound}
 use Rattle.method.specs.Slots.{isSome}
 use Rattle.control.specs.ControlBytes.{homeIn}
 use Rattle.control.specs.Meaning.{meaning}
-use Rattle.transactions.proofs.is_open.Statement.{statement}
-use Rattle.transactions.proofs.is_open.Tie as tie
+use Rattle.control.proofs.Control.is_open.Statement.{statement}
+use Rattle.control.proofs.Control.is_open.Tie as tie
 
 -- The highest bit of a transaction's byte says that it is open.
 open-bit : (n : ℕ) → leb 128 n ≡ isSome (homeIn n)
@@ -35,7 +35,8 @@ returns : tie.Need-returns
 unfolding meaning
 returns c =
     let s = c .before .before in
-    rw (lt-ltb 0 (s .args .tran .0) (s .pre .0), lt-ltb (s .args .tran .0) tranBound (s .pre .1)) (open-bit (getD (s .args .t1 .homes) (s .args .tran .0 - 1) 0))
+    let t = s .args .tran .0 in
+    rw (lt-ltb 0 t (s .pre .0), lt-ltb t tranBound (s .pre .1)) (open-bit (getD (s .args .t1 .homes) (t - 1) 0))
 
 pub is-open-spec : {M : Type 1} → statement M
 is-open-spec = tie.close (tie.spec sub-i cast-i element-copy-out-result returns)
