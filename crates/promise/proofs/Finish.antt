@@ -11,14 +11,17 @@ use native.Mathlib.Omega.{arith}
 use Rattle.lists.proofs.Bools.{not-not-is}
 use Rattle.image.specs.Layout.{Whole, imageSize}
 use Rattle.method.specs.PlainList.{orRefused}
-use Rattle.method.specs.Rules.{Call, Plan, look, refusal, row, unwritten, writing}
+use Rattle.method.specs.Rules.{Call, Plan, row, unwritten, writing}
 use Rattle.method.proofs.Refusals.{row-clear}
 use Rattle.control.specs.ControlBytes.{Part, controlByte}
 use Rattle.control.specs.ControlForm.{controlForm, formRefusal}
-use Rattle.control.specs.Meaning.{putControl}
+use Rattle.control.specs.Meaning.{Reads, putControl}
+use Rattle.control.specs.declared.Control.{Control}
+use Rattle.control.specs.declared.Found.{Found}
 use Rattle.cabinet_rules.specs.Cabinet.{cabinet}
 use Rattle.cabinet_rules.specs.Images.{Image, Writes, after, answer, controlIn, isStart, next, planOn, refusalOn}
-use Rattle.cabinet_rules.specs.Images.{stateIn, unlessRefusedImage}
+use Rattle.cabinet_rules.specs.Images.{unlessRefusedImage}
+use Rattle.promise.specs.Given.{Given, rowsOn}
 use Rattle.promise.specs.Promise.{Done, shown}
 use Rattle.promise.proofs.Laid.{kept-control, laid, laid-none, write-control}
 use Rattle.promise.specs.declared.Answer.{Answer as AnswerValue}
@@ -33,9 +36,12 @@ pub form-good : (g : Image) → formRefusal g ≡ 0 → controlForm g ≡ true
 unfolding formRefusal
 form-good g e = not-not-is (controlForm g) (row-clear (not (controlForm g)) 1 (row-clear (not (eqb (length g) imageSize)) 0 e .1) .0)
 
--- the rows from 3 on, of a call on an image
-abbrev pub rulesOn : Call cabinet → Image → ℕ
-rulesOn c g = refusal cabinet c (controlIn g) (look cabinet (stateIn g))
+-- what reading its control part gives
+pub given : {g : Image} {r : Found} → Reads g r → r .refusal ≡ 0 → Given (r .control) g
+given f e = record { formed = sym (f .refusal-is) ∙ e; is = f .good e }
+
+pub given-whole : {k : Control} {g : Image} → Given k g → Whole g
+given-whole {g = g} is = form-long g (is .formed)
 
 module _ (c : Call cabinet) (late : isStart c ≡ false) (g : Image) where
   -- the rows 1 and 2 alone
@@ -43,7 +49,7 @@ module _ (c : Call cabinet) (late : isStart c ≡ false) (g : Image) where
   unfolding refusalOn formRefusal
   refused-by-form n e = rw late (go (not (eqb (length g) imageSize)) (not (controlForm g)) e)
     where
-      go : (a b : Bool) → row 1 a (row 2 b 0) ≡ suc n → row 1 a (row 2 b (rulesOn c g)) ≡ suc n
+      go : (a b : Bool) → row 1 a (row 2 b 0) ≡ suc n → row 1 a (row 2 b (rowsOn c g)) ≡ suc n
       go true b h = h
       go false true h = h
       go false false h = absurd (omega arith)
@@ -55,18 +61,18 @@ module _ (c : Call cabinet) (late : isStart c ≡ false) (g : Image) where
   by-form (suc n) e h = record { answers = rw (refused-by-form n (sym e)); leaves = rw (refused-by-form n (sym e)) }
 
   module _ (clear : formRefusal g ≡ 0) where
-    refusal-rules : refusalOn c g ≡ rulesOn c g
+    refusal-rules : refusalOn c g ≡ rowsOn c g
     unfolding refusalOn
     refusal-rules = rw (eq-eqb (length g) imageSize (form-long g clear), form-good g clear, late)
 
     -- 3 and up
-    pub by-rules : (n : ℕ) → n ≡ rulesOn c g → (n ≡ 0 → ⊥) → Done c g (Refused n) g
+    pub by-rules : (n : ℕ) → n ≡ rowsOn c g → (n ≡ 0 → ⊥) → Done c g (Refused n) g
     unfolding answer next
     by-rules zero e h = absurd (h refl)
     by-rules (suc n) e h = let r : refusalOn c g ≡ suc n = refusal-rules ∙ sym e in record { answers = rw r; leaves = rw r }
 
     -- accepted: the plan's answer, and the image after the plan
-    pub by-plan : (a : AnswerValue) (p : Plan cabinet) (behind : Image) → 0 ≡ rulesOn c g → planOn c g ≡ p
+    pub by-plan : (a : AnswerValue) (p : Plan cabinet) (behind : Image) → 0 ≡ rowsOn c g → planOn c g ≡ p
         → shown a ≡ p .answer → behind ≡ after (controlByte (p .after)) (p .write) g → Done c g a behind
     unfolding answer next
     by-plan a p behind e q s l =
@@ -77,20 +83,20 @@ module _ (c : Call cabinet) (late : isStart c ≡ false) (g : Image) where
         }
 
     -- accepted, blocks are written and the control part stays
-    pub by-blocks : (a : AnswerValue) (w : Writes) (behind : Image) → 0 ≡ rulesOn c g → planOn c g ≡ writing cabinet (shown a) (controlIn g) w
+    pub by-blocks : (a : AnswerValue) (w : Writes) (behind : Image) → 0 ≡ rowsOn c g → planOn c g ≡ writing cabinet (shown a) (controlIn g) w
         → behind ≡ laid w g → Done c g a behind
     by-blocks a w behind e q l = by-plan a (writing cabinet (shown a) (controlIn g) w) behind e q refl (l ∙ sym (kept-control w g (form-good g clear)))
 
     -- accepted, blocks are written and then the control part
-    pub by-both : (a : AnswerValue) (k : Part) (w : Writes) (behind : Image) → 0 ≡ rulesOn c g → planOn c g ≡ writing cabinet (shown a) k w
+    pub by-both : (a : AnswerValue) (k : Part) (w : Writes) (behind : Image) → 0 ≡ rowsOn c g → planOn c g ≡ writing cabinet (shown a) k w
         → behind ≡ putControl (laid w g) k → Done c g a behind
     by-both a k w behind e q l = by-plan a (writing cabinet (shown a) k w) behind e q refl (l ∙ write-control w g k)
 
     -- accepted, and only the control part changes
-    pub by-control : (a : AnswerValue) (k : Part) (behind : Image) → 0 ≡ rulesOn c g → planOn c g ≡ unwritten cabinet (shown a) k
+    pub by-control : (a : AnswerValue) (k : Part) (behind : Image) → 0 ≡ rowsOn c g → planOn c g ≡ unwritten cabinet (shown a) k
         → behind ≡ putControl g k → Done c g a behind
     by-control a k behind e q l = by-both a k (λ c b. none) behind e q (l ∙ ap (λ (i : Image). putControl i k) (laid-none (λ c b. none) g (form-long g clear) (λ c b hc hb. refl)))
 
     -- accepted, and nothing changes
-    pub by-look : (a : AnswerValue) → 0 ≡ rulesOn c g → planOn c g ≡ unwritten cabinet (shown a) (controlIn g) → Done c g a g
+    pub by-look : (a : AnswerValue) → 0 ≡ rowsOn c g → planOn c g ≡ unwritten cabinet (shown a) (controlIn g) → Done c g a g
     by-look a e q = by-blocks a (λ c b. none) g e q (laid-none (λ c b. none) g (form-long g clear) (λ c b hc hb. refl))

@@ -63,6 +63,9 @@ module _ (g : Image) where
     unfolding membersOk
     usable-active p m = leb-true leastMembers (size (p .mask)) (and-l (leb leastMembers (size (p .mask))) (isWithinEither (p .mask) (controlIn g .working) (controlIn g .failed)) (members-of p m))
 
+    pub newest-usable : Usable (controlIn g .newest)
+    newest-usable = usable-active (controlIn g .newest) (in-right (controlIn g .older) (controlIn g .newest ∷ []) (controlIn g .newest) (inl refl))
+
     -- and each of its members works or has failed
     pub known-member : (p : Placement) (c : ℕ) → In p (active (controlIn g)) → hasCard (p .mask) c ≡ true → (hasCard (controlIn g .working) c || hasCard (controlIn g .failed) c) ≡ true
     unfolding membersOk isWithinEither
@@ -98,4 +101,4 @@ module _ (g : Image) where
         (below-all cardCount (λ x. not (hasCard (controlIn g .newest .mask) x) || hasCard (controlIn g .working) x) c (rw running at (clauses .newest-works)) (has-card (controlIn g .newest .mask) c h)) h
       where
         h : hasCard (controlIn g .newest .mask) c ≡ true
-        h = site-member (controlIn g .newest) b c (usable-active (controlIn g .newest) (in-right (controlIn g .older) (controlIn g .newest ∷ []) (controlIn g .newest) (inl refl))) (lt-ltb b blockCount hb) e
+        h = site-member (controlIn g .newest) b c newest-usable (lt-ltb b blockCount hb) e

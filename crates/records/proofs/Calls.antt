@@ -4,11 +4,10 @@ use lib.Dec.{ltb}
 use lib.ListN.{length, length-take, take}
 use mathlib.Core.Bool.{Bool, _&&_, cond, false, true}
 use mathlib.Core.List.{List, [], _∷_}
-use mathlib.Core.Logic.{_≢_, inl}
+use mathlib.Core.Logic.{_≢_}
 use mathlib.Core.Option.{Option, none, some}
 use mathlib.Core.Path.{_∙_, _≡_, ap, refl, sym}
 use native.Mathlib.Omega.{arith}
-use Rattle.lists.proofs.Lists.{in-right}
 use Rattle.image.specs.Layout.{Whole, recordCount, slotCount, tranBound, valueBound}
 use Rattle.mask.specs.Masks.{byte}
 use Rattle.mask.specs.Placements.{Usable, fromMask}
@@ -25,7 +24,7 @@ use Rattle.promise.specs.declared.Answer.{Answer as AnswerValue}
 use Rattle.promise.specs.declared.Answer.the-variants.{Absent, Ok, Refused}
 use Rattle.promise.proofs.Finish.{by-blocks, by-look, form-good, form-long}
 use Rattle.promise.proofs.Laid.{laid}
-use Rattle.promise.proofs.View.{usable-active}
+use Rattle.promise.proofs.View.{newest-usable as newest-active-usable}
 use Rattle.trail.specs.Trail.{holdersIn}
 use Rattle.trail.proofs.Holding.{usable-same}
 use Rattle.records.specs.Access.{Ready}
@@ -66,7 +65,7 @@ module _ (g : Image) (t r : ℕ) (a : Access) (ready : Ready g t r a) where
   rec-fits = rec-lt t r ranges
 
   pub newest-usable : Usable (fromMask (byte (a .newest)))
-  newest-usable = usable-same (ready .newest-is) (usable-active g (form-good g (ready .formed)) (controlIn g .newest) (in-right (controlIn g .older) (controlIn g .newest ∷ []) (controlIn g .newest) (inl refl)))
+  newest-usable = usable-same (ready .newest-is) (newest-active-usable g (form-good g (ready .formed)))
 
   -- get: what is read
   pub get-done : (s : Entry) (x : AnswerValue) → stateOf s ≡ readBy t (seenIn g r) → shown x ≡ reply cabinet (stateOf s) → Done (get t r) g x g

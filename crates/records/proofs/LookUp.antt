@@ -19,8 +19,9 @@ use Rattle.control.specs.Meaning.{Reads, meaning}
 use Rattle.control.specs.declared.Found.{Found}
 use Rattle.cabinet_rules.specs.Cabinet.{cabinet, tranOk}
 use Rattle.cabinet_rules.specs.Images.{Image, controlIn, refusalOn}
-use Rattle.promise.proofs.Finish.{form-good, form-long, rulesOn}
-use Rattle.trail.specs.Trail.{Given, Lists, holdersIn}
+use Rattle.promise.specs.Given.{Given, rowsOn}
+use Rattle.promise.proofs.Finish.{form-good, form-long, given}
+use Rattle.trail.specs.Trail.{Lists, holdersIn}
 use Rattle.trail.specs.declared.Holders.{Holders}
 use Rattle.records.specs.Access.{LooksUp, earlyRows}
 use Rattle.records.specs.Slots.{lockedOutIn}
@@ -61,7 +62,7 @@ module _ (g : Image) (t r : ℕ) where
   form-row zero e d = absurd (d refl)
   form-row (suc n) e d = go (not (eqb (length g) imageSize)) (not (controlForm g)) (sym e)
     where
-      go : (a b : Bool) → row 1 a (row 2 b 0) ≡ suc n → suc n ≡ row 1 a (row 2 b (rulesOn (get t r) g))
+      go : (a b : Bool) → row 1 a (row 2 b 0) ≡ suc n → suc n ≡ row 1 a (row 2 b (rowsOn (get t r) g))
       go true b h = sym h
       go false true h = sym h
       go false false h = absurd (omega arith)
@@ -70,18 +71,18 @@ module _ (g : Image) (t r : ℕ) where
   refused-up a n e d is = record { refusal-is = e ∙ is; ready = λ z. absurd (d (sym e ∙ z)) }
 
   -- ---- the rows from 3 on
-  rules-row : formRefusal g ≡ 0 → (n : ℕ) → n ≡ rulesOn (get t r) g → n ≡ refusalOn (get t r) g
+  rules-row : formRefusal g ≡ 0 → (n : ℕ) → n ≡ rowsOn (get t r) g → n ≡ refusalOn (get t r) g
   rules-row clear n e = e ∙ sym (unfold refusalOn in (rw (eq-eqb (length g) imageSize (form-long g clear), form-good g clear)))
 
   module _ (f : Found) (reads : Reads g f) (z : f .refusal ≡ 0) (n : ℕ) (e : n ≡ earlyRows (meaning (f .control)) t r) where
-    pub given : Given (f .control) g
-    given = record { formed = sym (reads .refusal-is) ∙ z; is = reads .good z }
+    is-given : Given (f .control) g
+    is-given = given reads z
 
     early-is : n ≡ earlyRows (controlIn g) t r
-    early-is = e ∙ ap (λ (k : Part). earlyRows k t r) (given .is .means)
+    early-is = e ∙ ap (λ (k : Part). earlyRows k t r) (is-given .is .means)
 
     pub early-row : n ≢ 0 → n ≡ refusalOn (get t r) g
-    early-row d = rules-row (given .formed) n
+    early-row d = rules-row (is-given .formed) n
         (unfold refusal in (rows-more (tranOk t && ltb r recordCount) (controlIn g .stopped) (isOpen (controlIn g) t) n (row 7 (lockedOutIn g t r) 0) d early-is))
 
     -- none of 3, 4 and 5 applies
@@ -92,21 +93,21 @@ module _ (g : Image) (t r : ℕ) where
       pub rec-known : r < recordCount
       rec-known = rec-lt t r ranges
 
-      late-row : (b : Bool) → lockedOutIn g t r ≡ b → row 7 b 0 ≡ rulesOn (get t r) g
+      late-row : (b : Bool) → lockedOutIn g t r ≡ b → row 7 b 0 ≡ rowsOn (get t r) g
       late-row b l = ap (λ (x : Bool). row 7 x 0) (sym l)
           ∙ sym (unfold refusal in (rows-clear (tranOk t && ltb r recordCount) (controlIn g .stopped) (isOpen (controlIn g) t) (row 7 (lockedOutIn g t r) 0) (sym early-is ∙ clear)))
 
       pub locked-row : lockedOutIn g t r ≡ true → 7 ≡ refusalOn (get t r) g
-      locked-row l = rules-row (given .formed) 7 (late-row true l)
+      locked-row l = rules-row (is-given .formed) 7 (late-row true l)
 
       pub ready-up : (a : Access) → lockedOutIn g t r ≡ false → a .refusal ≡ 0 → fromMask (byte (a .newest)) ≡ meaning (f .control) .newest
           → Lists (a .holders) (holdersIn g (r / slotCount)) → LooksUp g t r a
       ready-up a l is new held = record {
-        refusal-is = is ∙ rules-row (given .formed) 0 (late-row false l);
+        refusal-is = is ∙ rules-row (is-given .formed) 0 (late-row false l);
         ready = λ y. record {
-          formed = given .formed;
+          formed = is-given .formed;
           accepted = late-row false l;
-          newest-is = new ∙ ap (λ (k : Part). k .newest) (given .is .means);
+          newest-is = new ∙ ap (λ (k : Part). k .newest) (is-given .is .means);
           holders-are = held;
         };
       }

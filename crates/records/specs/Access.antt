@@ -7,11 +7,12 @@ use Rattle.image.specs.Layout.{recordCount, slotCount}
 use Rattle.mask.specs.Masks.{byte}
 use Rattle.mask.specs.Placements.{fromMask}
 use Rattle.method.specs.ControlPart.{isOpen}
-use Rattle.method.specs.Rules.{get, look, refusal, row}
+use Rattle.method.specs.Rules.{get, row}
 use Rattle.control.specs.ControlBytes.{Part}
 use Rattle.control.specs.ControlForm.{formRefusal}
-use Rattle.cabinet_rules.specs.Cabinet.{cabinet, tranOk}
-use Rattle.cabinet_rules.specs.Images.{Image, controlIn, refusalOn, stateIn}
+use Rattle.cabinet_rules.specs.Cabinet.{tranOk}
+use Rattle.cabinet_rules.specs.Images.{Image, controlIn, refusalOn}
+use Rattle.promise.specs.Given.{rowsOn}
 use Rattle.trail.specs.Trail.{Lists, holdersIn}
 use Rattle.records.specs.declared.access.Access.{Access}
 
@@ -25,7 +26,7 @@ earlyRows k t r =
 -- No row applies, and the holders of the record's block and the newest placement are found.
 pub record Ready (g : Image) (t r : ℕ) (a : Access) : Type 0 where
   pub formed : formRefusal g ≡ 0
-  pub accepted : 0 ≡ refusal cabinet (get t r) (controlIn g) (look cabinet (stateIn g))
+  pub accepted : 0 ≡ rowsOn (get t r) g
   pub newest-is : fromMask (byte (a .newest)) ≡ controlIn g .newest
   pub holders-are : Lists (a .holders) (holdersIn g (r / slotCount))
 

@@ -13,8 +13,9 @@ use Rattle.method.specs.Rules.{act, committedIn, load, loaded, refusal, unwritt
 use Rattle.method.specs.Slots.{isSome}
 use Rattle.cabinet_rules.specs.Cabinet.{cabinet}
 use Rattle.cabinet_rules.specs.Images.{Image, blockIn, controlIn, planOn}
+use Rattle.promise.specs.Given.{rowsOn, viewOf}
 use Rattle.promise.proofs.View.{look-on}
-use Rattle.reorganise.specs.Reorganise.{cardRows, loadBelow, rowsOn, viewOf}
+use Rattle.reorganise.specs.Reorganise.{cardRows, loadBelow}
 
 -- ---- a block
 count-le : (n : ℕ) (f : ℕ → Bool) → count n f ≤ n

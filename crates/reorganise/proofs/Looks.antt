@@ -2,17 +2,16 @@
 use Prim.Native.Nat.{_%_, _+_, _<_, ℕ}
 use borrow.Author.Tests.{eq-eqb, ltb-true, ne-eqb}
 use lib.Dec.{eqb, leb, ltb}
-use lib.ListN.{getD, length}
+use lib.ListN.{getD}
 use mathlib.Core.Bool.{Bool, _||_, false, not, true}
 use mathlib.Core.List.{[], _∷_}
-use mathlib.Core.Logic.{_≢_, inl}
+use mathlib.Core.Logic.{_≢_}
 use mathlib.Core.Path.{_∙_, _≡_, ap, refl, subst, sym}
 use native.Mathlib.Nat.{mod-eq-of-lt}
 use native.Mathlib.Omega.{arith}
 use Rattle.lists.specs.Tests.{elem}
 use Rattle.lists.proofs.Bools.{not-not-is}
-use Rattle.lists.proofs.Lists.{in-right}
-use Rattle.image.specs.Layout.{blockAddress, blockCount, cardCount, imageSize}
+use Rattle.image.specs.Layout.{blockAddress, blockCount, cardCount}
 use Rattle.mask.specs.Masks.{Byte, byte, hasCard}
 use Rattle.mask.specs.Placements.{Usable, sitesOf}
 use Rattle.slot.specs.Blocks.{byteIn, isHeld}
@@ -20,22 +19,14 @@ use Rattle.slot.proofs.Blocks.{byte-in}
 use Rattle.method.specs.Rules.{newestSites}
 use Rattle.method.proofs.Refusals.{row-3, row-clear}
 use Rattle.control.specs.ControlBytes.{Part}
-use Rattle.control.specs.ControlForm.{formRefusal}
-use Rattle.control.specs.Meaning.{Reads, meaning}
+use Rattle.control.specs.Meaning.{meaning}
 use Rattle.control.specs.declared.Control.{Control}
-use Rattle.control.specs.declared.Found.{Found}
 use Rattle.cabinet_rules.specs.Cabinet.{cabinet}
 use Rattle.cabinet_rules.specs.Images.{Image, blockIn, controlIn}
-use Rattle.promise.proofs.Finish.{form-good, form-long}
-use Rattle.promise.proofs.View.{held-look, usable-active}
-use Rattle.reorganise.specs.Reorganise.{Given, cardRows, showsAt, viewOf}
-
--- ---- reading the control part
-pub found-clear : {g : Image} {r : Found} → Reads g r → r .refusal ≡ 0 → formRefusal g ≡ 0
-found-clear f e = sym (f .refusal-is) ∙ e
-
-pub given : (g : Image) (r : Found) → Reads g r → r .refusal ≡ 0 → Given (r .control) g
-given g r f e = let clear : formRefusal g ≡ 0 = found-clear f e in record { whole = form-long g clear; form = form-good g clear; is = f .good e }
+use Rattle.promise.specs.Given.{Given, viewOf}
+use Rattle.promise.proofs.Finish.{form-good}
+use Rattle.promise.proofs.View.{held-look, newest-usable as newest-active-usable}
+use Rattle.reorganise.specs.Reorganise.{cardRows, showsAt}
 
 -- ---- rows 3, 4 and 8
 pub card-accepted : (k : Part) (c : ℕ) → 0 ≡ cardRows k c → (c < cardCount) × (k .stopped ≡ false) × (hasCard (k .working) c ≡ true)
@@ -66,13 +57,8 @@ held-byte g c b h =
     sym (ap (λ (m : ℕ). leb 128 (m % 256)) e ∙ ap (leb 128) (mod-eq-of-lt h))
 
 module _ (k : Control) (g : Image) (is : Given k g) where
-  pub clear-of : formRefusal g ≡ 0
-  unfolding formRefusal
-  clear-of = rw (eq-eqb (length g) imageSize (is .whole), is .form)
-
   pub newest-usable : Usable (meaning k .newest)
-  newest-usable = subst (λ (p : Part). Usable (p .newest)) (sym (is .is .means))
-      (usable-active g (is .form) (controlIn g .newest) (in-right (controlIn g .older) (controlIn g .newest ∷ []) (controlIn g .newest) (inl refl)))
+  newest-usable = subst (λ (p : Part). Usable (p .newest)) (sym (is .is .means)) (newest-active-usable g (form-good g (is .formed)))
 
   pub newest-are : (b : ℕ) → sitesOf (meaning k .newest) b ≡ newestSites cabinet (controlIn g) b
   newest-are b = ap (λ (p : Part). sitesOf (p .newest) b) (is .is .means)

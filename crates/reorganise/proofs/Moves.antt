@@ -23,15 +23,16 @@ use Rattle.control.specs.Meaning.{meaning}
 use Rattle.control.specs.declared.Control.{Control}
 use Rattle.cabinet_rules.specs.Cabinet.{cabinet}
 use Rattle.cabinet_rules.specs.Images.{Image, Writes, blockIn, controlIn}
+use Rattle.promise.specs.Given.{Given, rowsOn, viewOf}
 use Rattle.promise.specs.Promise.{Done}
 use Rattle.promise.specs.declared.Answer.the-variants.{Copied}
-use Rattle.promise.proofs.Finish.{by-blocks}
+use Rattle.promise.proofs.Finish.{by-blocks, given-whole}
 use Rattle.promise.proofs.Laid.{block-is, laid, laid-none, laid-put, laid-same, of-block}
 use Rattle.promise.proofs.Laid.{putOne}
 use Rattle.promise.proofs.View.{look-on}
-use Rattle.reorganise.specs.Reorganise.{AreSites, Given, cardRows, rowsOn, showsAt, siteList, viewOf}
+use Rattle.reorganise.specs.Reorganise.{AreSites, cardRows, showsAt, siteList}
 use Rattle.reorganise.specs.declared.looking.Sites.{Sites}
-use Rattle.reorganise.proofs.Looks.{card-accepted, clear-of, newest-are, shows-held}
+use Rattle.reorganise.proofs.Looks.{card-accepted, newest-are, shows-held}
 
 -- ---- the rows: those on the numbers and the card, by their tests, and those on the card's copy
 abbrev rows : Bool → Bool → Bool → Bool → ℕ → ℕ
@@ -95,7 +96,7 @@ pub copy-rows : (k : Control) (g : Image) → Given k g → (c b : ℕ) → b < 
     → row 11 (not held) (row 12 locked 0) ≡ rowsOn (move c b) g
 copy-rows k g is c b hb n e z bytes r held locked p q =
     let ok : 0 ≡ cardRows (controlIn g) c = sym z ∙ e ∙ ap (λ (part : Part). cardRows part c) (is .is .means) in
-    let x : ofList bytes ≡ blockIn g c b = ap ofList r ∙ of-block g (is .whole) c b (card-accepted (controlIn g) c ok .0) hb in
+    let x : ofList bytes ≡ blockIn g c b = ap ofList r ∙ of-block g (given-whole is) c b (card-accepted (controlIn g) c ok .0) hb in
     ap₂ (λ (s t : Bool). row 11 (not s) (row 12 t 0)) (p ∙ ap isHeld x) (q ∙ ap anyLocked x) ∙ seen-rows g c b hb ok
 
 -- ---- a block that may be put
@@ -199,7 +200,7 @@ module _ (k : Control) (g : Image) (is : Given k g) (c b : ℕ) (ok : 0 ≡ rows
       let x = blockIn g c b in
       let w1 = first g (controlIn g) (viewOf g) c b (s .first .0) (s .second .0) sites-are seen-origin in
       let w2 = second g (controlIn g) (viewOf g) c b (s .first .0) (s .second .0) sites-are seen-origin in
-      let e1 = ap (λ (l : Image). cond (holds (s .first .0)) l (putBlock l (s .first .0) b (x .0))) (laid-none (λ d e. none) g (is .whole) (λ d e hd he. refl))
+      let e1 = ap (λ (l : Image). cond (holds (s .first .0)) l (putBlock l (s .first .0) b (x .0))) (laid-none (λ d e. none) g (given-whole is) (λ d e hd he. refl))
       ∙ fill-laid (holds (s .first .0)) (λ d e. none) g (s .first .0) b (at .first-fits) hb x in
       let e2 = ap (λ (l : Image). cond (holds (s .second .0)) l (putBlock l (s .second .0) b (x .0))) e1
       ∙ fill-laid (holds (s .second .0)) w1 g (s .second .0) b (at .second-fits) hb x in
@@ -214,7 +215,7 @@ module _ (k : Control) (g : Image) (is : Given k g) (c b : ℕ) (ok : 0 ≡ rows
       → n ≡ oneIf (not one) + oneIf (not two) → out ≡ filled one two stays (s .first .0) (s .second .0) c b x g → Done (move c b) g (Copied n) out
   unfolding act
   move-done one two stays x n out p q r e m o =
-      by-blocks (move c b) refl g (clear-of k g is) (Copied n) (moveWrites cabinet (controlIn g) (viewOf g) c b) out ok
+      by-blocks (move c b) refl g (is .formed) (Copied n) (moveWrites cabinet (controlIn g) (viewOf g) c b) out ok
       (ap (λ (j : ℕ). writing cabinet (copied j) (controlIn g) (moveWrites cabinet (controlIn g) (viewOf g) c b)) (sym copies))
       (o ∙ (λ i. filled (one-is i) (two-is i) (r i) (s .first .0) (s .second .0) c b (bytes i) g) ∙ filled-laid)
     where
@@ -225,7 +226,7 @@ module _ (k : Control) (g : Image) (is : Given k g) (c b : ℕ) (ok : 0 ≡ rows
       two-is = q ∙ shows-held k g is b (s .second .0) hb
 
       bytes : x ≡ blockIn g c b .0
-      bytes = e ∙ sym (block-is g (is .whole) c b hc hb)
+      bytes = e ∙ sym (block-is g (given-whole is) c b hc hb)
 
       copies : n ≡ countNot holds (newestSites cabinet (controlIn g) b)
       copies = m ∙ ap₂ (λ (y z : Bool). oneIf (not y) + oneIf (not z)) one-is two-is ∙ plus (oneIf (not (holds (s .first .0)))) (oneIf (not (holds (s .second .0)))) ∙ ap (countNot holds) (sym sites-are)

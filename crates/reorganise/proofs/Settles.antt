@@ -17,8 +17,8 @@ use Rattle.control.specs.declared.Control.{Control}
 use Rattle.control.proofs.Struct.{length-placements}
 use Rattle.cabinet_rules.specs.Cabinet.{cabinet}
 use Rattle.cabinet_rules.specs.Images.{Image, controlIn, planOn}
-use Rattle.reorganise.specs.Reorganise.{AreSites, Given, blockSettled, cardSettled, rowsOn, showsAt, siteList}
-use Rattle.reorganise.specs.Reorganise.{viewOf}
+use Rattle.promise.specs.Given.{Given, rowsOn, viewOf}
+use Rattle.reorganise.specs.Reorganise.{AreSites, blockSettled, cardSettled, showsAt, siteList}
 use Rattle.reorganise.specs.declared.looking.Sites.{Sites}
 use Rattle.reorganise.proofs.Looks.{newest-are, shows-held, stopped-is}
 

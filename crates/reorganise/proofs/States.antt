@@ -10,7 +10,7 @@ use Rattle.control.specs.Meaning.{maskIn, meaning}
 use Rattle.control.specs.declared.Control.{Control}
 use Rattle.cabinet_rules.specs.Cabinet.{cabinet}
 use Rattle.cabinet_rules.specs.Images.{Image, controlIn, planOn}
-use Rattle.reorganise.specs.Reorganise.{Given, rowsOn}
+use Rattle.promise.specs.Given.{Given, rowsOn}
 use Rattle.reorganise.proofs.Looks.{stopped-is}
 
 -- one placement is active, or more

@@ -1,35 +1,18 @@
 -- What the functions under the calls move, settle, state and load say of an image. Assumes nothing.
 use Prim.Native.Nat.{_<_, ℕ}
 use lib.Dec.{ltb}
-use mathlib.Core.Bool.{Bool, _&&_, _||_, not, true}
+use mathlib.Core.Bool.{Bool, _&&_, _||_, not}
 use mathlib.Core.List.{List, [], _∷_}
 use mathlib.Core.Path.{_≡_}
 use Rattle.lists.specs.Tests.{all, allBelow, elem, sumBelow}
-use Rattle.image.specs.Layout.{Whole, cardCount}
+use Rattle.image.specs.Layout.{cardCount}
 use Rattle.mask.specs.Masks.{Byte, hasCard}
 use Rattle.slot.specs.Blocks.{isHeld}
-use Rattle.method.specs.Rules.{Call, View, committedIn, look, refusal, row}
+use Rattle.method.specs.Rules.{committedIn, row}
 use Rattle.control.specs.ControlBytes.{Part}
-use Rattle.control.specs.ControlForm.{controlForm}
-use Rattle.control.specs.Meaning.{Is}
-use Rattle.control.specs.declared.Control.{Control}
 use Rattle.cabinet_rules.specs.Cabinet.{cabinet}
-use Rattle.cabinet_rules.specs.Images.{Image, blockIn, controlIn, stateIn}
+use Rattle.cabinet_rules.specs.Images.{Image, blockIn}
 use Rattle.reorganise.specs.declared.looking.Sites.{Sites}
-
--- The image passes rows 1 and 2, and the struct is its control part.
-pub record Given (k : Control) (g : Image) : Type 0 where
-  pub whole : Whole g
-  pub form : controlForm g ≡ true
-  pub is : Is k (controlIn g)
-
--- What a call may read of the card tables.
-abbrev pub viewOf : Image → View cabinet
-viewOf g = look cabinet (stateIn g)
-
--- The rows of the refusal table from 3 on.
-abbrev pub rowsOn : Call cabinet → Image → ℕ
-rowsOn c g = refusal cabinet c (controlIn g) (viewOf g)
 
 -- The rows of a call on a working card: 3, 4 and 8.
 unfoldable pub cardRows : Part → ℕ → ℕ

@@ -8,14 +8,8 @@ ghost use Rattle.mask.specs.Masks.{byte};
 ghost use Rattle.method.specs.Rules.{settle, settled};
 ghost use Rattle.cabinet_rules.specs.Cabinet.{cabinet};
 ghost use Rattle.cabinet_rules.specs.Images.{controlIn};
-ghost use Rattle.reorganise.specs.Reorganise.{
-  Given,
-  blockSettled,
-  rowsOn,
-  showsAt,
-  siteList,
-  viewOf,
-};
+ghost use Rattle.promise.specs.Given.{Given, rowsOn, viewOf};
+ghost use Rattle.reorganise.specs.Reorganise.{blockSettled, showsAt, siteList};
 use crate::looking;
 use crate::looking::Sites;
 use control::Control;

@@ -11,7 +11,7 @@ use native.Mathlib.Omega.{arith}
 use Rattle.lists.specs.Tests.{In, concatMap, keepIf}
 use Rattle.lists.proofs.Bools.{split}
 use Rattle.lists.proofs.Cases.{by-eq}
-use Rattle.image.specs.Layout.{Whole, blockAt, blockCount, cardCount}
+use Rattle.image.specs.Layout.{blockAt, blockCount, cardCount}
 use Rattle.mask.specs.Masks.{byte, hasCard}
 use Rattle.mask.specs.Placements.{Placement, Usable, firstSite, fromMask, secondSite, sitesOf}
 use Rattle.mask.proofs.Masks.{has-card, size-members}
@@ -26,11 +26,12 @@ use Rattle.control.specs.declared.Control.{Control}
 use Rattle.control.proofs.Struct.{active-is}
 use Rattle.cabinet_rules.specs.Cabinet.{cabinet}
 use Rattle.cabinet_rules.specs.Images.{Image, controlIn, stateIn}
-use Rattle.promise.proofs.Finish.{form-good, form-long}
+use Rattle.promise.specs.Given.{Given}
+use Rattle.promise.proofs.Finish.{form-good, given-whole}
 use Rattle.promise.proofs.Laid.{of-block}
 use Rattle.promise.proofs.View.{held-look, usable-active, works-not-failed}
 use Rattle.trail.specs.declared.Holders.{Holders}
-use Rattle.trail.specs.Trail.{Given, Lists, Sound, cardsOf, holdersIn, holdsAt, mostHolders}
+use Rattle.trail.specs.Trail.{Lists, Sound, cardsOf, holdersIn, holdsAt, mostHolders}
 
 -- ---- whether a card holds the block
 pub holds-on : (w : ℕ) (g : Image) (b c : ℕ) (x : Bool) → hasCard (byte w) c ≡ true → x ≡ isHeld (ofList (blockAt g c b)) → x ≡ holdsAt w g b c
@@ -123,9 +124,6 @@ unfolding firstHolders
 first-none g b masks = refl
 
 module _ (k : Control) (g : Image) (given : Given k g) where
-  pub whole : Whole g
-  whole = form-long g (given .formed)
-
   pub formed : controlForm g ≡ true
   formed = form-good g (given .formed)
 
@@ -141,7 +139,7 @@ module _ (k : Control) (g : Image) (given : Given k g) where
   -- the code tests whether a card works, the rules whether it has failed
   test-is : (b c : ℕ) → b < blockCount → c < cardCount → (notFailed g c && holdsSeen g b c) ≡ holdsAt (k .working) g b c
   unfolding holdsAt
-  test-is b c hb hc = ap (λ (t : Bool). notFailed g c && t) (held-look g c b hb) ∙ ap (λ (x : BlockBytes). notFailed g c && (hasCard (controlIn g .working) c && isHeld x)) (sym (of-block g whole c b hc hb))
+  test-is b c hb hc = ap (λ (t : Bool). notFailed g c && t) (held-look g c b hb) ∙ ap (λ (x : BlockBytes). notFailed g c && (hasCard (controlIn g .working) c && isHeld x)) (sym (of-block g (given-whole given) c b hc hb))
       ∙ go (split (hasCard (controlIn g .working) c)) ∙ ap (λ (t : Bool). t && isHeld (ofList (blockAt g c b))) working-is
     where
       working-is : hasCard (controlIn g .working) c ≡ hasCard (byte (k .working)) c

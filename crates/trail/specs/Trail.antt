@@ -7,22 +7,15 @@ use mathlib.Core.Path.{_≡_}
 use Rattle.image.specs.Layout.{blockAt, cardCount, copyCount}
 use Rattle.mask.specs.Masks.{byte, hasCard}
 use Rattle.slot.specs.Blocks.{isHeld, ofList}
-use Rattle.method.specs.Rules.{holders, look}
-use Rattle.control.specs.ControlForm.{formRefusal}
-use Rattle.control.specs.Meaning.{Is}
-use Rattle.control.specs.declared.Control.{Control}
+use Rattle.method.specs.Rules.{holders}
 use Rattle.cabinet_rules.specs.Cabinet.{cabinet}
-use Rattle.cabinet_rules.specs.Images.{Image, controlIn, stateIn}
+use Rattle.cabinet_rules.specs.Images.{Image, controlIn}
+use Rattle.promise.specs.Given.{viewOf}
 use Rattle.trail.specs.declared.Holders.{Holders}
-
--- The image passes the rows 1 and 2, and k is its control part.
-pub record Given (k : Control) (g : Image) : Type 0 where
-  pub formed : formRefusal g ≡ 0
-  pub is : Is k (controlIn g)
 
 -- The holders of block b as the rules have them.
 abbrev pub holdersIn : Image → ℕ → List ℕ
-holdersIn g b = holders cabinet (controlIn g) (look cabinet (stateIn g)) b
+holdersIn g b = holders cabinet (controlIn g) (viewOf g) b
 
 -- Card c, of these working cards, holds block b.
 unfoldable pub holdsAt : ℕ → Image → ℕ → ℕ → Bool

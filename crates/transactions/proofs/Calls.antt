@@ -15,7 +15,8 @@ use Rattle.cabinet_rules.specs.Cabinet.{cabinet}
 use Rattle.cabinet_rules.specs.Images.{Image, controlIn, stateIn}
 use Rattle.promise.specs.Promise.{Done}
 use Rattle.promise.specs.declared.Answer.the-variants.{Ok, Refused}
-use Rattle.promise.proofs.Finish.{by-both, by-control, by-rules, form-long, rulesOn}
+use Rattle.promise.specs.Given.{rowsOn}
+use Rattle.promise.proofs.Finish.{by-both, by-control, by-rules, form-long}
 use Rattle.promise.proofs.Laid.{laid}
 use Rattle.tables.specs.Tables.{endWrites, setOf}
 use Rattle.tables.proofs.Ends.{ends-set}
@@ -41,7 +42,7 @@ module _ (g : Image) (found : Found) (reads : Reads g found) (passed : found .re
 
   -- ---- begin
   module _ (t h : ℕ) where
-    begin-on : beginRows k t h ≡ rulesOn (begin t h) g
+    begin-on : beginRows k t h ≡ rowsOn (begin t h) g
     begin-on = ap (λ (p : Part). beginRows p t h) means ∙ begin-rows (controlIn g) seen t h
 
     pub begin-refused : (n : ℕ) → n ≡ beginRows k t h → (n ≡ 0 → ⊥) → Done (begin t h) g (Refused n) g
@@ -54,7 +55,7 @@ module _ (g : Image) (found : Found) (reads : Reads g found) (passed : found .re
 
   -- ---- commit, rollback
   module _ (take : Bool) (t : ℕ) where
-    end-on : endRows k t ≡ rulesOn (endCall take t) g
+    end-on : endRows k t ≡ rowsOn (endCall take t) g
     end-on = ap (λ (p : Part). endRows p t) means ∙ end-rows (controlIn g) seen t take
 
     pub end-refused : (n : ℕ) → n ≡ endRows k t → (n ≡ 0 → ⊥) → Done (endCall take t) g (Refused n) g

@@ -5,9 +5,9 @@ use Rattle.control.specs.ControlBytes.{Part}
 use Rattle.control.specs.Meaning.{meaning}
 use Rattle.cabinet_rules.specs.Images.{controlIn}
 use Rattle.promise.specs.declared.Answer.the-variants.{Loaded}
-use Rattle.promise.proofs.Finish.{by-form, by-look, by-rules, form-long}
+use Rattle.promise.proofs.Finish.{by-form, by-look, by-rules, given, given-whole}
 use Rattle.reorganise.specs.Reorganise.{cardRows}
-use Rattle.reorganise.proofs.Looks.{card-accepted, found-clear}
+use Rattle.reorganise.proofs.Looks.{card-accepted}
 use Rattle.reorganise.proofs.Loads.{load-plan, load-rows}
 use borrow.Author.Needs.{needs}
 use Rattle.reorganise.proofs.load.Statement.{statement}
@@ -32,7 +32,7 @@ returns-2 c =
     let r = e .before .before in
     let a = r .before .before .args in
     let g = a .image .now in
-    by-rules (load (a .card .0)) refl g (found-clear (r .read .ensures) (e .if1 .left)) (m .card-refusal .result)
+    by-rules (load (a .card .0)) refl g (given (r .read .ensures) (e .if1 .left) .formed) (m .card-refusal .result)
     (m .card-refusal .ensures ∙ ap (λ (p : Part). cardRows p (a .card .0)) (r .read .ensures .good (e .if1 .left) .means) ∙ load-rows g (a .card .0)) (c .if2 .taken)
 
 load-table-requires : tie.Need-load-table-requires
@@ -42,7 +42,7 @@ load-table-requires c κs =
     let r = e .before .before in
     let a = r .before .before .args in
     let g = a .image .now in
-    (form-long g (found-clear (r .read .ensures) (e .if1 .left)), card-accepted (meaning (r .read .result .control)) (a .card .0) (sym (c .if2 .left) ∙ m .card-refusal .ensures) .0)
+    (given-whole (given (r .read .ensures) (e .if1 .left)), card-accepted (meaning (r .read .result .control)) (a .card .0) (sym (c .if2 .left) ∙ m .card-refusal .ensures) .0)
 
 returns-3 : tie.Need-returns-3
 returns-3 c =
@@ -52,7 +52,7 @@ returns-3 c =
     let a = r .before .before .args in
     let g = a .image .now in
     let ok : 0 ≡ cardRows (controlIn g) (a .card .0) = sym (c .before .if2 .left) ∙ m .card-refusal .ensures ∙ ap (λ (p : Part). cardRows p (a .card .0)) (r .read .ensures .good (e .if1 .left) .means) in
-    by-look (load (a .card .0)) refl g (found-clear (r .read .ensures) (e .if1 .left)) (Loaded (c .load-table .result)) (ok ∙ load-rows g (a .card .0))
+    by-look (load (a .card .0)) refl g (given (r .read .ensures) (e .if1 .left) .formed) (Loaded (c .load-table .result)) (ok ∙ load-rows g (a .card .0))
     (load-plan g (a .card .0) (card-accepted (controlIn g) (a .card .0) ok .2) (c .load-table .result) (c .load-table .ensures))
 
 pub load-spec : {M : Type 1} → statement M

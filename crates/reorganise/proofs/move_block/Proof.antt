@@ -1,8 +1,7 @@
 -- The proof of `move_block`. Assumes nothing.
 use mathlib.Core.Path.{_∙_, refl, sym}
 use Rattle.method.specs.Rules.{move}
-use Rattle.promise.proofs.Finish.{by-form, by-rules}
-use Rattle.reorganise.proofs.Looks.{found-clear, given}
+use Rattle.promise.proofs.Finish.{by-form, by-rules, given}
 use borrow.Author.Needs.{needs}
 use Rattle.reorganise.proofs.move_block.Statement.{statement}
 use Rattle.reorganise.proofs.move_block.Tie as tie
@@ -23,7 +22,7 @@ refusal-requires : tie.Need-refusal-requires
 refusal-requires c κs =
     let e = c .before .before in
     let r = e .before .before in
-    given (r .before .before .before .args .image .now) (r .read .result) (r .read .ensures) (e .if1 .left)
+    given (r .read .ensures) (e .if1 .left)
 
 same-length-2 : tie.Need-same-length-2
 same-length-2 c = search needs
@@ -34,14 +33,14 @@ returns-2 c =
     let e = m .before .before .before in
     let r = e .before .before in
     let a = r .before .before .before .args in
-    by-rules (move (a .card .0) (a .block .0)) refl (a .image .now) (found-clear (r .read .ensures) (e .if1 .left)) (m .refusal .result) (m .refusal .ensures) (c .if2 .taken)
+    by-rules (move (a .card .0) (a .block .0)) refl (a .image .now) (given (r .read .ensures) (e .if1 .left) .formed) (m .refusal .result) (m .refusal .ensures) (c .if2 .taken)
 
 spread-requires : tie.Need-spread-requires
 spread-requires c κs =
     let m = c .before .before in
     let e = m .before .before .before in
     let r = e .before .before in
-    (given (r .before .before .before .args .image .now) (r .read .result) (r .read .ensures) (e .if1 .left), sym (c .before .if2 .left) ∙ m .refusal .ensures)
+    (given (r .read .ensures) (e .if1 .left), sym (c .before .if2 .left) ∙ m .refusal .ensures)
 
 same-length-3 : tie.Need-same-length-3
 same-length-3 c = search needs

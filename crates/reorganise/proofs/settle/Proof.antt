@@ -8,8 +8,7 @@ use Rattle.control.specs.ControlBytes.{Part}
 use Rattle.control.specs.Meaning.{putControl}
 use Rattle.cabinet_rules.specs.Images.{controlIn}
 use Rattle.promise.specs.declared.Answer.the-variants.{Retired}
-use Rattle.promise.proofs.Finish.{by-control, by-form, by-rules, form-long}
-use Rattle.reorganise.proofs.Looks.{found-clear, given}
+use Rattle.promise.proofs.Finish.{by-control, by-form, by-rules, given, given-whole}
 use Rattle.reorganise.proofs.Settles.{settle-plan}
 use borrow.Author.Needs.{needs}
 use Rattle.reorganise.proofs.settle.Statement.{statement}
@@ -30,7 +29,7 @@ refusal-requires : tie.Need-refusal-requires
 refusal-requires c κs =
     let e = c .before .before in
     let r = e .before .before in
-    given (r .before .before .before .args .image .now) (r .read .result) (r .read .ensures) (e .if1 .left)
+    given (r .read .ensures) (e .if1 .left)
 
 same-length-2 : tie.Need-same-length-2
 same-length-2 c = search needs
@@ -40,7 +39,7 @@ returns-2 c =
     let m = c .before in
     let e = m .before .before .before in
     let r = e .before .before in
-    by-rules settle refl (r .before .before .before .args .image .now) (found-clear (r .read .ensures) (e .if1 .left)) (m .refusal .result) (m .refusal .ensures) (c .if2 .taken)
+    by-rules settle refl (r .before .before .before .args .image .now) (given (r .read .ensures) (e .if1 .left) .formed) (m .refusal .result) (m .refusal .ensures) (c .if2 .taken)
 
 sub-retired : tie.Need-sub-retired
 sub-retired c =
@@ -58,7 +57,7 @@ write-requires : tie.Need-write-requires
 write-requires c κs =
     let e = c .before .before .before .before .before .before .before in
     let r = e .before .before in
-    (omega (arith, form-long (r .before .before .before .args .image .now) (found-clear (r .read .ensures) (e .if1 .left))), c .retire .ensures .counted)
+    (omega (arith, given-whole (given (r .read .ensures) (e .if1 .left))), c .retire .ensures .counted)
 
 same-length-3 : tie.Need-same-length-3
 same-length-3 c = search needs
@@ -73,8 +72,8 @@ returns-3 c =
     let r = e .before .before in
     let g = r .before .before .before .args .image .now in
     let k = r .read .result .control in
-    let is = given g (r .read .result) (r .read .ensures) (e .if1 .left) in
-    by-control settle refl g (found-clear (r .read .ensures) (e .if1 .left)) (Retired (k .count - 1)) (onlyNewest (controlIn g)) _
+    let is = given (r .read .ensures) (e .if1 .left) in
+    by-control settle refl g (is .formed) (Retired (k .count - 1)) (onlyNewest (controlIn g)) _
     (sym (f .if2 .left) ∙ m .refusal .ensures) (settle-plan k g is)
     (w .write .ensures ∙ ap (putControl g) (t .retire .ensures .means ∙ ap (λ (p : Part). onlyNewest p) (is .is .means)))
 

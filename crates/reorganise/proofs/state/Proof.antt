@@ -3,8 +3,7 @@ use mathlib.Core.Path.{refl}
 use native.Mathlib.Omega.{arith}
 use Rattle.method.specs.Rules.{state}
 use Rattle.promise.specs.declared.Answer.the-variants.{Protected, Unprotected}
-use Rattle.promise.proofs.Finish.{by-form, by-look, by-rules}
-use Rattle.reorganise.proofs.Looks.{found-clear, given}
+use Rattle.promise.proofs.Finish.{by-form, by-look, by-rules, given}
 use Rattle.reorganise.proofs.States.{state-more, state-one, state-rows}
 use borrow.Author.Needs.{needs}
 use Rattle.reorganise.proofs.state.Statement.{statement}
@@ -23,9 +22,9 @@ returns-2 c =
     let e = c .before .before in
     let r = e .before .before in
     let g = r .before .before .args .image .now in
-    let is = given g (r .read .result) (r .read .ensures) (e .if1 .left) in
+    let is = given (r .read .ensures) (e .if1 .left) in
     let k = r .read .result .control in
-    by-rules state refl g (found-clear (r .read .ensures) (e .if1 .left)) 4 (rw (c .if2 .taken) at (state-rows k g is)) (λ z. omega arith)
+    by-rules state refl g (is .formed) 4 (rw (c .if2 .taken) at (state-rows k g is)) (λ z. omega arith)
 
 returns-3 : tie.Need-returns-3
 returns-3 c =
@@ -33,9 +32,9 @@ returns-3 c =
     let e = f .before .before in
     let r = e .before .before in
     let g = r .before .before .args .image .now in
-    let is = given g (r .read .result) (r .read .ensures) (e .if1 .left) in
+    let is = given (r .read .ensures) (e .if1 .left) in
     let k = r .read .result .control in
-    by-look state refl g (found-clear (r .read .ensures) (e .if1 .left)) Protected (rw (f .if2 .left) at (state-rows k g is)) (state-one k g is (c .if3 .taken))
+    by-look state refl g (is .formed) Protected (rw (f .if2 .left) at (state-rows k g is)) (state-one k g is (c .if3 .taken))
 
 returns-4 : tie.Need-returns-4
 returns-4 c =
@@ -43,9 +42,9 @@ returns-4 c =
     let e = f .before .before in
     let r = e .before .before in
     let g = r .before .before .args .image .now in
-    let is = given g (r .read .result) (r .read .ensures) (e .if1 .left) in
+    let is = given (r .read .ensures) (e .if1 .left) in
     let k = r .read .result .control in
-    by-look state refl g (found-clear (r .read .ensures) (e .if1 .left)) Unprotected (rw (f .if2 .left) at (state-rows k g is)) (state-more k g is (c .if3 .left))
+    by-look state refl g (is .formed) Unprotected (rw (f .if2 .left) at (state-rows k g is)) (state-more k g is (c .if3 .left))
 
 pub state-spec : {M : Type 1} → statement M
 state-spec = tie.close (tie.spec read-requires returns returns-2 returns-3 returns-4)

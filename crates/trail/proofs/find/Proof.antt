@@ -9,8 +9,9 @@ use Rattle.image.specs.Layout.{copyCount}
 use Rattle.mask.specs.Masks.{byte}
 use Rattle.mask.specs.Placements.{fromMask, sitesOf}
 use Rattle.control.specs.Meaning.{maskIn}
+use Rattle.promise.proofs.Finish.{given-whole}
 use Rattle.trail.specs.Trail.{Lists, holdsAt}
-use Rattle.trail.proofs.Holding.{first-all, first-more, first-none, firstHolders, usable-mask, whole}
+use Rattle.trail.proofs.Holding.{first-all, first-more, first-none, firstHolders, usable-mask}
 use Rattle.trail.proofs.find.Statement.{statement}
 use Rattle.trail.proofs.find.Tie as tie
 
@@ -42,7 +43,7 @@ push-sites-requires c κs =
     let l = c .before .loop in
     let s = c .before .before .before .before .before in
     let given = s .pre .0 in (
-      (whole (s .args .k) (s .args .image .now) given, usable-mask (s .args .k) (s .args .image .now) given (l .i) (omega arith), s .pre .1),
+      (given-whole given, usable-mask (s .args .k) (s .args .image .now) given (l .i) (omega arith), s .pre .1),
       (l .inv .2 .sound, omega (arith, given .is .counted .few)),
     )
 

@@ -5,8 +5,8 @@ use native.Mathlib.Omega.{arith}
 use borrow.Author.Needs.{needs}
 use Rattle.image.specs.Layout.{recordCount}
 use Rattle.control.proofs.Struct.{newest-by}
-use Rattle.promise.proofs.Finish.{form-long}
-use Rattle.records.proofs.LookUp.{early-row, form-row, given, lists-at, locked-row, ready-up, rec-known, refused-up}
+use Rattle.promise.proofs.Finish.{given, given-whole}
+use Rattle.records.proofs.LookUp.{early-row, form-row, lists-at, locked-row, ready-up, rec-known, refused-up}
 use Rattle.records.proofs.access.look_up.Statement.{statement}
 use Rattle.records.proofs.access.look_up.Tie as tie
 
@@ -56,7 +56,7 @@ find-requires c κs =
     let f = e .before .before in
     let a = f .before .before .args in
     let small : a .rec .0 < recordCount = rec-known (a .image .now) (a .tran .0) (a .rec .0) (f .read .result) (f .read .ensures) (e .if1 .left) (y .early-rows .result) (y .early-rows .ensures) (x .if2 .left) in
-    (given (a .image .now) (a .tran .0) (a .rec .0) (f .read .result) (f .read .ensures) (e .if1 .left) (y .early-rows .result) (y .early-rows .ensures), omega arith)
+    (given (f .read .ensures) (e .if1 .left), omega arith)
 
 locked-out-requires : tie.Need-locked-out-requires
 locked-out-requires c κs =
@@ -66,7 +66,7 @@ locked-out-requires c κs =
     let e = y .before .before in
     let f = e .before .before in
     let a = f .before .before .args in (
-      (form-long (a .image .now) (given (a .image .now) (a .tran .0) (a .rec .0) (f .read .result) (f .read .ensures) (e .if1 .left) (y .early-rows .result) (y .early-rows .ensures) .formed), rec-known (a .image .now) (a .tran .0) (a .rec .0) (f .read .result) (f .read .ensures) (e .if1 .left) (y .early-rows .result) (y .early-rows .ensures) (x .if2 .left)),
+      (given-whole (given (f .read .ensures) (e .if1 .left)), rec-known (a .image .now) (a .tran .0) (a .rec .0) (f .read .result) (f .read .ensures) (e .if1 .left) (y .early-rows .result) (y .early-rows .ensures) (x .if2 .left)),
       lists-at (a .image .now) (c .find .result) (b .block-of .ensures) (c .find .ensures),
     )
 

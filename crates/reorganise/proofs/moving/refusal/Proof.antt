@@ -4,6 +4,7 @@ use mathlib.Core.Path.{_∙_, ap, refl, sym}
 use Rattle.slot.specs.Blocks.{anyLocked, ofList}
 use Rattle.control.specs.ControlBytes.{Part}
 use Rattle.control.specs.Meaning.{meaning}
+use Rattle.promise.proofs.Finish.{given-whole}
 use Rattle.reorganise.specs.Reorganise.{cardRows}
 use Rattle.reorganise.proofs.Looks.{card-accepted}
 use Rattle.reorganise.proofs.Moves.{copy-rows, refused-block, refused-card}
@@ -32,7 +33,7 @@ get-block-requires : tie.Need-get-block-requires
 get-block-requires c κs =
     let r = c .before in
     let s = r .before .before .before .before in
-    (s .pre .whole, card-accepted (meaning (s .args .k)) (s .args .card .0) (sym (c .if2 .left) ∙ r .card-refusal .ensures) .0, r .before .if1 .left)
+    (given-whole (s .pre), card-accepted (meaning (s .args .k)) (s .args .card .0) (sym (c .if2 .left) ∙ r .card-refusal .ensures) .0, r .before .if1 .left)
 
 is-held-requires : tie.Need-is-held-requires
 is-held-requires c κs = search needs

@@ -3,7 +3,8 @@ use Prim.Native.Nat.{_+_, ℕ}
 use mathlib.Core.Bool.{cond}
 use mathlib.Core.List.{List}
 use mathlib.Core.Path.{_∙_, ap, ap₂}
-use Rattle.image.specs.Layout.{blockSize, putBlock, zeros}
+use Rattle.image.specs.Layout.{Whole, blockSize, putBlock, zeros}
+use Rattle.promise.proofs.Finish.{given-whole}
 use Rattle.reorganise.proofs.Looks.{newest-usable}
 use Rattle.reorganise.proofs.Moves.{accepted, move-done}
 use borrow.Author.Needs.{needs}
@@ -19,13 +20,13 @@ shows-requires : tie.Need-shows-requires
 shows-requires c κs =
     let n = c .before .before .before in
     let s = n .before .before in
-    (s .pre .0 .whole, n .newest-sites .ensures .first-fits, accepted (s .args .image .now) (s .args .card .0) (s .args .block .0) (s .pre .1) .1)
+    (given-whole (s .pre .0), n .newest-sites .ensures .first-fits, accepted (s .args .image .now) (s .args .card .0) (s .args .block .0) (s .pre .1) .1)
 
 shows-requires-2 : tie.Need-shows-requires-2
 shows-requires-2 c κs =
     let n = c .before .before .before .before .before in
     let s = n .before .before in
-    (s .pre .0 .whole, n .newest-sites .ensures .second-fits, accepted (s .args .image .now) (s .args .card .0) (s .args .block .0) (s .pre .1) .1)
+    (given-whole (s .pre .0), n .newest-sites .ensures .second-fits, accepted (s .args .image .now) (s .args .card .0) (s .args .block .0) (s .pre .1) .1)
 
 is-site-requires : tie.Need-is-site-requires
 is-site-requires c κs = search needs
@@ -34,18 +35,19 @@ get-block-requires : tie.Need-get-block-requires
 get-block-requires c κs =
     let s = c .before .before .before .before .before .before .before .before .before .before in
     let r = accepted (s .args .image .now) (s .args .card .0) (s .args .block .0) (s .pre .1) in
-    (s .pre .0 .whole, r .0, r .1)
+    (given-whole (s .pre .0), r .0, r .1)
 
 fill-requires : tie.Need-fill-requires
 fill-requires c κs =
     let n = c .before .before .before .before .before .before .before .before .before .before in
     let s = n .before .before in
-    (s .pre .0 .whole, n .newest-sites .ensures .first-fits, accepted (s .args .image .now) (s .args .card .0) (s .args .block .0) (s .pre .1) .1)
+    (given-whole (s .pre .0), n .newest-sites .ensures .first-fits, accepted (s .args .image .now) (s .args .card .0) (s .args .block .0) (s .pre .1) .1)
 
 fill-requires-2 : tie.Need-fill-requires-2
 fill-requires-2 c κs =
     let n = c .before .before .before .before .before .before .before .before .before .before .before .before .before .before in
     let s = n .before .before in
+    let w : Whole (s .args .image .now) = given-whole (s .pre .0) in
     (search needs, n .newest-sites .ensures .second-fits, accepted (s .args .image .now) (s .args .card .0) (s .args .block .0) (s .pre .1) .1)
 
 fill-requires-3 : tie.Need-fill-requires-3
@@ -53,6 +55,7 @@ fill-requires-3 c κs =
     let n = c .before .before .before .before .before .before .before .before .before .before .before .before .before .before .before .before .before .before in
     let s = n .before .before in
     let r = accepted (s .args .image .now) (s .args .card .0) (s .args .block .0) (s .pre .1) in
+    let w : Whole (s .args .image .now) = given-whole (s .pre .0) in
     (search needs, r .0, r .1)
 
 add-result : tie.Need-add-result

@@ -11,7 +11,8 @@ use Rattle.image.specs.Layout.{blockCount}
 use Rattle.method.specs.Rules.{settledAt}
 use Rattle.cabinet_rules.specs.Cabinet.{cabinet}
 use Rattle.cabinet_rules.specs.Images.{controlIn}
-use Rattle.reorganise.specs.Reorganise.{viewOf}
+use Rattle.promise.specs.Given.{viewOf}
+use Rattle.promise.proofs.Finish.{given-whole}
 use Rattle.reorganise.proofs.Looks.{newest-usable}
 use Rattle.reorganise.proofs.Settles.{all-pass, block-is-settled, some-fails}
 use Rattle.reorganise.proofs.settling.settled.Statement.{statement}
@@ -38,7 +39,7 @@ block-settled-requires : tie.Need-block-settled-requires Inv-loop μ-loop
 block-settled-requires c κs =
     let n = c .newest-sites .ensures in
     let s = c .before .before .before .before in
-    ((s .pre .whole, omega arith), (n .first-fits, n .second-fits))
+    ((given-whole (s .pre), omega arith), (n .first-fits, n .second-fits))
 
 returns : tie.Need-returns Inv-loop μ-loop
 returns c =
