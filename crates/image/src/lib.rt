@@ -5,6 +5,7 @@ ghost use lib.ListN.{length};
 ghost use Rattle.lists.specs.Segments.{segment, splice};
 ghost use Rattle.image.specs.Layout.{
   Whole,
+  blockAddress,
   blockAt,
   blockCount,
   blockSize,
@@ -90,6 +91,14 @@ fn table_start(card: Card) -> usize
     CONTROL_SIZE + card.0 as usize * TABLE_SIZE
 }
 
+// Where the card's block starts in the image.
+pub fn block_address(card: Card, block: Block) -> usize
+    requires { ⌜ (card .0 < cardCount) × (block .0 < blockCount) ⌝ }
+    ensures { λ r. ⌜ r ≡ blockAddress (card .0) (block .0) ⌝ }
+{
+    table_start(card) + block.0 as usize * BLOCK_SIZE
+}
+
 // Writes one block of a card: the card's table, a part from the middle of the image, is lent on to the block writer.
 pub fn put_block(image: &mut [u8], card: Card, block: Block, bytes: [u8; 41])
     requires { ⌜ Whole (now image) × (card .0 < cardCount) × (block .0 < blockCount) ⌝ }
@@ -105,8 +114,7 @@ pub fn get_block(image: &[u8], card: Card, block: Block) -> [u8; 41]
     requires { ⌜ Whole (now image) × (card .0 < cardCount) × (block .0 < blockCount) ⌝ }
     ensures { λ r. ⌜ r ≡ blockAt (now (image .entry)) (card .0) (block .0) ⌝ }
 {
-    let start = table_start(card);
-    read_at(image, start + block.0 as usize * BLOCK_SIZE)
+    read_at(image, block_address(card, block))
 }
 
 // Copies one block from a card to another.

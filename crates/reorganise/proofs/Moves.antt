@@ -30,9 +30,11 @@ use Rattle.promise.proofs.Finish.{by-blocks, given-whole}
 use Rattle.promise.proofs.Laid.{block-is, laid, laid-none, laid-put, laid-same, of-block}
 use Rattle.promise.proofs.Laid.{putOne}
 use Rattle.promise.proofs.View.{look-on}
-use Rattle.reorganise.specs.Reorganise.{AreSites, cardRows, showsAt, siteList}
+use Rattle.trail.specs.Trail.{holdsAt}
+use Rattle.trail.proofs.Holding.{holds-seen}
+use Rattle.reorganise.specs.Reorganise.{AreSites, cardRows, siteList}
 use Rattle.reorganise.specs.declared.looking.Sites.{Sites}
-use Rattle.reorganise.proofs.Looks.{card-accepted, newest-are, shows-held}
+use Rattle.reorganise.proofs.Looks.{card-accepted, newest-are}
 
 -- ---- the rows: those on the numbers and the card, by their tests, and those on the card's copy
 abbrev rows : Bool → Bool → Bool → Bool → ℕ → ℕ
@@ -211,7 +213,7 @@ module _ (k : Control) (g : Image) (is : Given k g) (c b : ℕ) (ok : 0 ≡ rows
 
   -- the call, from the code's tests and what it left
   pub move-done : (one two stays : Bool) (x : List ℕ) (n : ℕ) (out : Image)
-      → one ≡ showsAt g (byte (k .working)) b (s .first .0) → two ≡ showsAt g (byte (k .working)) b (s .second .0) → stays ≡ elem c (siteList s) → x ≡ blockAt g c b
+      → one ≡ holdsAt g (byte (k .working)) b (s .first .0) → two ≡ holdsAt g (byte (k .working)) b (s .second .0) → stays ≡ elem c (siteList s) → x ≡ blockAt g c b
       → n ≡ oneIf (not one) + oneIf (not two) → out ≡ filled one two stays (s .first .0) (s .second .0) c b x g → Done (move c b) g (Copied n) out
   unfolding act
   move-done one two stays x n out p q r e m o =
@@ -220,10 +222,10 @@ module _ (k : Control) (g : Image) (is : Given k g) (c b : ℕ) (ok : 0 ≡ rows
       (o ∙ (λ i. filled (one-is i) (two-is i) (r i) (s .first .0) (s .second .0) c b (bytes i) g) ∙ filled-laid)
     where
       one-is : one ≡ holds (s .first .0)
-      one-is = p ∙ shows-held k g is b (s .first .0) hb
+      one-is = p ∙ holds-seen k g is b (s .first .0) hb
 
       two-is : two ≡ holds (s .second .0)
-      two-is = q ∙ shows-held k g is b (s .second .0) hb
+      two-is = q ∙ holds-seen k g is b (s .second .0) hb
 
       bytes : x ≡ blockIn g c b .0
       bytes = e ∙ sym (block-is g (given-whole is) c b hc hb)

@@ -18,9 +18,11 @@ use Rattle.control.proofs.Struct.{length-placements}
 use Rattle.cabinet_rules.specs.Cabinet.{cabinet}
 use Rattle.cabinet_rules.specs.Images.{Image, controlIn, planOn}
 use Rattle.promise.specs.Given.{Given, rowsOn, viewOf}
-use Rattle.reorganise.specs.Reorganise.{AreSites, blockSettled, cardSettled, showsAt, siteList}
+use Rattle.trail.specs.Trail.{holdsAt}
+use Rattle.trail.proofs.Holding.{holds-seen}
+use Rattle.reorganise.specs.Reorganise.{AreSites, blockSettled, cardSettled, siteList}
 use Rattle.reorganise.specs.declared.looking.Sites.{Sites}
-use Rattle.reorganise.proofs.Looks.{newest-are, shows-held, stopped-is}
+use Rattle.reorganise.proofs.Looks.{newest-are, stopped-is}
 
 pub and-true : (a : Bool) → a ≡ (a && true)
 and-true true = refl
@@ -46,9 +48,9 @@ all-pass k v n e h = sym (ap (λ (m : ℕ). allBelow m (settledAt cabinet k v)) 
 
 module _ (k : Control) (g : Image) (is : Given k g) where
   pub block-is-settled : (b : ℕ) → b < blockCount → (s : Sites) → AreSites s (sitesOf (meaning k .newest) b)
-      → blockSettled (siteList s) (showsAt g (byte (k .working)) b) ≡ settledAt cabinet (controlIn g) (viewOf g) b
+      → blockSettled (siteList s) (holdsAt g (byte (k .working)) b) ≡ settledAt cabinet (controlIn g) (viewOf g) b
   unfolding settledAt blockSettled
-  block-is-settled b h s at = ap₂ blockSettled (at .listed ∙ newest-are k g is b) (fun-ext (λ c. shows-held k g is b c h))
+  block-is-settled b h s at = ap₂ blockSettled (at .listed ∙ newest-are k g is b) (fun-ext (λ c. holds-seen k g is b c h))
 
   pub settle-rows : row 4 (k .stopped) (row 13 (not (settled cabinet (controlIn g) (viewOf g))) 0) ≡ rowsOn settle g
   unfolding refusal

@@ -6,8 +6,7 @@ use mathlib.Core.List.{List, [], _∷_}
 use mathlib.Core.Path.{_≡_}
 use Rattle.lists.specs.Tests.{all, allBelow, elem, sumBelow}
 use Rattle.image.specs.Layout.{cardCount}
-use Rattle.mask.specs.Masks.{Byte, hasCard}
-use Rattle.slot.specs.Blocks.{isHeld}
+use Rattle.mask.specs.Masks.{hasCard}
 use Rattle.method.specs.Rules.{committedIn, row}
 use Rattle.control.specs.ControlBytes.{Part}
 use Rattle.cabinet_rules.specs.Cabinet.{cabinet}
@@ -27,10 +26,6 @@ pub record AreSites (s : Sites) (sites : List ℕ) : Type 0 where
   pub listed : siteList s ≡ sites
   pub first-fits : s .first .0 < cardCount
   pub second-fits : s .second .0 < cardCount
-
--- Card c works and holds block b.
-unfoldable pub showsAt : Image → Byte → ℕ → ℕ → Bool
-showsAt g working b c = hasCard working c && isHeld (blockIn g c b)
 
 -- Card c does not hold the block, or is a site of it and all its sites hold it; every card is so.
 abbrev pub cardSettled : List ℕ → (ℕ → Bool) → ℕ → Bool

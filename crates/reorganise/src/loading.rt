@@ -6,7 +6,6 @@ ghost use Rattle.method.specs.Rules.{committedIn};
 ghost use Rattle.cabinet_rules.specs.Cabinet.{cabinet};
 ghost use Rattle.cabinet_rules.specs.Images.{blockIn};
 ghost use Rattle.reorganise.specs.Reorganise.{loadBelow};
-use crate::looking;
 use image::BLOCK_COUNT;
 use image::Block;
 use image::Card;
@@ -17,7 +16,7 @@ fn load_block(image: &[u8], card: Card, block: Block) -> u8
     ensures { λ r. ⌜ (r ≡ committedIn cabinet (blockIn (now (image .entry)) (card .0) (block .0)))
         × (r ≤ slotCount) ⌝ }
 {
-    if looking::holds(image, card, block) {
+    if trail::is_held(image, card, block) {
         return slot::committed_count(image::get_block(image, card, block));
     }
     0

@@ -1,22 +1,15 @@
-// What the calls look at: the rows on a card, the newest sites of a block, and who holds it.
+// What the calls look at: the rows on a card, and the newest sites of a block.
 ghost use mathlib.Core.Path.{_≡_};
 ghost use Prim.Native.Nat.{_<_};
 ghost use Rattle.lists.specs.Tests.{elem};
-ghost use Rattle.image.specs.Layout.{Whole, blockCount, cardCount};
-ghost use Rattle.mask.specs.Masks.{byte};
+ghost use Rattle.image.specs.Layout.{blockCount};
 ghost use Rattle.mask.specs.Placements.{Usable, sitesOf};
-ghost use Rattle.slot.specs.Blocks.{isHeld};
 ghost use Rattle.control.specs.Meaning.{Counted, meaning};
-ghost use Rattle.cabinet_rules.specs.Images.{blockIn};
-ghost use Rattle.reorganise.specs.Reorganise.{AreSites, cardRows, showsAt, siteList};
+ghost use Rattle.reorganise.specs.Reorganise.{AreSites, cardRows, siteList};
 use control::Control;
-use image::BLOCK_SIZE;
 use image::Block;
-use image::CONTROL_SIZE;
 use image::Card;
-use image::TABLE_SIZE;
 use mask::Placement;
-use slot::HELD;
 
 // The two sites of a block.
 pub struct Sites {
@@ -64,24 +57,4 @@ pub fn is_site(sites: Sites, card: Card) -> bool
     }
     let second = sites.second;
     card.0 == second.0
-}
-
-// Whether the card's table holds the block: one byte is read.
-pub fn holds(image: &[u8], card: Card, block: Block) -> bool
-    requires { ⌜ Whole (now image) × (card .0 < cardCount) × (block .0 < blockCount) ⌝ }
-    ensures { λ r. ⌜ r ≡ isHeld (blockIn (now (image .entry)) (card .0) (block .0)) ⌝ }
-{
-    let at = CONTROL_SIZE + card.0 as usize * TABLE_SIZE + block.0 as usize * BLOCK_SIZE;
-    image[at] >= HELD
-}
-
-// Whether the card works and holds the block. The table of a card that does not work is not read.
-pub fn shows(image: &[u8], working: u8, card: Card, block: Block) -> bool
-    requires { ⌜ Whole (now image) × (card .0 < cardCount) × (block .0 < blockCount) ⌝ }
-    ensures { λ r. ⌜ r ≡ showsAt (now (image .entry)) (byte working) (block .0) (card .0) ⌝ }
-{
-    if mask::has(working, card) {
-        return holds(image, card, block);
-    }
-    false
 }

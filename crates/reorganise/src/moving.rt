@@ -60,8 +60,8 @@ pub fn spread(image: &mut [u8], k: Control, card: Card, block: Block) -> u8
     let sites = looking::newest_sites(k, block);
     let first = sites.first;
     let second = sites.second;
-    let first_has = looking::shows(image, k.working, first, block);
-    let second_has = looking::shows(image, k.working, second, block);
+    let first_has = trail::holds(image, k.working, first, block);
+    let second_has = trail::holds(image, k.working, second, block);
     let stays = looking::is_site(sites, card);
     let bytes = image::get_block(image, card, block);
     let first_copy = fill(image, first_has, first, block, bytes);

@@ -9,7 +9,8 @@ ghost use Rattle.method.specs.Rules.{settle, settled};
 ghost use Rattle.cabinet_rules.specs.Cabinet.{cabinet};
 ghost use Rattle.cabinet_rules.specs.Images.{controlIn};
 ghost use Rattle.promise.specs.Given.{Given, rowsOn, viewOf};
-ghost use Rattle.reorganise.specs.Reorganise.{blockSettled, showsAt, siteList};
+ghost use Rattle.trail.specs.Trail.{holdsAt};
+ghost use Rattle.reorganise.specs.Reorganise.{blockSettled, siteList};
 use crate::looking;
 use crate::looking::Sites;
 use control::Control;
@@ -19,15 +20,15 @@ use image::Card;
 use mask::Placement;
 
 // Whether both sites work and hold the block.
-fn both_show(image: &[u8], working: u8, sites: Sites, block: Block) -> bool
+fn both_hold(image: &[u8], working: u8, sites: Sites, block: Block) -> bool
     requires { ⌜ Whole (now image) × (block .0 < blockCount) ⌝ }
     requires { ⌜ (sites .first .0 < cardCount) × (sites .second .0 < cardCount) ⌝ }
-    ensures { λ r. ⌜ r ≡ all (showsAt (now (image .entry)) (byte working) (block .0)) (siteList sites) ⌝ }
+    ensures { λ r. ⌜ r ≡ all (holdsAt (now (image .entry)) (byte working) (block .0)) (siteList sites) ⌝ }
 {
     let first = sites.first;
-    if looking::shows(image, working, first, block) {
+    if trail::holds(image, working, first, block) {
         let second = sites.second;
-        return looking::shows(image, working, second, block);
+        return trail::holds(image, working, second, block);
     }
     false
 }
@@ -42,10 +43,10 @@ fn card_settled(
     block: Block,
 ) -> bool
     requires { ⌜ Whole (now image) × (card .0 < cardCount) × (block .0 < blockCount) ⌝ }
-    ensures { λ r. ⌜ r ≡ (not (showsAt (now (image .entry)) (byte working) (block .0) (card .0))
+    ensures { λ r. ⌜ r ≡ (not (holdsAt (now (image .entry)) (byte working) (block .0) (card .0))
         || (elem (card .0) (siteList sites) && both)) ⌝ }
 {
-    if looking::shows(image, working, card, block) {
+    if trail::holds(image, working, card, block) {
         if looking::is_site(sites, card) {
             return both;
         }
@@ -59,9 +60,9 @@ fn block_settled(image: &[u8], working: u8, sites: Sites, block: Block) -> bool
     requires { ⌜ Whole (now image) × (block .0 < blockCount) ⌝ }
     requires { ⌜ (sites .first .0 < cardCount) × (sites .second .0 < cardCount) ⌝ }
     ensures { λ r. ⌜ r
-        ≡ blockSettled (siteList sites) (showsAt (now (image .entry)) (byte working) (block .0)) ⌝ }
+        ≡ blockSettled (siteList sites) (holdsAt (now (image .entry)) (byte working) (block .0)) ⌝ }
 {
-    let both = both_show(image, working, sites, block);
+    let both = both_hold(image, working, sites, block);
     let mut c: u8 = 0;
     while c < Placement::MOST_CARDS {
         if !card_settled(image, working, sites, both, Card(c), block) {

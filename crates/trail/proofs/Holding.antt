@@ -1,46 +1,44 @@
 -- The holders as the code finds them, placement by placement, are those of the rules. Assumes nothing.
-use Prim.Native.Nat.{_+_, _-_, _<_, _≤_, suc, zero, ℕ}
+use Prim.Native.Nat.{_%_, _+_, _-_, _<_, _≤_, suc, zero, ℕ}
+use lib.Dec.{leb}
 use lib.ListN.{getD, length-set, set, take}
 use lib.Seq.{getD-set-other, getD-set-same, take-suc-set}
 use mathlib.Core.Bool.{Bool, _&&_, cond, false, not, true}
 use mathlib.Core.List.{List, [], _++_, _∷_, append-assoc, append-nil}
 use mathlib.Core.Logic.{_⊎_, inl, inr}
-use mathlib.Core.Path.{_∙_, _≡_, ap, ap₂, refl, sym}
+use mathlib.Core.Path.{_∙_, _≡_, ap, ap₂, fun-ext, refl, sym}
+use native.Mathlib.Nat.{mod-eq-of-lt}
 use native.Mathlib.Numerals.{add-one}
 use native.Mathlib.Omega.{arith}
 use Rattle.lists.specs.Tests.{In, concatMap, keepIf}
 use Rattle.lists.proofs.Bools.{split}
 use Rattle.lists.proofs.Cases.{by-eq}
-use Rattle.image.specs.Layout.{blockAt, blockCount, cardCount}
+use Rattle.image.specs.Layout.{blockAddress, blockCount, cardCount}
 use Rattle.mask.specs.Masks.{byte, hasCard}
 use Rattle.mask.specs.Placements.{Placement, Usable, firstSite, fromMask, secondSite, sitesOf}
-use Rattle.mask.proofs.Masks.{has-card, size-members}
-use Rattle.mask.proofs.Sites.{member-at}
-use Rattle.slot.specs.Blocks.{BlockBytes, isHeld, ofList}
+use Rattle.slot.specs.Blocks.{byteIn, isHeld}
+use Rattle.slot.proofs.Blocks.{byte-in}
 use Rattle.method.specs.ControlPart.{active}
-use Rattle.method.specs.Rules.{holders, look, trail}
+use Rattle.method.specs.Rules.{holders, trail}
 use Rattle.control.specs.ControlBytes.{Part, placementsIn}
 use Rattle.control.specs.ControlForm.{controlForm}
 use Rattle.control.specs.Meaning.{maskIn, meaning}
 use Rattle.control.specs.declared.Control.{Control}
 use Rattle.control.proofs.Struct.{active-is}
-use Rattle.cabinet_rules.specs.Cabinet.{cabinet}
-use Rattle.cabinet_rules.specs.Images.{Image, controlIn, stateIn}
-use Rattle.promise.specs.Given.{Given}
-use Rattle.promise.proofs.Finish.{form-good, given-whole}
-use Rattle.promise.proofs.Laid.{of-block}
+use Rattle.cabinet_rules.specs.Images.{Image, blockIn, controlIn}
+use Rattle.promise.specs.Given.{Given, viewOf}
+use Rattle.promise.proofs.Finish.{form-good}
 use Rattle.promise.proofs.View.{held-look, usable-active, works-not-failed}
 use Rattle.trail.specs.declared.Holders.{Holders}
 use Rattle.trail.specs.Trail.{Lists, Sound, cardsOf, holdersIn, holdsAt, mostHolders}
 
--- ---- whether a card holds the block
-pub holds-on : (w : ℕ) (g : Image) (b c : ℕ) (x : Bool) → hasCard (byte w) c ≡ true → x ≡ isHeld (ofList (blockAt g c b)) → x ≡ holdsAt w g b c
-unfolding holdsAt
-holds-on w g b c x on e = rw on e
-
-pub holds-off : (w : ℕ) (g : Image) (b c : ℕ) → hasCard (byte w) c ≡ false → false ≡ holdsAt w g b c
-unfolding holdsAt
-holds-off w g b c off = rw off
+-- ---- the bit 'held' is in a block's first byte
+pub held-byte : (g : Image) (c b at : ℕ) → at ≡ blockAddress c b → getD g at 0 < 256 → leb 128 (getD g at 0) ≡ isHeld (blockIn g c b)
+unfolding isHeld
+held-byte g c b at e h =
+    let z : blockAddress c b + 0 ≡ at = omega (arith, e) in
+    let x : byteIn (blockIn g c b) 0 ≡ getD g at 0 = byte-in (λ j. getD g (blockAddress c b + j) 0) 0 (omega arith) ∙ ap (λ (n : ℕ). getD g n 0) z in
+    sym (ap (λ (m : ℕ). leb 128 (m % 256)) x ∙ ap (leb 128) (mod-eq-of-lt h))
 
 -- ---- one card more
 module _ (h : Holders) (s : Sound h) (p : ℕ → Bool) (c : ℕ) where
@@ -111,7 +109,7 @@ in-placements f (suc n) (suc i) h = inr (in-placements (λ i. f (suc i)) n i (om
 
 -- ---- the holders among the sites of the first i placements
 abbrev holdsSeen : Image → ℕ → ℕ → Bool
-holdsSeen g b c = isHeld (look cabinet (stateIn g) c b)
+holdsSeen g b c = isHeld (viewOf g c b)
 
 abbrev notFailed : Image → ℕ → Bool
 notFailed g c = not (hasCard (controlIn g .failed) c)
@@ -136,35 +134,29 @@ module _ (k : Control) (g : Image) (given : Given k g) where
   pub usable-mask : (i : ℕ) → i < k .count → Usable (fromMask (byte (maskIn k i)))
   usable-mask i h = usable-active g formed (fromMask (byte (maskIn k i))) (rw active-masks (in-placements (maskIn k) (k .count) i h))
 
-  -- the code tests whether a card works, the rules whether it has failed
-  test-is : (b c : ℕ) → b < blockCount → c < cardCount → (notFailed g c && holdsSeen g b c) ≡ holdsAt (k .working) g b c
-  unfolding holdsAt
-  test-is b c hb hc = ap (λ (t : Bool). notFailed g c && t) (held-look g c b hb) ∙ ap (λ (x : BlockBytes). notFailed g c && (hasCard (controlIn g .working) c && isHeld x)) (sym (of-block g (given-whole given) c b hc hb))
-      ∙ go (split (hasCard (controlIn g .working) c)) ∙ ap (λ (t : Bool). t && isHeld (ofList (blockAt g c b))) working-is
-    where
-      working-is : hasCard (controlIn g .working) c ≡ hasCard (byte (k .working)) c
-      working-is = unfold meaning in ap (λ (p : Part). hasCard (p .working) c) (sym (given .is .means))
+  -- a working card that holds a block is one that the rules see hold it
+  pub holds-seen : (b c : ℕ) → b < blockCount → holdsAt g (byte (k .working)) b c ≡ isHeld (viewOf g c b)
+  unfolding holdsAt meaning
+  holds-seen b c hb = ap (λ (p : Part). hasCard (p .working) c && isHeld (blockIn g c b)) (given .is .means) ∙ sym (held-look g c b hb)
 
+  -- such a card has not failed
+  test-is : (b c : ℕ) → b < blockCount → (notFailed g c && holdsSeen g b c) ≡ holdsAt g (byte (k .working)) b c
+  test-is b c hb = ap (λ (t : Bool). notFailed g c && t) (held-look g c b hb) ∙ go (split (hasCard (controlIn g .working) c)) ∙ sym (held-look g c b hb) ∙ sym (holds-seen b c hb)
+    where
       and-no : (t : Bool) → (t && false) ≡ false
       and-no true = refl
       and-no false = refl
 
       go : (hasCard (controlIn g .working) c ≡ true) ⊎ (hasCard (controlIn g .working) c ≡ false)
-          → (notFailed g c && (hasCard (controlIn g .working) c && isHeld (ofList (blockAt g c b)))) ≡ (hasCard (controlIn g .working) c && isHeld (ofList (blockAt g c b)))
+          → (notFailed g c && (hasCard (controlIn g .working) c && isHeld (blockIn g c b))) ≡ (hasCard (controlIn g .working) c && isHeld (blockIn g c b))
       go (inl on) = rw (on, works-not-failed g formed c on)
       go (inr off) = rw off (and-no (notFailed g c))
 
-  -- its sites are cards
-  site-lt : (b i : ℕ) → i < k .count → firstSite (fromMask (byte (maskIn k i))) b < cardCount
-  site-lt b i h =
-      let m = byte (maskIn k i) in
-      has-card m (firstSite (fromMask m) b) (member-at (fromMask m) b (omega (arith, size-members m, usable-mask i h)))
-
   -- one placement more
-  pub first-more : (b i : ℕ) → b < blockCount → i < k .count
-      → firstHolders g b (k .masks) i ++ keepIf (holdsAt (k .working) g b) (sitesOf (fromMask (byte (maskIn k i))) b) ≡ firstHolders g b (k .masks) (i + 1)
+  pub first-more : (b i : ℕ) → b < blockCount
+      → firstHolders g b (k .masks) i ++ keepIf (holdsAt g (byte (k .working)) b) (sitesOf (fromMask (byte (maskIn k i))) b) ≡ firstHolders g b (k .masks) (i + 1)
   unfolding firstHolders
-  first-more b i hb hi =
+  first-more b i hb =
       let p = fromMask (byte (maskIn k i)) in
       let l = placementsIn (maskIn k) i in
       let sites : Placement → List ℕ = λ p. sitesOf p b in
@@ -172,10 +164,7 @@ module _ (k : Control) (g : Image) (given : Given k g) where
       ∙ ap (λ (l : List ℕ). keepIf (holdsSeen g b) (keepIf (notFailed g) l)) (concat-append sites l p)
       ∙ ap (keepIf (holdsSeen g b)) (keep-append (notFailed g) (concatMap sites l) (sitesOf p b))
       ∙ keep-append (holdsSeen g b) (keepIf (notFailed g) (concatMap sites l)) (keepIf (notFailed g) (sitesOf p b))
-      ∙ ap (λ (r : List ℕ). firstHolders g b (k .masks) i ++ r) (keep-keep (holdsSeen g b) (notFailed g) (sitesOf p b) ∙ unfold sitesOf in two (firstSite p b) (secondSite p b) (site-lt b i hi) (site-lt (b + 1) i hi)))
-    where
-      two : (x y : ℕ) → x < cardCount → y < cardCount → keepIf (λ c. notFailed g c && holdsSeen g b c) (x ∷ y ∷ []) ≡ keepIf (holdsAt (k .working) g b) (x ∷ y ∷ [])
-      two x y hx hy = rw (sym (test-is b x hb hx), sym (test-is b y hb hy))
+      ∙ ap (λ (r : List ℕ). firstHolders g b (k .masks) i ++ r) (keep-keep (holdsSeen g b) (notFailed g) (sitesOf p b) ∙ ap (λ (f : ℕ → Bool). keepIf f (sitesOf p b)) (fun-ext (λ c. test-is b c hb))))
 
   -- and all of them
   pub first-all : (b : ℕ) → firstHolders g b (k .masks) (k .count) ≡ holdersIn g b

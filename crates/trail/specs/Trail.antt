@@ -4,12 +4,12 @@ use lib.ListN.{getD, length, take}
 use mathlib.Core.Bool.{Bool, _&&_}
 use mathlib.Core.List.{List}
 use mathlib.Core.Path.{_≡_}
-use Rattle.image.specs.Layout.{blockAt, cardCount, copyCount}
-use Rattle.mask.specs.Masks.{byte, hasCard}
-use Rattle.slot.specs.Blocks.{isHeld, ofList}
+use Rattle.image.specs.Layout.{cardCount, copyCount}
+use Rattle.mask.specs.Masks.{Byte, hasCard}
+use Rattle.slot.specs.Blocks.{isHeld}
 use Rattle.method.specs.Rules.{holders}
 use Rattle.cabinet_rules.specs.Cabinet.{cabinet}
-use Rattle.cabinet_rules.specs.Images.{Image, controlIn}
+use Rattle.cabinet_rules.specs.Images.{Image, blockIn, controlIn}
 use Rattle.promise.specs.Given.{viewOf}
 use Rattle.trail.specs.declared.Holders.{Holders}
 
@@ -18,8 +18,8 @@ abbrev pub holdersIn : Image → ℕ → List ℕ
 holdersIn g b = holders cabinet (controlIn g) (viewOf g) b
 
 -- Card c, of these working cards, holds block b.
-unfoldable pub holdsAt : ℕ → Image → ℕ → ℕ → Bool
-holdsAt working g b c = hasCard (byte working) c && isHeld (ofList (blockAt g c b))
+unfoldable pub holdsAt : Image → Byte → ℕ → ℕ → Bool
+holdsAt g working b c = hasCard working c && isHeld (blockIn g c b)
 
 -- Two sites of each of four active placements.
 abbrev pub mostHolders : ℕ

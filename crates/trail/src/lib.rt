@@ -6,12 +6,15 @@ ghost use Rattle.lists.specs.Tests.{keepIf};
 ghost use Rattle.image.specs.Layout.{Whole, blockCount, cardCount, copyCount};
 ghost use Rattle.mask.specs.Masks.{byte, size};
 ghost use Rattle.mask.specs.Placements.{fromMask, sitesOf};
+ghost use Rattle.slot.specs.Blocks.{isHeld};
+ghost use Rattle.cabinet_rules.specs.Images.{blockIn};
 ghost use Rattle.promise.specs.Given.{Given};
 ghost use Rattle.trail.specs.Trail.{Lists, Sound, cardsOf, holdersIn, holdsAt, mostHolders};
 use control::Control;
 use image::Block;
 use image::Card;
 use mask::Placement;
+use slot::HELD;
 
 // Two sites of each of four active placements.
 pub const MOST_HOLDERS: usize = control::MASK_COUNT * image::COPY_COUNT;
@@ -22,14 +25,22 @@ pub struct Holders {
     pub cards: [u8; MOST_HOLDERS],
 }
 
-// Whether the card works and holds the block.
-fn holds(image: &[u8], working: u8, card: Card, block: Block) -> bool
+// Whether the card's table holds the block: one byte is read.
+pub fn is_held(image: &[u8], card: Card, block: Block) -> bool
     requires { ⌜ Whole (now image) × (card .0 < cardCount) × (block .0 < blockCount) ⌝ }
-    ensures { λ r. ⌜ r ≡ holdsAt working (now (image .entry)) (block .0) (card .0) ⌝ }
+    ensures { λ r. ⌜ r ≡ isHeld (blockIn (now (image .entry)) (card .0) (block .0)) ⌝ }
+{
+    let at = image::block_address(card, block);
+    image[at] >= HELD
+}
+
+// Whether the card works and holds the block. The table of a card that does not work is not read.
+pub fn holds(image: &[u8], working: u8, card: Card, block: Block) -> bool
+    requires { ⌜ Whole (now image) × (card .0 < cardCount) × (block .0 < blockCount) ⌝ }
+    ensures { λ r. ⌜ r ≡ holdsAt (now (image .entry)) (byte working) (block .0) (card .0) ⌝ }
 {
     if mask::has(working, card) {
-        let bytes = image::get_block(image, card, block);
-        return slot::is_held(bytes);
+        return is_held(image, card, block);
     }
     false
 }
@@ -39,7 +50,7 @@ fn push(image: &[u8], working: u8, block: Block, found: Holders, card: Card) -> 
     requires { ⌜ Whole (now image) × (card .0 < cardCount) × (block .0 < blockCount) ⌝ }
     requires { ⌜ Sound found ⌝ }
     requires { ⌜ found .count < mostHolders ⌝ }
-    ensures { λ r. ⌜ Lists r (cardsOf found ++ keepIf (holdsAt working (now (image .entry)) (block .0)) (card .0 ∷ []))
+    ensures { λ r. ⌜ Lists r (cardsOf found ++ keepIf (holdsAt (now (image .entry)) (byte working) (block .0)) (card .0 ∷ []))
         × (r .count ≤ found .count + 1) ⌝ }
 {
     if holds(image, working, card, block) {
@@ -61,7 +72,7 @@ fn push_sites(image: &[u8], working: u8, block: Block, found: Holders, mask: u8)
     requires { ⌜ found .count + copyCount ≤ mostHolders ⌝ }
     ensures { λ r.
         ⌜ Lists r (cardsOf found
-        ++ keepIf (holdsAt working (now (image .entry)) (block .0)) (sitesOf (fromMask (byte mask)) (block .0)))
+        ++ keepIf (holdsAt (now (image .entry)) (byte working) (block .0)) (sitesOf (fromMask (byte mask)) (block .0)))
         × (r .count ≤ found .count + copyCount) ⌝ }
 {
     let placement = Placement::from_mask(mask);

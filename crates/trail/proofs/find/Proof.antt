@@ -1,7 +1,7 @@
 -- The proof of `find`. Assumes nothing.
 use mathlib.Core.List.{List, _++_}
 use mathlib.Core.Path.{_∙_, _≡_, ap}
-use Prim.Native.Nat.{_*_, _-_, _<_, _≤_, ℕ}
+use Prim.Native.Nat.{_*_, _-_, _≤_, ℕ}
 use native.Mathlib.Omega.{arith}
 use borrow.Author.Needs.{needs}
 use Rattle.lists.specs.Tests.{keepIf}
@@ -59,15 +59,14 @@ loop-again c =
     let s = c .before .before .before .before .before .before in
     let a = s .args in
     let g = a .image .now in
-    let hi : l .i < a .k .count = omega arith in
     let e = c .push-sites .ensures in (
       omega arith,
       omega arith,
       record {
         sound = e .0 .sound;
         are = e .0 .are
-            ∙ ap (λ (x : List ℕ). x ++ keepIf (holdsAt (a .k .working) g (a .block .0)) (sitesOf (fromMask (byte (maskIn (a .k) (l .i)))) (a .block .0))) (l .inv .2 .are)
-            ∙ first-more (a .k) g (s .pre .0) (a .block .0) (l .i) (s .pre .1) hi;
+            ∙ ap (λ (x : List ℕ). x ++ keepIf (holdsAt g (byte (a .k .working)) (a .block .0)) (sitesOf (fromMask (byte (maskIn (a .k) (l .i)))) (a .block .0))) (l .inv .2 .are)
+            ∙ first-more (a .k) g (s .pre .0) (a .block .0) (l .i) (s .pre .1);
       },
     )
 

@@ -40,7 +40,7 @@ returns c =
     let f = c .push2 .ensures in (
       record {
         sound = f .0 .sound;
-        are = push-two (holdsAt (a .working) (a .image .now) at) (fromMask (byte (a .mask))) at (cardsOf (a .found)) (cardsOf (q .push .result))
+        are = push-two (holdsAt (a .image .now) (byte (a .working)) at) (fromMask (byte (a .mask))) at (cardsOf (a .found)) (cardsOf (q .push .result))
             (cardsOf (c .push2 .result)) _ _
             (q .before .before .first-site .ensures .0 ∙ ap (λ (x : Placement). firstSite x at) is) (q .before .second-site .ensures .0 ∙ ap (λ (x : Placement). secondSite x at) is) (e .0 .are) (f .0 .are);
       },

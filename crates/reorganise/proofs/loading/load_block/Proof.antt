@@ -13,8 +13,8 @@ use borrow.Author.Needs.{needs}
 use Rattle.reorganise.proofs.loading.load_block.Statement.{statement}
 use Rattle.reorganise.proofs.loading.load_block.Tie as tie
 
-holds-requires : tie.Need-holds-requires
-holds-requires c κs = search needs
+is-held-requires : tie.Need-is-held-requires
+is-held-requires c κs = search needs
 
 get-block-requires : tie.Need-get-block-requires
 get-block-requires c κs = search needs
@@ -28,7 +28,7 @@ returns c =
     let s = t .before .before .before in
     let a = s .args in
     let x = blockIn (a .image .now) (a .card .0) (a .block .0) in
-    let h : isHeld x ≡ true = sym (t .before .holds .ensures) ∙ t .if1 .taken in
+    let h : isHeld x ≡ true = sym (t .before .is-held .ensures) ∙ t .if1 .taken in
     let e : c .committed-count .result ≡ committedCount x =
     c .committed-count .ensures ∙ ap (λ (l : List ℕ). committedCount (ofList l)) (c .before .get-block .ensures)
     ∙ ap committedCount (of-block (a .image .now) (s .pre .0) (a .card .0) (a .block .0) (s .pre .1) (s .pre .2)) in
@@ -36,9 +36,9 @@ returns c =
     (e ∙ committed-held x h, omega arith)
 
 returns-2 : tie.Need-returns-2
-returns-2 c = (rw (sym (c .before .holds .ensures) ∙ c .if1 .left), omega arith)
+returns-2 c = (rw (sym (c .before .is-held .ensures) ∙ c .if1 .left), omega arith)
 
 pub load-block-spec : {M : Type 1} → statement M
 load-block-spec =
     tie.close
-    (tie.spec holds-requires get-block-requires committed-count-requires returns returns-2)
+    (tie.spec is-held-requires get-block-requires committed-count-requires returns returns-2)

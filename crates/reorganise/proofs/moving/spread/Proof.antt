@@ -16,14 +16,14 @@ newest-sites-requires c κs =
     let s = c .before in
     (s .pre .0 .is .counted, (newest-usable (s .args .k) (s .args .image .now) (s .pre .0), accepted (s .args .image .now) (s .args .card .0) (s .args .block .0) (s .pre .1) .1))
 
-shows-requires : tie.Need-shows-requires
-shows-requires c κs =
+holds-requires : tie.Need-holds-requires
+holds-requires c κs =
     let n = c .before .before .before in
     let s = n .before .before in
     (given-whole (s .pre .0), n .newest-sites .ensures .first-fits, accepted (s .args .image .now) (s .args .card .0) (s .args .block .0) (s .pre .1) .1)
 
-shows-requires-2 : tie.Need-shows-requires-2
-shows-requires-2 c κs =
+holds-requires-2 : tie.Need-holds-requires-2
+holds-requires-2 c κs =
     let n = c .before .before .before .before .before in
     let s = n .before .before in
     (given-whole (s .pre .0), n .newest-sites .ensures .second-fits, accepted (s .args .image .now) (s .args .card .0) (s .args .block .0) (s .pre .1) .1)
@@ -79,19 +79,19 @@ returns c =
     let a = s .args in
     let x = gb .get-block .result in
     move-done (a .k) (a .image .now) (s .pre .0) (a .card .0) (a .block .0) (s .pre .1) (n .newest-sites .result) (n .newest-sites .ensures)
-    (h1 .shows .result) (h2 .shows2 .result) (st .is-site .result) x _ _ (h1 .shows .ensures) (h2 .shows2 .ensures) (st .is-site .ensures) (gb .get-block .ensures)
+    (h1 .holds .result) (h2 .holds2 .result) (st .is-site .result) x _ _ (h1 .holds .ensures) (h2 .holds2 .ensures) (st .is-site .ensures) (gb .get-block .ensures)
     (ap₂ _+_ (f1 .fill .ensures .0) (f2 .fill2 .ensures .0))
     (f3 .fill3 .ensures .2
     ∙ ap (λ (l : List ℕ). cond (st .is-site .result) l (putBlock l (a .card .0) (a .block .0) (zeros blockSize)))
-    (f2 .fill2 .ensures .2 ∙ ap (λ (l : List ℕ). cond (h2 .shows2 .result) l (putBlock l (n .newest-sites .result .second .0) (a .block .0) x)) (f1 .fill .ensures .2)))
+    (f2 .fill2 .ensures .2 ∙ ap (λ (l : List ℕ). cond (h2 .holds2 .result) l (putBlock l (n .newest-sites .result .second .0) (a .block .0) x)) (f1 .fill .ensures .2)))
 
 pub spread-spec : {M : Type 1} → statement M
 spread-spec =
     tie.close
     (tie.spec
     newest-sites-requires
-    shows-requires
-    shows-requires-2
+    holds-requires
+    holds-requires-2
     is-site-requires
     get-block-requires
     fill-requires
