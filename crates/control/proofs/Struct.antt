@@ -18,7 +18,7 @@ use Rattle.control.specs.Meaning.{rowOf, structOf, maskIn, newestMask, m
 use Rattle.control.specs.declared.Control.{Control}
 
 -- ---- lists of placements: one more, the same masks, the length, the masks
-placements-more : (f : ℕ → ℕ) (n : ℕ) → placementsIn f n ++ (fromMask (byte (f n)) ∷ []) ≡ placementsIn f (suc n)
+pub placements-more : (f : ℕ → ℕ) (n : ℕ) → placementsIn f n ++ (fromMask (byte (f n)) ∷ []) ≡ placementsIn f (suc n)
 placements-more f zero = refl
 placements-more f (suc n) = ap (λ (l : List Placement). fromMask (byte (f 0)) ∷ l) (placements-more (λ i. f (suc i)) n)
 

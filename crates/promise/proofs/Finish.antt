@@ -5,9 +5,9 @@ use borrow.Author.Tests.{eq-eqb, eqb-true}
 use lib.Dec.{eqb}
 use lib.ListN.{length}
 use mathlib.Core.Bool.{Bool, false, not, true}
+use mathlib.Core.Logic.{_≢_}
 use mathlib.Core.Option.{none}
 use mathlib.Core.Path.{_∙_, _≡_, ap, ap₂, refl, sym}
-use native.Mathlib.Omega.{arith}
 use Rattle.lists.proofs.Bools.{not-not-is}
 use Rattle.image.specs.Layout.{Whole, imageSize}
 use Rattle.method.specs.PlainList.{orRefused}
@@ -43,33 +43,34 @@ given f e = record { formed = sym (f .refusal-is) ∙ e; is = f .good e }
 pub given-whole : {k : Control} {g : Image} → Given k g → Whole g
 given-whole {g = g} is = form-long g (is .formed)
 
+-- refused, by any row
+pub by-row : (c : Call cabinet) (g : Image) (n : ℕ) → n ≡ refusalOn c g → n ≢ 0 → Done c g (Refused n) g
+unfolding answer next
+by-row c g zero e d = absurd (d refl)
+by-row c g (suc n) e d = let r : refusalOn c g ≡ suc n = sym e in record { answers = rw r; leaves = rw r }
+
 module _ (c : Call cabinet) (late : isStart c ≡ false) (g : Image) where
-  -- the rows 1 and 2 alone
-  refused-by-form : (n : ℕ) → formRefusal g ≡ suc n → refusalOn c g ≡ suc n
+  -- 1 and 2
+  pub form-row : (n : ℕ) → n ≡ formRefusal g → n ≢ 0 → n ≡ refusalOn c g
   unfolding refusalOn formRefusal
-  refused-by-form n e = rw late (go (not (eqb (length g) imageSize)) (not (controlForm g)) e)
+  form-row n e d = rw late (go (not (eqb (length g) imageSize)) (not (controlForm g)) e)
     where
-      go : (a b : Bool) → row 1 a (row 2 b 0) ≡ suc n → row 1 a (row 2 b (rowsOn c g)) ≡ suc n
+      go : (a b : Bool) → n ≡ row 1 a (row 2 b 0) → n ≡ row 1 a (row 2 b (rowsOn c g))
       go true b h = h
       go false true h = h
-      go false false h = absurd (omega arith)
+      go false false h = absurd (d h)
 
-  -- 1 and 2
-  pub by-form : (n : ℕ) → n ≡ formRefusal g → (n ≡ 0 → ⊥) → Done c g (Refused n) g
-  unfolding answer next
-  by-form zero e h = absurd (h refl)
-  by-form (suc n) e h = record { answers = rw (refused-by-form n (sym e)); leaves = rw (refused-by-form n (sym e)) }
+  pub by-form : (n : ℕ) → n ≡ formRefusal g → n ≢ 0 → Done c g (Refused n) g
+  by-form n e d = by-row c g n (form-row n e d) d
 
   module _ (clear : formRefusal g ≡ 0) where
-    refusal-rules : refusalOn c g ≡ rowsOn c g
+    pub refusal-rules : refusalOn c g ≡ rowsOn c g
     unfolding refusalOn
     refusal-rules = rw (eq-eqb (length g) imageSize (form-long g clear), form-good g clear, late)
 
     -- 3 and up
-    pub by-rules : (n : ℕ) → n ≡ rowsOn c g → (n ≡ 0 → ⊥) → Done c g (Refused n) g
-    unfolding answer next
-    by-rules zero e h = absurd (h refl)
-    by-rules (suc n) e h = let r : refusalOn c g ≡ suc n = refusal-rules ∙ sym e in record { answers = rw r; leaves = rw r }
+    pub by-rules : (n : ℕ) → n ≡ rowsOn c g → n ≢ 0 → Done c g (Refused n) g
+    by-rules n e d = by-row c g n (e ∙ sym refusal-rules) d
 
     -- accepted: the plan's answer, and the image after the plan
     pub by-plan : (a : AnswerValue) (p : Plan cabinet) (behind : Image) → 0 ≡ rowsOn c g → planOn c g ≡ p

@@ -1,5 +1,5 @@
 -- The laws that finish get, store and delete. Assumes nothing.
-use Prim.Native.Nat.{_/_, _<_, suc, zero, ℕ}
+use Prim.Native.Nat.{_/_, _<_, ℕ}
 use lib.Dec.{ltb}
 use lib.ListN.{length, length-take, take}
 use mathlib.Core.Bool.{Bool, _&&_, cond, false, true}
@@ -13,16 +13,16 @@ use Rattle.mask.specs.Masks.{byte}
 use Rattle.mask.specs.Placements.{Usable, fromMask}
 use Rattle.slot.specs.Words.{stateOf}
 use Rattle.slot.specs.declared.Entry.{Entry}
-use Rattle.method.specs.Rules.{Answer, Call, Plan, absent, act, delete, get, layBlock, lockHolders, look, ok, refusal, reply, store, storeWrites, unwritten, writing}
+use Rattle.method.specs.Rules.{Answer, Plan, absent, act, delete, get, layBlock, lockHolders, look, ok, refusal, reply, store, storeWrites, unwritten, writing}
 use Rattle.method.specs.Slots.{isNone, readBy}
 use Rattle.method.proofs.Refusals.{row-3}
 use Rattle.control.specs.ControlForm.{formRows}
 use Rattle.cabinet_rules.specs.Cabinet.{cabinet, tranOk}
-use Rattle.cabinet_rules.specs.Images.{Image, Writes, answer, controlIn, next, refusalOn, stateIn}
+use Rattle.cabinet_rules.specs.Images.{Image, Writes, controlIn, refusalOn, stateIn}
 use Rattle.promise.specs.Promise.{Done, shown}
 use Rattle.promise.specs.declared.Answer.{Answer as AnswerValue}
 use Rattle.promise.specs.declared.Answer.the-variants.{Absent, Ok, Refused}
-use Rattle.promise.proofs.Finish.{by-blocks, by-look, form-good, form-long}
+use Rattle.promise.proofs.Finish.{by-blocks, by-look, by-row, form-good, form-long}
 use Rattle.promise.proofs.Laid.{laid}
 use Rattle.promise.proofs.View.{newest-usable as newest-active-usable}
 use Rattle.trail.specs.Trail.{holdersIn}
@@ -34,11 +34,6 @@ use Rattle.records.proofs.LookUp.{delete-rows, store-rows}
 use Rattle.records.proofs.Rows.{rec-lt, tran-lt}
 
 -- ---- refused
-by-row : (c : Call cabinet) (g : Image) (n : ℕ) → n ≡ refusalOn c g → n ≢ 0 → Done c g (Refused n) g
-unfolding answer next
-by-row c g zero e d = absurd (d refl)
-by-row c g (suc n) e d = let r : refusalOn c g ≡ suc n = sym e in record { answers = rw r; leaves = rw r }
-
 module _ (g : Image) (t r : ℕ) (m : ℕ) (e : m ≡ refusalOn (get t r) g) (d : m ≢ 0) where
   pub get-refused : Done (get t r) g (Refused m) g
   get-refused = by-row (get t r) g m e d

@@ -1,26 +1,24 @@
 -- What the look-up of a record has found, by the facts that the code has at each of its ends. Assumes nothing.
-use Prim.Native.Nat.{_/_, _<_, suc, zero, ℕ}
-use borrow.Author.Tests.{eq-eqb, lt-ltb}
-use lib.Dec.{eqb, ltb}
-use lib.ListN.{length}
+use Prim.Native.Nat.{_/_, _<_, ℕ}
+use borrow.Author.Tests.{lt-ltb}
+use lib.Dec.{ltb}
 use mathlib.Core.Bool.{Bool, _&&_, false, not, true}
 use mathlib.Core.Logic.{_≢_}
 use mathlib.Core.Path.{_∙_, _≡_, ap, refl, sym}
 use native.Mathlib.Omega.{arith}
-use Rattle.image.specs.Layout.{imageSize, recordCount, slotCount, valueBound}
+use Rattle.image.specs.Layout.{recordCount, slotCount, valueBound}
 use Rattle.mask.specs.Masks.{byte}
 use Rattle.mask.specs.Placements.{fromMask}
 use Rattle.method.specs.ControlPart.{isOpen}
 use Rattle.method.specs.Rules.{View, delete, get, lockedOut, refusal, row, store}
 use Rattle.method.proofs.Refusals.{row-3}
 use Rattle.control.specs.ControlBytes.{Part}
-use Rattle.control.specs.ControlForm.{controlForm, formRefusal}
 use Rattle.control.specs.Meaning.{Reads, meaning}
 use Rattle.control.specs.declared.Found.{Found}
 use Rattle.cabinet_rules.specs.Cabinet.{cabinet, tranOk}
 use Rattle.cabinet_rules.specs.Images.{Image, controlIn, refusalOn}
 use Rattle.promise.specs.Given.{Given, rowsOn}
-use Rattle.promise.proofs.Finish.{form-good, form-long, given}
+use Rattle.promise.proofs.Finish.{given, refusal-rules}
 use Rattle.trail.specs.Trail.{Lists, holdersIn}
 use Rattle.trail.specs.declared.Holders.{Holders}
 use Rattle.records.specs.Access.{LooksUp, earlyRows}
@@ -56,34 +54,23 @@ rows-clear true false false below e = absurd (omega arith)
 rows-clear true false true below e = refl
 
 module _ (g : Image) (t r : ℕ) where
-  -- ---- refused by row 1 or 2
-  pub form-row : (n : ℕ) → n ≡ formRefusal g → n ≢ 0 → n ≡ refusalOn (get t r) g
-  unfolding refusalOn formRefusal
-  form-row zero e d = absurd (d refl)
-  form-row (suc n) e d = go (not (eqb (length g) imageSize)) (not (controlForm g)) (sym e)
-    where
-      go : (a b : Bool) → row 1 a (row 2 b 0) ≡ suc n → suc n ≡ row 1 a (row 2 b (rowsOn (get t r) g))
-      go true b h = sym h
-      go false true h = sym h
-      go false false h = absurd (omega arith)
-
   pub refused-up : (a : Access) (n : ℕ) → a .refusal ≡ n → n ≢ 0 → n ≡ refusalOn (get t r) g → LooksUp g t r a
   refused-up a n e d is = record { refusal-is = e ∙ is; ready = λ z. absurd (d (sym e ∙ z)) }
-
-  -- ---- the rows from 3 on
-  rules-row : formRefusal g ≡ 0 → (n : ℕ) → n ≡ rowsOn (get t r) g → n ≡ refusalOn (get t r) g
-  rules-row clear n e = e ∙ sym (unfold refusalOn in (rw (eq-eqb (length g) imageSize (form-long g clear), form-good g clear)))
 
   module _ (f : Found) (reads : Reads g f) (z : f .refusal ≡ 0) (n : ℕ) (e : n ≡ earlyRows (meaning (f .control)) t r) where
     is-given : Given (f .control) g
     is-given = given reads z
 
+    whole-table : rowsOn (get t r) g ≡ refusalOn (get t r) g
+    whole-table = sym (refusal-rules (get t r) refl g (is-given .formed))
+
     early-is : n ≡ earlyRows (controlIn g) t r
     early-is = e ∙ ap (λ (k : Part). earlyRows k t r) (is-given .is .means)
 
     pub early-row : n ≢ 0 → n ≡ refusalOn (get t r) g
-    early-row d = rules-row (is-given .formed) n
-        (unfold refusal in (rows-more (tranOk t && ltb r recordCount) (controlIn g .stopped) (isOpen (controlIn g) t) n (row 7 (lockedOutIn g t r) 0) d early-is))
+    early-row d =
+        unfold refusal in (rows-more (tranOk t && ltb r recordCount) (controlIn g .stopped) (isOpen (controlIn g) t) n (row 7 (lockedOutIn g t r) 0) d early-is)
+        ∙ whole-table
 
     -- none of 3, 4 and 5 applies
     module _ (clear : n ≡ 0) where
@@ -98,12 +85,12 @@ module _ (g : Image) (t r : ℕ) where
           ∙ sym (unfold refusal in (rows-clear (tranOk t && ltb r recordCount) (controlIn g .stopped) (isOpen (controlIn g) t) (row 7 (lockedOutIn g t r) 0) (sym early-is ∙ clear)))
 
       pub locked-row : lockedOutIn g t r ≡ true → 7 ≡ refusalOn (get t r) g
-      locked-row l = rules-row (is-given .formed) 7 (late-row true l)
+      locked-row l = late-row true l ∙ whole-table
 
       pub ready-up : (a : Access) → lockedOutIn g t r ≡ false → a .refusal ≡ 0 → fromMask (byte (a .newest)) ≡ meaning (f .control) .newest
           → Lists (a .holders) (holdersIn g (r / slotCount)) → LooksUp g t r a
       ready-up a l is new held = record {
-        refusal-is = is ∙ rules-row (is-given .formed) 0 (late-row false l);
+        refusal-is = is ∙ late-row false l ∙ whole-table;
         ready = λ y. record {
           formed = is-given .formed;
           accepted = late-row false l;

@@ -24,7 +24,7 @@ use Rattle.control.specs.ControlBytes.{Part, placementsIn}
 use Rattle.control.specs.ControlForm.{controlForm}
 use Rattle.control.specs.Meaning.{maskIn, meaning}
 use Rattle.control.specs.declared.Control.{Control}
-use Rattle.control.proofs.Struct.{active-is}
+use Rattle.control.proofs.Struct.{active-is, placements-more}
 use Rattle.cabinet_rules.specs.Images.{Image, blockIn, controlIn}
 use Rattle.promise.specs.Given.{Given, viewOf}
 use Rattle.promise.proofs.Finish.{form-good}
@@ -95,13 +95,6 @@ push-two p q b l m n x y ex ey d e =
 pub usable-same : {p q : Placement} → p ≡ q → Usable q → Usable p
 usable-same e u = rw e u
 
-placements-more : (f : ℕ → ℕ) (n : ℕ) → placementsIn f (n + 1) ≡ placementsIn f n ++ (fromMask (byte (f n)) ∷ [])
-placements-more f n = ap (placementsIn f) (add-one n) ∙ go f n
-  where
-    go : (f : ℕ → ℕ) (n : ℕ) → placementsIn f (suc n) ≡ placementsIn f n ++ (fromMask (byte (f n)) ∷ [])
-    go f zero = refl
-    go f (suc n) = ap (λ (l : List Placement). fromMask (byte (f 0)) ∷ l) (go (λ i. f (suc i)) n)
-
 in-placements : (f : ℕ → ℕ) (n i : ℕ) → i < n → In (fromMask (byte (f i))) (placementsIn f n)
 in-placements f zero i h = absurd (omega arith)
 in-placements f (suc n) zero h = inl refl
@@ -160,7 +153,7 @@ module _ (k : Control) (g : Image) (given : Given k g) where
       let p = fromMask (byte (maskIn k i)) in
       let l = placementsIn (maskIn k) i in
       let sites : Placement → List ℕ = λ p. sitesOf p b in
-      sym (ap (λ (l : List Placement). keepIf (holdsSeen g b) (keepIf (notFailed g) (concatMap sites l))) (placements-more (maskIn k) i)
+      sym (ap (λ (l : List Placement). keepIf (holdsSeen g b) (keepIf (notFailed g) (concatMap sites l))) (ap (placementsIn (maskIn k)) (add-one i) ∙ sym (placements-more (maskIn k) i))
       ∙ ap (λ (l : List ℕ). keepIf (holdsSeen g b) (keepIf (notFailed g) l)) (concat-append sites l p)
       ∙ ap (keepIf (holdsSeen g b)) (keep-append (notFailed g) (concatMap sites l) (sitesOf p b))
       ∙ keep-append (holdsSeen g b) (keepIf (notFailed g) (concatMap sites l)) (keepIf (notFailed g) (sitesOf p b))

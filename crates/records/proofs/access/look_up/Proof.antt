@@ -4,9 +4,10 @@ use Prim.Native.Nat.{_<_}
 use native.Mathlib.Omega.{arith}
 use borrow.Author.Needs.{needs}
 use Rattle.image.specs.Layout.{recordCount}
+use Rattle.method.specs.Rules.{get}
 use Rattle.control.proofs.Struct.{newest-by}
-use Rattle.promise.proofs.Finish.{given, given-whole}
-use Rattle.records.proofs.LookUp.{early-row, form-row, lists-at, locked-row, ready-up, rec-known, refused-up}
+use Rattle.promise.proofs.Finish.{form-row, given, given-whole}
+use Rattle.records.proofs.LookUp.{early-row, lists-at, locked-row, ready-up, rec-known, refused-up}
 use Rattle.records.proofs.access.look_up.Statement.{statement}
 use Rattle.records.proofs.access.look_up.Tie as tie
 
@@ -22,7 +23,7 @@ returns c =
     let f = t .before .before in
     let a = f .before .before .args in
     refused-up (a .image .now) (a .tran .0) (a .rec .0) (c .refused .result) (f .read .result .refusal) (c .refused .ensures) (t .if1 .taken)
-    (form-row (a .image .now) (a .tran .0) (a .rec .0) _ (f .read .ensures .refusal-is) (t .if1 .taken))
+    (form-row (get (a .tran .0) (a .rec .0)) refl (a .image .now) _ (f .read .ensures .refusal-is) (t .if1 .taken))
 
 early-rows-requires : tie.Need-early-rows-requires
 early-rows-requires c κs = search needs
