@@ -1,8 +1,8 @@
 -- A failure: the stop rule in the code's values, the blocks and the control part that it leaves, and that there is room for its placement.
 -- Assumes nothing.
 use Prim.Native.Nat.{_-_, _<_, _≤_, ℕ}
-use borrow.Author.Tests.{eqb-true, le-leb, lt-ltb, ltb-true, ne-eqb}
-use lib.Dec.{eqb, ltb}
+use borrow.Author.Tests.{eqb-true, le-leb, lt-ltb, ne-eqb}
+use lib.Dec.{eqb}
 use lib.ListN.{getD, length, set}
 use mathlib.Core.Bool.{Bool, _&&_, _||_, false, not, true}
 use mathlib.Core.List.{List, [], _∷_}
@@ -20,9 +20,8 @@ use Rattle.mask.proofs.Masks.{byte-path, has-card, has-with}
 use Rattle.slot.specs.Blocks.{inSet}
 use Rattle.method.specs.Changes.{marked}
 use Rattle.method.specs.ControlPart.{active, added, begunAt, closed, halted, isOpen, withCards}
-use Rattle.method.specs.Rules.{View, act, dropHeld, fail, look, lost, lostOf, placed, refusal, row, stopping, stops}
+use Rattle.method.specs.Rules.{act, dropHeld, fail, look, lost, lostOf, placed, refusal, stopping, stops}
 use Rattle.method.specs.Rules.{unplaced, writing}
-use Rattle.method.proofs.Refusals.{row-3}
 use Rattle.control.specs.ControlBytes.{Part}
 use Rattle.control.specs.ControlForm.{formRefusal, fourthOk, isSafe}
 use Rattle.control.specs.Meaning.{Is, maskIn, meaning, newestMask}
@@ -33,24 +32,16 @@ use Rattle.cabinet_rules.specs.Images.{Image, controlIn, planOn, stateIn}
 use Rattle.cabinet_rules.proofs.Form.{safe-is}
 use Rattle.promise.proofs.Finish.{form-good}
 use Rattle.promise.proofs.Laid.{laid}
+use Rattle.promise.specs.Given.{rowsOn}
+use Rattle.promise.specs.Rows.{cardRows}
 use Rattle.tables.specs.Tables.{endWrites, setOf}
 use Rattle.tables.proofs.Ends.{drops-set}
-use Rattle.cards.proofs.Rows.{rowsOf}
 use Rattle.control.specs.declared.Control.{Control as Struct}
 
 -- ---- rows
-pub fail-by : (k : Struct) (c : ℕ) (w : Bool) → w ≡ hasCard (byte (k .working)) c
-    → row 3 (not (ltb c cardCount)) (row 4 (k .stopped) (row 8 (not w) 0)) ≡ rowsOf (fail c) (meaning k)
-unfolding refusal meaning
-fail-by k c w e = ap (λ (x : Bool). row 3 (not (ltb c cardCount)) (row 4 (k .stopped) (row 8 (not x) 0))) e
-
-pub fail-rows : (k : Part) (v : View cabinet) (c : ℕ) → rowsOf (fail c) k ≡ refusal cabinet (fail c) k v
-unfolding refusal
-fail-rows k v c = refl
-
-pub fail-range : (k : Part) (c : ℕ) → 0 ≡ rowsOf (fail c) k → c < cardCount
-unfolding refusal
-fail-range k c e = ltb-true c cardCount (row-3 (ltb c cardCount) (sym e) .0)
+pub fail-rows : (g : Image) (c : ℕ) → cardRows (controlIn g) c ≡ rowsOn (fail c) g
+unfolding cardRows refusal
+fail-rows g c = refl
 
 -- ---- the stop rule
 -- some active placement is lost exactly where not all are safe

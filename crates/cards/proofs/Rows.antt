@@ -1,14 +1,16 @@
 -- The refusal rows of fit, withdraw and place in the values that the code has, and what an accepted call has shown. Assumes nothing.
 use Prim.Native.Nat.{_-_, _<_, ℕ}
-use borrow.Author.Tests.{leb-false, ltb-true}
+use borrow.Author.Tests.{leb-false, lt-ltb, ltb-true}
 use lib.Dec.{eqb, leb, ltb}
 use lib.ListN.{length}
-use mathlib.Core.Bool.{Bool, _||_, not}
+use mathlib.Core.Bool.{Bool, _||_, false, not, true}
+use mathlib.Core.Logic.{_≢_}
 use mathlib.Core.List.{[], _++_, _∷_}
 use mathlib.Core.Path.{_∙_, _≡_, ap, ap₂, refl, sym}
 use native.Mathlib.Nat.{mod-eq-of-lt}
 use native.Mathlib.Omega.{arith}
-use Rattle.image.specs.Layout.{cardCount}
+use Rattle.lists.specs.Tests.{anyBelow}
+use Rattle.image.specs.Layout.{cardCount, tranBound}
 use Rattle.mask.specs.Masks.{Byte, byte, hasCard, isWithin, size}
 use Rattle.mask.specs.Placements.{fromMask, leastMembers}
 use Rattle.method.specs.ControlPart.{begunAt}
@@ -19,6 +21,8 @@ use Rattle.control.specs.ControlBytes.{Part, placementsIn}
 use Rattle.control.specs.Meaning.{Counted, maskIn, newestMask, meaning}
 use Rattle.control.proofs.Struct.{active-is, length-placements}
 use Rattle.cabinet_rules.specs.Cabinet.{cabinet, mostPlaced, placeRows}
+use Rattle.promise.specs.Rows.{cardRows}
+use Rattle.promise.proofs.CardRows.{card-accepted}
 use Rattle.tables.specs.Tables.{setOf}
 use Rattle.cards.proofs.Searches.{some-set}
 use Rattle.control.specs.declared.Control.{Control as Struct}
@@ -46,13 +50,28 @@ pub fit-by : (k : Struct) (c : ℕ) (w a : Bool) → w ≡ hasCard (byte (k .wor
 unfolding refusal meaning
 fit-by k c w a ew ea = ap₂ (λ (x y : Bool). row 3 (not (ltb c cardCount)) (row 4 (k .stopped) (row 8 (x || y) 0))) ew ea
 
-pub withdraw-by : (k : Struct) (c : ℕ) (w a : Bool) (n : ℕ) → w ≡ hasCard (byte (k .working)) c → a ≡ inActive cabinet (meaning k) c → n ≡ setOf (begunAt (meaning k) c)
-    → row 3 (not (ltb c cardCount)) (row 4 (k .stopped) (row 8 (not w || a) (row 14 (not (eqb n 0)) 0))) ≡ rowsOf (withdraw c) (meaning k)
-unfolding refusal
-withdraw-by k c w a n ew ea en =
-    ap₂ (λ (x y : Bool). row 3 (not (ltb c cardCount)) (row 4 (k .stopped) (row 8 (not x || y) (row 14 (not (eqb n 0)) 0)))) ew ea
-    ∙ ap (λ (x : Bool). row 3 (not (ltb c cardCount)) (row 4 (k .stopped) (row 8 (not (hasCard (byte (k .working)) c) || inActive cabinet (meaning k) c) (row 14 x 0)))) (ap (λ (x : ℕ). not (eqb x 0)) en ∙ some-set (begunAt (meaning k) c))
-    ∙ unfold meaning in refl
+module _ (k : Part) (c n : ℕ) (e : n ≡ cardRows k c) where
+  pub withdraw-refused : n ≢ 0 → n ≡ rowsOf (withdraw c) k
+  unfolding cardRows refusal
+  withdraw-refused d = go (ltb c cardCount) (k .stopped) (hasCard (k .working) c) (inActive cabinet k c) (row 14 (anyBelow tranBound (begunAt k c)) 0) e
+    where
+      go : (a s w o : Bool) (below : ℕ) → n ≡ row 3 (not a) (row 4 s (row 8 (not w) 0)) → n ≡ row 3 (not a) (row 4 s (row 8 (not w || o) below))
+      go false s w o below q = q
+      go true true w o below q = q
+      go true false false o below q = q
+      go true false true o below q = absurd (d q)
+
+  pub withdraw-by : n ≡ 0 → (a : Bool) (s : ℕ) → a ≡ inActive cabinet k c → s ≡ setOf (begunAt k c) → row 8 a (row 14 (not (eqb s 0)) 0) ≡ rowsOf (withdraw c) k
+  unfolding refusal
+  withdraw-by z a s ea es =
+      ap₂ (λ (o : Bool) (x : ℕ). row 8 o (row 14 (not (eqb x 0)) 0)) ea es ∙ ap (λ (t : Bool). row 8 (inActive cabinet k c) (row 14 t 0)) (some-set (begunAt k c))
+      ∙ go (ltb c cardCount) (k .stopped) (hasCard (k .working) c) (inActive cabinet k c) (row 14 (anyBelow tranBound (begunAt k c)) 0) (lt-ltb c cardCount (ok .0)) (ok .1) (ok .2)
+    where
+      ok : (c < cardCount) × (k .stopped ≡ false) × (hasCard (k .working) c ≡ true)
+      ok = card-accepted k c (sym z ∙ e)
+
+      go : (a s w o : Bool) (below : ℕ) → a ≡ true → s ≡ false → w ≡ true → row 8 o below ≡ row 3 (not a) (row 4 s (row 8 (not w || o) below))
+      go a s w o below p q r = rw (p, q, r)
 
 pub place-by : (k : Struct) → Counted k → (m : ℕ) → m < 256 → newestMask k < 256 → (n : ℕ) (w : Bool) → n ≡ size (byte m) → w ≡ isWithin (byte m) (byte (k .working))
     → row 4 (k .stopped) (row 9 (ltb n leastMembers || (not w || eqb m (newestMask k))) (row 10 (leb mostPlaced (k .count)) 0)) ≡ rowsOf (place (byte m)) (meaning k)

@@ -1,7 +1,7 @@
 // start, fit, withdraw, place and fail: which cards there are and which of them the records are placed on.
 ghost use mathlib.Core.Path.{_≡_};
 ghost use Rattle.image.specs.Layout.{Whole};
-ghost use Rattle.method.specs.Rules.{inActive, refusal, fit, withdraw, place, fail};
+ghost use Rattle.method.specs.Rules.{inActive, refusal, fit, withdraw, place};
 ghost use Rattle.method.specs.PlainList.{noBlocks};
 ghost use Rattle.mask.specs.Masks.{byte};
 ghost use Rattle.control.specs.Meaning.{Counted, meaning};
@@ -105,14 +105,9 @@ fn withdraw_refusal(k: Control, card: Card) -> u8
     requires { ⌜ Counted k ⌝ }
     ensures { λ r. ⌜ r ≡ refusal cabinet (withdraw (card .0)) (meaning k) (noBlocks cabinet) ⌝ }
 {
-    if card.0 >= Placement::MOST_CARDS {
-        return 3;
-    }
-    if k.stopped {
-        return 4;
-    }
-    if !mask::has(k.working, card) {
-        return 8;
+    let on_card = promise::rows::card_refusal(k, card);
+    if on_card != 0 {
+        return on_card;
     }
     if in_active(k, card) {
         return 8;
@@ -181,23 +176,6 @@ pub fn place(image: &mut [u8], mask: u8) -> Answer
     Answer::Ok
 }
 
-// The rows of fail from 3 on.
-fn fail_refusal(k: Control, card: Card) -> u8
-    requires { ⌜ Counted k ⌝ }
-    ensures { λ r. ⌜ r ≡ refusal cabinet (fail (card .0)) (meaning k) (noBlocks cabinet) ⌝ }
-{
-    if card.0 >= Placement::MOST_CARDS {
-        return 3;
-    }
-    if k.stopped {
-        return 4;
-    }
-    if !mask::has(k.working, card) {
-        return 8;
-    }
-    0
-}
-
 // The card no longer works and is marked failed. Where an active placement is then lost, every open transaction is
 // rolled back and the store stops. Otherwise what was begun there is rolled back, and if the card was in the newest
 // placement one without it is added.
@@ -209,7 +187,7 @@ pub fn fail(image: &mut [u8], card: Card) -> Answer
         return Answer::Refused(found.refusal);
     }
     let k = found.control;
-    let refusal = fail_refusal(k, card);
+    let refusal = promise::rows::card_refusal(k, card);
     if refusal != 0 {
         return Answer::Refused(refusal);
     }

@@ -1,4 +1,6 @@
 // The calls and the answers of the store as values; what a call promises stands in specs/Promise.antt.
+pub mod rows;
+
 use image::Block;
 use image::Card;
 use image::Rec;

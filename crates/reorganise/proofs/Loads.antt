@@ -14,8 +14,9 @@ use Rattle.method.specs.Slots.{isSome}
 use Rattle.cabinet_rules.specs.Cabinet.{cabinet}
 use Rattle.cabinet_rules.specs.Images.{Image, blockIn, controlIn, planOn}
 use Rattle.promise.specs.Given.{rowsOn, viewOf}
+use Rattle.promise.specs.Rows.{cardRows}
 use Rattle.promise.proofs.View.{look-on}
-use Rattle.reorganise.specs.Reorganise.{cardRows, loadBelow}
+use Rattle.reorganise.specs.Reorganise.{loadBelow}
 
 -- ---- a block
 count-le : (n : ℕ) (f : ℕ → Bool) → count n f ≤ n

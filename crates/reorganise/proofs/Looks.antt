@@ -1,18 +1,14 @@
 -- What the functions that look at an image have to do with the rules. Assumes nothing.
-use Prim.Native.Nat.{_<_, ℕ}
-use borrow.Author.Tests.{eq-eqb, ltb-true, ne-eqb}
-use lib.Dec.{eqb, ltb}
-use mathlib.Core.Bool.{Bool, _||_, false, not, true}
+use Prim.Native.Nat.{ℕ}
+use borrow.Author.Tests.{eq-eqb, ne-eqb}
+use lib.Dec.{eqb}
+use mathlib.Core.Bool.{Bool, _||_, false, true}
 use mathlib.Core.List.{[], _∷_}
 use mathlib.Core.Logic.{_≢_}
 use mathlib.Core.Path.{_≡_, ap, refl, subst, sym}
 use Rattle.lists.specs.Tests.{elem}
-use Rattle.lists.proofs.Bools.{not-not-is}
-use Rattle.image.specs.Layout.{cardCount}
-use Rattle.mask.specs.Masks.{hasCard}
 use Rattle.mask.specs.Placements.{Usable, sitesOf}
 use Rattle.method.specs.Rules.{newestSites}
-use Rattle.method.proofs.Refusals.{row-3, row-clear}
 use Rattle.control.specs.ControlBytes.{Part}
 use Rattle.control.specs.Meaning.{meaning}
 use Rattle.control.specs.declared.Control.{Control}
@@ -21,16 +17,6 @@ use Rattle.cabinet_rules.specs.Images.{Image, controlIn}
 use Rattle.promise.specs.Given.{Given}
 use Rattle.promise.proofs.Finish.{form-good}
 use Rattle.promise.proofs.View.{newest-usable as newest-active-usable}
-use Rattle.reorganise.specs.Reorganise.{cardRows}
-
--- ---- rows 3, 4 and 8
-pub card-accepted : (k : Part) (c : ℕ) → 0 ≡ cardRows k c → (c < cardCount) × (k .stopped ≡ false) × (hasCard (k .working) c ≡ true)
-unfolding cardRows
-card-accepted k c e =
-    let r3 = row-3 (ltb c cardCount) (sym e) in
-    let r4 = row-clear (k .stopped) 3 (r3 .1) in
-    let r8 = row-clear (not (hasCard (k .working) c)) 7 (r4 .1) in
-    (ltb-true c cardCount (r3 .0), r4 .0, not-not-is (hasCard (k .working) c) (r8 .0))
 
 -- ---- sites
 pub site-first : (c a b : ℕ) → c ≡ a → true ≡ elem c (a ∷ b ∷ [])

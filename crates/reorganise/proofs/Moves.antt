@@ -25,16 +25,18 @@ use Rattle.cabinet_rules.specs.Cabinet.{cabinet}
 use Rattle.cabinet_rules.specs.Images.{Image, Writes, blockIn, controlIn}
 use Rattle.promise.specs.Given.{Given, rowsOn, viewOf}
 use Rattle.promise.specs.Promise.{Done}
+use Rattle.promise.specs.Rows.{cardRows}
 use Rattle.promise.specs.declared.Answer.the-variants.{Copied}
 use Rattle.promise.proofs.Finish.{by-blocks, given-whole}
 use Rattle.promise.proofs.Laid.{block-is, laid, laid-none, laid-put, laid-same, of-block}
 use Rattle.promise.proofs.Laid.{putOne}
+use Rattle.promise.proofs.CardRows.{card-accepted}
 use Rattle.promise.proofs.View.{look-on}
 use Rattle.trail.specs.Trail.{holdsAt}
 use Rattle.trail.proofs.Holding.{holds-seen}
-use Rattle.reorganise.specs.Reorganise.{AreSites, cardRows, siteList}
+use Rattle.reorganise.specs.Reorganise.{AreSites, siteList}
 use Rattle.reorganise.specs.declared.looking.Sites.{Sites}
-use Rattle.reorganise.proofs.Looks.{card-accepted, newest-are}
+use Rattle.reorganise.proofs.Looks.{newest-are}
 
 -- ---- the rows: those on the numbers and the card, by their tests, and those on the card's copy
 abbrev rows : Bool → Bool → Bool → Bool → ℕ → ℕ

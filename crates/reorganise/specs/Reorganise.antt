@@ -1,21 +1,14 @@
 -- What the functions under the calls move, settle, state and load say of an image. Assumes nothing.
 use Prim.Native.Nat.{_<_, ℕ}
-use lib.Dec.{ltb}
 use mathlib.Core.Bool.{Bool, _&&_, _||_, not}
 use mathlib.Core.List.{List, [], _∷_}
 use mathlib.Core.Path.{_≡_}
 use Rattle.lists.specs.Tests.{all, allBelow, elem, sumBelow}
 use Rattle.image.specs.Layout.{cardCount}
-use Rattle.mask.specs.Masks.{hasCard}
-use Rattle.method.specs.Rules.{committedIn, row}
-use Rattle.control.specs.ControlBytes.{Part}
+use Rattle.method.specs.Rules.{committedIn}
 use Rattle.cabinet_rules.specs.Cabinet.{cabinet}
 use Rattle.cabinet_rules.specs.Images.{Image, blockIn}
 use Rattle.reorganise.specs.declared.looking.Sites.{Sites}
-
--- The rows of a call on a working card: 3, 4 and 8.
-unfoldable pub cardRows : Part → ℕ → ℕ
-cardRows k c = row 3 (not (ltb c cardCount)) (row 4 (k .stopped) (row 8 (not (hasCard (k .working) c)) 0))
 
 -- The sites as the rules list them.
 abbrev pub siteList : Sites → List ℕ

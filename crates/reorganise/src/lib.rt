@@ -72,7 +72,7 @@ pub fn load(image: &[u8], card: Card) -> Answer
         return Answer::Refused(found.refusal);
     }
     let k = found.control;
-    let refusal = looking::card_refusal(k, card);
+    let refusal = promise::rows::card_refusal(k, card);
     if refusal != 0 {
         return Answer::Refused(refusal);
     }

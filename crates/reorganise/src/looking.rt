@@ -1,11 +1,11 @@
-// What the calls look at: the rows on a card, and the newest sites of a block.
+// The newest sites of a block.
 ghost use mathlib.Core.Path.{_≡_};
 ghost use Prim.Native.Nat.{_<_};
 ghost use Rattle.lists.specs.Tests.{elem};
 ghost use Rattle.image.specs.Layout.{blockCount};
 ghost use Rattle.mask.specs.Placements.{Usable, sitesOf};
 ghost use Rattle.control.specs.Meaning.{Counted, meaning};
-ghost use Rattle.reorganise.specs.Reorganise.{AreSites, cardRows, siteList};
+ghost use Rattle.reorganise.specs.Reorganise.{AreSites, siteList};
 use control::Control;
 use image::Block;
 use image::Card;
@@ -15,22 +15,6 @@ use mask::Placement;
 pub struct Sites {
     pub first: Card,
     pub second: Card,
-}
-
-// Rows 3, 4 and 8 of a call on a working card.
-pub fn card_refusal(k: Control, card: Card) -> u8
-    ensures { λ r. ⌜ r ≡ cardRows (meaning k) (card .0) ⌝ }
-{
-    if card.0 >= Placement::MOST_CARDS {
-        return 3;
-    }
-    if k.stopped {
-        return 4;
-    }
-    if !mask::has(k.working, card) {
-        return 8;
-    }
-    0
 }
 
 // The sites of a block in the newest placement.

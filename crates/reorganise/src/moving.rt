@@ -22,7 +22,7 @@ pub fn refusal(image: &[u8], k: Control, card: Card, block: Block) -> u8
     if block.0 as usize >= BLOCK_COUNT {
         return 3;
     }
-    let on_card = looking::card_refusal(k, card);
+    let on_card = promise::rows::card_refusal(k, card);
     if on_card != 0 {
         return on_card;
     }

@@ -1,53 +1,60 @@
 -- The proof of `withdraw_refusal`. Assumes nothing.
-use mathlib.Core.Path.{_≡_, refl, sym, _∙_}
-use borrow.Author.Tests.{le-ltb, lt-ltb, not-true, eq-eqb, ne-eqb, not-false}
-use Rattle.cards.proofs.Rows.{withdraw-by}
+use mathlib.Core.Path.{refl}
+use borrow.Author.Tests.{eq-eqb, ne-eqb}
+use Rattle.control.specs.Meaning.{meaning}
+use Rattle.cards.proofs.Rows.{withdraw-by, withdraw-refused}
 use borrow.Author.Needs.{needs}
 use Rattle.cards.proofs.withdraw_refusal.Statement.{statement}
 use Rattle.cards.proofs.withdraw_refusal.Tie as tie
-use Rattle.cards.proofs.withdraw_refusal.Reads as reads
-use Rattle.cards.proofs.withdraw_refusal.Lts as lts
-use Rattle.cards.proofs.in_active.Reads as in-active-reads
-use Rattle.mask.proofs.has.Reads as has-reads
-use Rattle.tables.proofs.begun_at.Reads as begun-at-reads
+
+card-refusal-requires : tie.Need-card-refusal-requires
+card-refusal-requires c κs = search needs
 
 returns : tie.Need-returns
-returns c = sym (sym (withdraw-by (c .before .before .args .k) (c .before .before .args .card .0) _ _ _ refl refl refl) ∙ rw (le-ltb _ _ (c .if1 .taken)))
-
-returns-2 : tie.Need-returns-2
-returns-2 c = sym (sym (withdraw-by (c .before .before .before .args .k) (c .before .before .before .args .card .0) _ _ _ refl refl refl) ∙ rw (lt-ltb _ _ (c .before .if1 .left), c .if2 .taken))
-
-has-requires : tie.Need-has-requires
-has-requires c κs = search needs
-
-returns-3 : tie.Need-returns-3
-returns-3 c = sym (sym (withdraw-by (c .before .before .before .before .before .args .k) (c .before .before .before .before .before .args .card .0) (c .before .has .result) _ _ (c .before .has .ensures) refl refl) ∙ rw (lt-ltb _ _ (c .before .before .before .if1 .left), c .before .before .if2 .left, not-true (c .before .has .result) (c .if3 .taken)))
+returns c =
+    let r = c .before in
+    let a = r .before .args in
+    withdraw-refused (meaning (a .k)) (a .card .0) (r .card-refusal .result) (r .card-refusal .ensures) (c .if1 .taken)
 
 in-active-requires : tie.Need-in-active-requires
 in-active-requires c κs = search needs
 
-returns-4 : tie.Need-returns-4
-returns-4 c = sym (sym (withdraw-by (c .before .before .before .before .before .before .before .args .k) (c .before .before .before .before .before .before .before .args .card .0) (c .before .before .before .has .result) (c .before .in-active .result) _ (c .before .before .before .has .ensures) (c .before .in-active .ensures) refl) ∙ rw (lt-ltb _ _ (c .before .before .before .before .before .if1 .left), c .before .before .before .before .if2 .left, not-false (c .before .before .before .has .result) (c .before .before .if3 .left), c .if4 .taken))
+returns-2 : tie.Need-returns-2
+returns-2 c =
+    let i = c .before in
+    let r = i .before .before in
+    let a = r .before .args in
+    rw (c .if2 .taken) at (withdraw-by (meaning (a .k)) (a .card .0) (r .card-refusal .result) (r .card-refusal .ensures) (i .before .if1 .left) (i .in-active .result) _ (i .in-active .ensures) refl)
 
 begun-at-requires : tie.Need-begun-at-requires
 begun-at-requires c κs = search needs
 
-returns-5 : tie.Need-returns-5
-returns-5 c = sym (sym (withdraw-by (c .before .before .before .before .before .before .before .before .before .args .k) (c .before .before .before .before .before .before .before .before .before .args .card .0) (c .before .before .before .before .before .has .result) (c .before .before .before .in-active .result) (c .before .begun-at .result) (c .before .before .before .before .before .has .ensures) (c .before .before .before .in-active .ensures) (c .before .begun-at .ensures)) ∙ rw (lt-ltb _ _ (c .before .before .before .before .before .before .before .if1 .left), c .before .before .before .before .before .before .if2 .left, not-false (c .before .before .before .before .before .has .result) (c .before .before .before .before .if3 .left), c .before .before .if4 .left, ne-eqb _ _ (c .if5 .taken)))
+returns-3 : tie.Need-returns-3
+returns-3 c =
+    let b = c .before in
+    let i = b .before .before in
+    let r = i .before .before in
+    let a = r .before .args in
+    rw (b .before .if2 .left, ne-eqb _ _ (c .if3 .taken)) at
+    (withdraw-by (meaning (a .k)) (a .card .0) (r .card-refusal .result) (r .card-refusal .ensures) (i .before .if1 .left) (i .in-active .result) (b .begun-at .result) (i .in-active .ensures) (b .begun-at .ensures))
 
-returns-6 : tie.Need-returns-6
-returns-6 c = sym (sym (withdraw-by (c .before .before .before .before .before .before .before .before .before .args .k) (c .before .before .before .before .before .before .before .before .before .args .card .0) (c .before .before .before .before .before .has .result) (c .before .before .before .in-active .result) (c .before .begun-at .result) (c .before .before .before .before .before .has .ensures) (c .before .before .before .in-active .ensures) (c .before .begun-at .ensures)) ∙ rw (lt-ltb _ _ (c .before .before .before .before .before .before .before .if1 .left), c .before .before .before .before .before .before .if2 .left, not-false (c .before .before .before .before .before .has .result) (c .before .before .before .before .if3 .left), c .before .before .if4 .left, eq-eqb _ _ (c .if5 .left)))
+returns-4 : tie.Need-returns-4
+returns-4 c =
+    let b = c .before in
+    let i = b .before .before in
+    let r = i .before .before in
+    let a = r .before .args in
+    rw (b .before .if2 .left, eq-eqb _ _ (c .if3 .left)) at
+    (withdraw-by (meaning (a .k)) (a .card .0) (r .card-refusal .result) (r .card-refusal .ensures) (i .before .if1 .left) (i .in-active .result) (b .begun-at .result) (i .in-active .ensures) (b .begun-at .ensures))
 
 pub withdraw-refusal-spec : {M : Type 1} → statement M
 withdraw-refusal-spec =
     tie.close
     (tie.spec
+    card-refusal-requires
     returns
-    returns-2
-    has-requires
-    returns-3
     in-active-requires
-    returns-4
+    returns-2
     begun-at-requires
-    returns-5
-    returns-6)
+    returns-3
+    returns-4)

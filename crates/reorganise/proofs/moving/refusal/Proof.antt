@@ -5,8 +5,8 @@ use Rattle.slot.specs.Blocks.{anyLocked, ofList}
 use Rattle.control.specs.ControlBytes.{Part}
 use Rattle.control.specs.Meaning.{meaning}
 use Rattle.promise.proofs.Finish.{given-whole}
-use Rattle.reorganise.specs.Reorganise.{cardRows}
-use Rattle.reorganise.proofs.Looks.{card-accepted}
+use Rattle.promise.specs.Rows.{cardRows}
+use Rattle.promise.proofs.CardRows.{card-accepted}
 use Rattle.reorganise.proofs.Moves.{copy-rows, refused-block, refused-card}
 use borrow.Author.Needs.{needs}
 use Rattle.reorganise.proofs.moving.refusal.Statement.{statement}

@@ -1,12 +1,12 @@
--- The proof of `looking::card_refusal`. Assumes nothing.
+-- The proof of `rows::card_refusal`. Assumes nothing.
 use mathlib.Core.Path.{_∙_, sym}
 use borrow.Author.Tests.{le-ltb, lt-ltb, not-false, not-true}
 use Rattle.image.specs.Layout.{cardCount}
 use Rattle.control.specs.Meaning.{meaning}
-use Rattle.reorganise.specs.Reorganise.{cardRows}
+use Rattle.promise.specs.Rows.{cardRows}
 use borrow.Author.Needs.{needs}
-use Rattle.reorganise.proofs.looking.card_refusal.Statement.{statement}
-use Rattle.reorganise.proofs.looking.card_refusal.Tie as tie
+use Rattle.promise.proofs.rows.card_refusal.Statement.{statement}
+use Rattle.promise.proofs.rows.card_refusal.Tie as tie
 
 returns : tie.Need-returns
 unfolding cardRows
