@@ -22,7 +22,7 @@ use Rattle.control.specs.Meaning.{Counted, maskIn, newestMask, meaning}
 use Rattle.control.proofs.Struct.{active-is, length-placements}
 use Rattle.cabinet_rules.specs.Cabinet.{cabinet, mostPlaced, placeRows}
 use Rattle.promise.specs.Rows.{cardRows}
-use Rattle.promise.proofs.CardRows.{card-accepted}
+use Rattle.promise.proofs.SharedRows.{card-accepted}
 use Rattle.tables.specs.Tables.{setOf}
 use Rattle.cards.proofs.Searches.{some-set}
 use Rattle.control.specs.declared.Control.{Control as Struct}

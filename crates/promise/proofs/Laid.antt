@@ -4,7 +4,7 @@ use borrow.Author.Tests.{lt-ltb, ne-eqb}
 use lib.Dec.{eqb}
 use lib.ListN.{getD, length}
 use lib.Seq.{ext-getD}
-use mathlib.Core.Bool.{Bool, _&&_, cond, false, true}
+use mathlib.Core.Bool.{Bool, _&&_, and-false, cond, false, true}
 use mathlib.Core.List.{List}
 use mathlib.Core.Logic.{_≢_, _⊎_, inl, inr, ⊎-elim}
 use mathlib.Core.Option.{Option, none, some}
@@ -51,11 +51,7 @@ putOne w c b x d e = cond (eqb d c && eqb e b) (some x) (w d e)
 -- another card or block is not the one put
 pub put-elsewhere : (w : Writes) (c b : ℕ) (x : BlockBytes) (d e : ℕ) → (d ≢ c) ⊎ (e ≢ b) → putOne w c b x d e ≡ w d e
 put-elsewhere w c b x d e (inl n) = rw (ne-eqb d c n)
-put-elsewhere w c b x d e (inr n) = ap (λ (t : Bool). cond t (some x) (w d e)) (ap (λ (t : Bool). eqb d c && t) (ne-eqb e b n) ∙ and-no (eqb d c))
-  where
-    and-no : (t : Bool) → (t && false) ≡ false
-    and-no true = refl
-    and-no false = refl
+put-elsewhere w c b x d e (inr n) = ap (λ (t : Bool). cond t (some x) (w d e)) (ap (λ (t : Bool). eqb d c && t) (ne-eqb e b n) ∙ and-false (eqb d c))
 
 -- what lies outside the blocks is not written by a put
 outside : (g : Image) → Whole g → (c b : ℕ) → c < cardCount → b < blockCount → (xs : List ℕ) → length xs ≡ blockSize

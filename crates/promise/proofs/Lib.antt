@@ -2,4 +2,4 @@ pub mod Laid
 pub mod Sweep
 pub mod View
 pub mod Finish
-pub mod CardRows
+pub mod SharedRows

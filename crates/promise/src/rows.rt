@@ -1,9 +1,12 @@
 // Rows of the refusal table that several calls ask.
 ghost use mathlib.Core.Path.{_≡_};
 ghost use Rattle.control.specs.Meaning.{meaning};
-ghost use Rattle.promise.specs.Rows.{cardRows};
+ghost use Rattle.cabinet_rules.specs.Cabinet.{tranOk};
+ghost use Rattle.promise.specs.Rows.{cardRows, tranRows};
 use control::Control;
+use control::TRAN_COUNT;
 use image::Card;
+use image::Tran;
 use mask::Placement;
 
 // Rows 3, 4 and 8 of a call on a working card.
@@ -18,6 +21,32 @@ pub fn card_refusal(k: Control, card: Card) -> u8
     }
     if !mask::has(k.working, card) {
         return 8;
+    }
+    0
+}
+
+// Whether the number is a transaction's.
+pub fn is_tran(tran: Tran) -> bool
+    ensures { λ r. ⌜ r ≡ tranOk (tran .0) ⌝ }
+{
+    if tran.0 == 0 {
+        return false;
+    }
+    tran.0 as usize <= TRAN_COUNT
+}
+
+// Rows 3, 4 and 5 of a call of an open transaction.
+pub fn tran_refusal(k: Control, tran: Tran) -> u8
+    ensures { λ r. ⌜ r ≡ tranRows (meaning k) (tran .0) ⌝ }
+{
+    if !is_tran(tran) {
+        return 3;
+    }
+    if k.stopped {
+        return 4;
+    }
+    if !k.is_open(tran) {
+        return 5;
     }
     0
 }

@@ -4,7 +4,7 @@ use borrow.Author.Tests.{eqb-true, ne-eqb}
 use lib.Dec.{eqb}
 use lib.ListN.{getD, length, take}
 use lib.Seq.{take-suc}
-use mathlib.Core.Bool.{Bool, _&&_, _||_, cond, false, true}
+use mathlib.Core.Bool.{Bool, _&&_, _||_, and-false, cond, false, true}
 use mathlib.Core.List.{List, [], _++_, _∷_}
 use mathlib.Core.Logic.{_≢_, _⊎_, inl, inr}
 use mathlib.Core.Option.{Option, none, some}
@@ -50,10 +50,6 @@ elem-skip : (c d : ℕ) (l : List ℕ) → c ≢ d → elem c (l ++ (d ∷ [])) 
 elem-skip c d [] n = rw (ne-eqb c d n)
 elem-skip c d (x ∷ l) n = ap (λ (t : Bool). eqb c x || t) (elem-skip c d l n)
 
-and-no : (t : Bool) → (t && false) ≡ false
-and-no true = refl
-and-no false = refl
-
 -- ---- the loop over the holders: the record's slot is locked on the cards of a list
 unfoldable pub lockWrites : Image → ℕ → ℕ → Option ℕ → List ℕ → Writes
 lockWrites g t r v l c b = cond (eqb b (r / slotCount) && elem c l) (some (lockSlot (blockIn g c b) (r % slotCount) t v)) none
@@ -61,7 +57,7 @@ lockWrites g t r v l c b = cond (eqb b (r / slotCount) && elem c l) (some (lockS
 module _ (g : Image) (t r : ℕ) (v : Option ℕ) (hr : r < recordCount) (ht : t < tranBound) (hv : entryOf v .value < valueBound) where
   pub lock-none : Whole g → g ≡ laid (lockWrites g t r v []) g
   lock-none w = laid-none (lockWrites g t r v []) g w (λ c b hc hb. unfold lockWrites in
-      ap (λ (s : Bool). cond s (some (lockSlot (blockIn g c b) (r % slotCount) t v)) none) (and-no (eqb b (r / slotCount))))
+      ap (λ (s : Bool). cond s (some (lockSlot (blockIn g c b) (r % slotCount) t v)) none) (and-false (eqb b (r / slotCount))))
 
   -- one card more, which may be in the list already
   lock-more : (l : List ℕ) (c : ℕ) → c < cardCount → (image : Image) → image ≡ laid (lockWrites g t r v l) g
@@ -166,4 +162,4 @@ lay-laid g t r v q w hr is b first second y eb e1 e2 h1 h2 ey =
 
     there : (c k : ℕ) → (eqb k b ≡ true) ⊎ (eqb k b ≡ false) → putOne (putOne (λ c b. none) first b x) second b x c k ≡ layBlock cabinet (controlIn g) t r v c k
     there c k (inl e) = unfold layBlock in (rw (sites k (eqb-true k b e), sym eb, e) (bools (eqb c first) (eqb c second)))
-    there c k (inr e) = unfold layBlock in (rw (sym eb, e, and-no (eqb c first), and-no (eqb c second)))
+    there c k (inr e) = unfold layBlock in (rw (sym eb, e, and-false (eqb c first), and-false (eqb c second)))

@@ -2,7 +2,7 @@
 use Prim.Native.Nat.{_/_, _<_, ℕ}
 use borrow.Author.Tests.{lt-ltb}
 use lib.Dec.{ltb}
-use mathlib.Core.Bool.{Bool, _&&_, false, not, true}
+use mathlib.Core.Bool.{Bool, _&&_, and-true, false, not, true}
 use mathlib.Core.Logic.{_≢_}
 use mathlib.Core.Path.{_∙_, _≡_, ap, refl, sym}
 use native.Mathlib.Omega.{arith}
@@ -30,11 +30,7 @@ use Rattle.records.proofs.Rows.{rec-lt}
 pub store-rows : (k : Part) (v : View cabinet) (t r n : ℕ) → n < valueBound → refusal cabinet (get t r) k v ≡ refusal cabinet (store t r n) k v
 unfolding refusal
 store-rows k v t r n h = ap (λ (x : Bool). row 3 (not x) (row 4 (k .stopped) (row 5 (not (isOpen k t)) (row 7 (lockedOut cabinet k v t r) 0))))
-    (sym (ap (λ (x : Bool). tranOk t && ltb r recordCount && x) (lt-ltb n valueBound h) ∙ and-yes (tranOk t && ltb r recordCount)))
-  where
-    and-yes : (x : Bool) → (x && true) ≡ x
-    and-yes true = refl
-    and-yes false = refl
+    (sym (ap (λ (x : Bool). tranOk t && ltb r recordCount && x) (lt-ltb n valueBound h) ∙ and-true (tranOk t && ltb r recordCount)))
 
 pub delete-rows : (k : Part) (v : View cabinet) (t r : ℕ) → refusal cabinet (get t r) k v ≡ refusal cabinet (delete t r) k v
 unfolding refusal

@@ -3,7 +3,7 @@ use Prim.Native.Nat.{_%_, _+_, _/_, _<_, _≤_, suc, zero, ℕ}
 use lib.Dec.{eqb}
 use lib.ListN.{getD, length, take}
 use lib.Seq.{take-suc}
-use mathlib.Core.Bool.{Bool, _||_, cond, false, true}
+use mathlib.Core.Bool.{Bool, _||_, cond, false, or-false, true}
 use mathlib.Core.List.{List, [], _++_, _∷_}
 use mathlib.Core.Logic.{_≢_}
 use mathlib.Core.Option.{Option, none}
@@ -44,11 +44,7 @@ slot-by g w c r hc hr b p x s eb ex ep es =
 
 -- ---- a loop over a list that looks for one
 any-append : (f : ℕ → Bool) (l : List ℕ) (x : ℕ) → any f (l ++ (x ∷ [])) ≡ (any f l || f x)
-any-append f [] x = or-nil (f x)
-  where
-    or-nil : (t : Bool) → (t || false) ≡ t
-    or-nil true = refl
-    or-nil false = refl
+any-append f [] x = or-false (f x)
 any-append f (y ∷ l) x = ap (λ (t : Bool). f y || t) (any-append f l x) ∙ assoc (f y) (any f l) (f x)
   where
     assoc : (a b c : Bool) → (a || (b || c)) ≡ ((a || b) || c)

@@ -1,13 +1,8 @@
 // What every call on a record asks first: rows 1 to 5 and 7 of the refusal table, and the holders of its block.
 ghost use mathlib.Core.Path.{_≡_};
-ghost use mathlib.Core.Bool.{_&&_};
-ghost use lib.Dec.{ltb};
-ghost use Rattle.image.specs.Layout.{recordCount};
 ghost use Rattle.control.specs.Meaning.{meaning};
-ghost use Rattle.cabinet_rules.specs.Cabinet.{tranOk};
 ghost use Rattle.records.specs.Access.{LooksUp, earlyRows};
 use control::Control;
-use control::TRAN_COUNT;
 use image::Rec;
 use image::Tran;
 use trail::Holders;
@@ -36,33 +31,14 @@ fn refused(refusal: u8) -> Access
     }
 }
 
-// Whether both numbers are in their range.
-fn in_range(tran: Tran, rec: Rec) -> bool
-    ensures { λ r. ⌜ r ≡ (tranOk (tran .0) && ltb (rec .0) recordCount) ⌝ }
-{
-    if tran.0 == 0 {
-        return false;
-    }
-    if tran.0 as usize > TRAN_COUNT {
-        return false;
-    }
-    (rec.0 as usize) < RECORD_COUNT
-}
-
 // Rows 3, 4 and 5.
 fn early_rows(k: Control, tran: Tran, rec: Rec) -> u8
     ensures { λ r. ⌜ r ≡ earlyRows (meaning k) (tran .0) (rec .0) ⌝ }
 {
-    if !in_range(tran, rec) {
+    if rec.0 as usize >= RECORD_COUNT {
         return 3;
     }
-    if k.stopped {
-        return 4;
-    }
-    if !k.is_open(tran) {
-        return 5;
-    }
-    0
+    promise::rows::tran_refusal(k, tran)
 }
 
 // The record's rows and holders.

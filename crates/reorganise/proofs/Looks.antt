@@ -2,10 +2,10 @@
 use Prim.Native.Nat.{ℕ}
 use borrow.Author.Tests.{eq-eqb, ne-eqb}
 use lib.Dec.{eqb}
-use mathlib.Core.Bool.{Bool, _||_, false, true}
+use mathlib.Core.Bool.{or-false, true}
 use mathlib.Core.List.{[], _∷_}
 use mathlib.Core.Logic.{_≢_}
-use mathlib.Core.Path.{_≡_, ap, refl, subst, sym}
+use mathlib.Core.Path.{_≡_, ap, subst, sym}
 use Rattle.lists.specs.Tests.{elem}
 use Rattle.mask.specs.Placements.{Usable, sitesOf}
 use Rattle.method.specs.Rules.{newestSites}
@@ -23,11 +23,7 @@ pub site-first : (c a b : ℕ) → c ≡ a → true ≡ elem c (a ∷ b ∷ [])
 site-first c a b e = rw (eq-eqb c a e)
 
 pub site-second : (c a b : ℕ) → c ≢ a → eqb c b ≡ elem c (a ∷ b ∷ [])
-site-second c a b n = rw (ne-eqb c a n) (go (eqb c b))
-  where
-    go : (t : Bool) → t ≡ (t || false)
-    go true = refl
-    go false = refl
+site-second c a b n = rw (ne-eqb c a n) (sym (or-false (eqb c b)))
 
 module _ (k : Control) (g : Image) (is : Given k g) where
   pub newest-usable : Usable (meaning k .newest)

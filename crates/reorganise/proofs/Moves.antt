@@ -30,7 +30,7 @@ use Rattle.promise.specs.declared.Answer.the-variants.{Copied}
 use Rattle.promise.proofs.Finish.{by-blocks, given-whole}
 use Rattle.promise.proofs.Laid.{block-is, laid, laid-none, laid-put, laid-same, of-block}
 use Rattle.promise.proofs.Laid.{putOne}
-use Rattle.promise.proofs.CardRows.{card-accepted}
+use Rattle.promise.proofs.SharedRows.{card-accepted}
 use Rattle.promise.proofs.View.{look-on}
 use Rattle.trail.specs.Trail.{holdsAt}
 use Rattle.trail.proofs.Holding.{holds-seen}

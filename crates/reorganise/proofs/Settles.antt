@@ -1,9 +1,9 @@
 -- The condition of a settle and the retired placements, from the code's values to the rules'. Assumes nothing.
 use Prim.Native.Nat.{_-_, _<_, ℕ}
 use lib.ListN.{length}
-use mathlib.Core.Bool.{Bool, _&&_, false, not, true}
+use mathlib.Core.Bool.{Bool, false, not, true}
 use mathlib.Core.List.{List}
-use mathlib.Core.Path.{_∙_, _≡_, ap, ap₂, fun-ext, refl, sym}
+use mathlib.Core.Path.{_∙_, _≡_, ap, ap₂, fun-ext, sym}
 use Rattle.lists.specs.Tests.{allBelow}
 use Rattle.lists.proofs.Counts.{all-fails}
 use Rattle.image.specs.Layout.{blockCount, cardCount}
@@ -23,10 +23,6 @@ use Rattle.trail.proofs.Holding.{holds-seen}
 use Rattle.reorganise.specs.Reorganise.{AreSites, blockSettled, cardSettled, siteList}
 use Rattle.reorganise.specs.declared.looking.Sites.{Sites}
 use Rattle.reorganise.proofs.Looks.{newest-are, stopped-is}
-
-pub and-true : (a : Bool) → a ≡ (a && true)
-and-true true = refl
-and-true false = refl
 
 -- ---- a block: some card fails, or all pass
 pub block-fails : (sites : List ℕ) (holds : ℕ → Bool) (c : ℕ) → c < cardCount → cardSettled sites holds c ≡ false → false ≡ blockSettled sites holds

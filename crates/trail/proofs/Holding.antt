@@ -3,7 +3,7 @@ use Prim.Native.Nat.{_%_, _+_, _-_, _<_, _≤_, suc, zero, ℕ}
 use lib.Dec.{leb}
 use lib.ListN.{getD, length-set, set, take}
 use lib.Seq.{getD-set-other, getD-set-same, take-suc-set}
-use mathlib.Core.Bool.{Bool, _&&_, cond, false, not, true}
+use mathlib.Core.Bool.{Bool, _&&_, and-false, cond, false, not, true}
 use mathlib.Core.List.{List, [], _++_, _∷_, append-assoc, append-nil}
 use mathlib.Core.Logic.{_⊎_, inl, inr}
 use mathlib.Core.Path.{_∙_, _≡_, ap, ap₂, fun-ext, refl, sym}
@@ -136,14 +136,10 @@ module _ (k : Control) (g : Image) (given : Given k g) where
   test-is : (b c : ℕ) → b < blockCount → (notFailed g c && holdsSeen g b c) ≡ holdsAt g (byte (k .working)) b c
   test-is b c hb = ap (λ (t : Bool). notFailed g c && t) (held-look g c b hb) ∙ go (split (hasCard (controlIn g .working) c)) ∙ sym (held-look g c b hb) ∙ sym (holds-seen b c hb)
     where
-      and-no : (t : Bool) → (t && false) ≡ false
-      and-no true = refl
-      and-no false = refl
-
       go : (hasCard (controlIn g .working) c ≡ true) ⊎ (hasCard (controlIn g .working) c ≡ false)
           → (notFailed g c && (hasCard (controlIn g .working) c && isHeld (blockIn g c b))) ≡ (hasCard (controlIn g .working) c && isHeld (blockIn g c b))
       go (inl on) = rw (on, works-not-failed g formed c on)
-      go (inr off) = rw off (and-no (notFailed g c))
+      go (inr off) = rw off (and-false (notFailed g c))
 
   -- one placement more
   pub first-more : (b i : ℕ) → b < blockCount

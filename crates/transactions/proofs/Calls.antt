@@ -16,11 +16,12 @@ use Rattle.cabinet_rules.specs.Images.{Image, controlIn, stateIn}
 use Rattle.promise.specs.Promise.{Done}
 use Rattle.promise.specs.declared.Answer.the-variants.{Ok, Refused}
 use Rattle.promise.specs.Given.{rowsOn}
+use Rattle.promise.specs.Rows.{tranRows}
 use Rattle.promise.proofs.Finish.{by-both, by-control, by-rules, form-long}
 use Rattle.promise.proofs.Laid.{laid}
 use Rattle.tables.specs.Tables.{endWrites, setOf}
 use Rattle.tables.proofs.Ends.{ends-set}
-use Rattle.transactions.specs.Transactions.{beginRows, endCall, endRows}
+use Rattle.transactions.specs.Transactions.{beginRows, endCall}
 use Rattle.transactions.proofs.Rows.{begin-plan, begin-rows, end-late, end-plan, end-rows}
 
 module _ (g : Image) (found : Found) (reads : Reads g found) (passed : found .refusal ≡ 0) where
@@ -55,17 +56,17 @@ module _ (g : Image) (found : Found) (reads : Reads g found) (passed : found .re
 
   -- ---- commit, rollback
   module _ (take : Bool) (t : ℕ) where
-    end-on : endRows k t ≡ rowsOn (endCall take t) g
-    end-on = ap (λ (p : Part). endRows p t) means ∙ end-rows (controlIn g) seen t take
+    end-on : tranRows k t ≡ rowsOn (endCall take t) g
+    end-on = ap (λ (p : Part). tranRows p t) means ∙ end-rows (controlIn g) seen t take
 
-    pub end-refused : (n : ℕ) → n ≡ endRows k t → (n ≡ 0 → ⊥) → Done (endCall take t) g (Refused n) g
+    pub end-refused : (n : ℕ) → n ≡ tranRows k t → (n ≡ 0 → ⊥) → Done (endCall take t) g (Refused n) g
     end-refused n e d = by-rules (endCall take t) (end-late take t) g clear n (e ∙ end-on) d
 
     -- the transaction has ended in the blocks and is closed
     abbrev pub ended : Part → Image
     ended p = putControl (laid (endWrites (p .working) take (inSet (setOf (λ x. eqb x t))) g) g) (closed p (λ x. eqb x t))
 
-    pub end-done : (behind : Image) → 0 ≡ endRows k t → behind ≡ ended k → Done (endCall take t) g Ok behind
+    pub end-done : (behind : Image) → 0 ≡ tranRows k t → behind ≡ ended k → Done (endCall take t) g Ok behind
     end-done behind e l = by-both (endCall take t) (end-late take t) g clear Ok (closed (controlIn g) (λ x. eqb x t)) (endHeld cabinet take (λ x. eqb x t) seen) behind
         (e ∙ end-on)
         (end-plan (controlIn g) seen t take)

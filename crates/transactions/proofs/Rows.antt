@@ -12,11 +12,9 @@ use Rattle.method.proofs.Refusals.{row-clear}
 use Rattle.control.specs.ControlBytes.{Part}
 use Rattle.cabinet_rules.specs.Cabinet.{cabinet, tranOk}
 use Rattle.cabinet_rules.specs.Images.{isStart}
-use Rattle.transactions.specs.Transactions.{beginRows, endCall, endRows}
-
--- A transaction in its range.
-pub tran-range : (t : ℕ) → tranOk t ≡ true → (0 < t) × (t < tranBound)
-tran-range t e = (ltb-true 0 t (and-l (ltb 0 t) (ltb t tranBound) e), ltb-true t tranBound (and-r (ltb 0 t) (ltb t tranBound) e))
+use Rattle.promise.specs.Rows.{tranRows}
+use Rattle.promise.proofs.SharedRows.{tran-range}
+use Rattle.transactions.specs.Transactions.{beginRows, endCall}
 
 -- ---- the rows, whatever the tables hold, and the plans
 module _ (k : Part) (v : View cabinet) (t : ℕ) where
@@ -28,8 +26,8 @@ module _ (k : Part) (v : View cabinet) (t : ℕ) where
   unfolding act
   begin-plan h = refl
 
-  pub end-rows : (take : Bool) → endRows k t ≡ refusal cabinet (endCall take t) k v
-  unfolding endRows refusal
+  pub end-rows : (take : Bool) → tranRows k t ≡ refusal cabinet (endCall take t) k v
+  unfolding tranRows refusal
   end-rows true = refl
   end-rows false = refl
 
@@ -53,7 +51,3 @@ unfolding beginRows refusal
 begins k t h e =
     let r = not-not-is (tranOk t && ltb h cardCount) (row-clear (not (tranOk t && ltb h cardCount)) 2 (sym e) .0) in
     record { tran = tran-range t (and-l (tranOk t) (ltb h cardCount) r); card = ltb-true h cardCount (and-r (tranOk t) (ltb h cardCount) r) }
-
-pub ends : (k : Part) (t : ℕ) → 0 ≡ endRows k t → (0 < t) × (t < tranBound)
-unfolding endRows refusal
-ends k t e = tran-range t (not-not-is (tranOk t) (row-clear (not (tranOk t)) 2 (sym e) .0))

@@ -11,9 +11,6 @@ abbrev pub endCall : Bool → ℕ → Call cabinet
 endCall true t = commit t
 endCall false t = rollback t
 
--- The rows of the refusal table from 3 on. They ask for the control part alone, so any tables do: here empty ones.
+-- The rows of a begin from 3 on. They ask for the control part alone, so any tables do: here empty ones.
 unfoldable pub beginRows : Part → ℕ → ℕ → ℕ
 beginRows k t h = refusal cabinet (begin t h) k (λ c b. emptyBlock)
-
-unfoldable pub endRows : Part → ℕ → ℕ
-endRows k t = refusal cabinet (commit t) k (λ c b. emptyBlock)

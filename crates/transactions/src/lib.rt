@@ -6,35 +6,24 @@ ghost use Rattle.image.specs.Layout.{Whole, tranBound};
 ghost use Rattle.slot.specs.Blocks.{inSet};
 ghost use Rattle.method.specs.ControlPart.{closed};
 ghost use Rattle.control.specs.Meaning.{Counted, meaning, putControl};
-ghost use Rattle.cabinet_rules.specs.Cabinet.{tranOk};
 ghost use Rattle.promise.specs.Promise.{Done, asked};
 ghost use Rattle.promise.specs.declared.Call.{Call};
 ghost use Rattle.promise.proofs.Laid.{laid};
 ghost use Rattle.tables.specs.Tables.{endWrites, setOf};
-ghost use Rattle.transactions.specs.Transactions.{beginRows, endCall, endRows};
+ghost use Rattle.transactions.specs.Transactions.{beginRows, endCall};
 use control::Control;
-use control::TRAN_COUNT;
 use image::CARD_COUNT;
 use image::Card;
 use image::Tran;
 use promise::Answer;
-
-// Whether the number is a transaction's.
-fn in_range(tran: Tran) -> bool
-    ensures { λ r. ⌜ r ≡ tranOk (tran .0) ⌝ }
-{
-    if tran.0 == 0 {
-        return false;
-    }
-    tran.0 as usize <= TRAN_COUNT
-}
+use promise::rows;
 
 // Why a begin is refused, from row 3 on; 0 if it is not.
 fn begin_refusal(k: Control, tran: Tran, home: Card) -> u8
     requires { ⌜ Counted k ⌝ }
     ensures { λ r. ⌜ r ≡ beginRows (meaning k) (tran .0) (home .0) ⌝ }
 {
-    if !in_range(tran) {
+    if !rows::is_tran(tran) {
         return 3;
     }
     if home.0 as usize >= CARD_COUNT {
@@ -69,22 +58,6 @@ pub fn begin(image: &mut [u8], tran: Tran, home: Card) -> Answer
     Answer::Ok
 }
 
-// Why a commit or a rollback is refused, from row 3 on; 0 if it is not.
-fn end_refusal(k: Control, tran: Tran) -> u8
-    ensures { λ r. ⌜ r ≡ endRows (meaning k) (tran .0) ⌝ }
-{
-    if !in_range(tran) {
-        return 3;
-    }
-    if k.stopped {
-        return 4;
-    }
-    if !k.is_open(tran) {
-        return 5;
-    }
-    0
-}
-
 // The transaction ends in the held blocks of the working cards, and then closes.
 fn end_open(image: &mut [u8], k: Control, tran: Tran, take: bool)
     requires { ⌜ Whole (now image) ⌝ }
@@ -109,7 +82,7 @@ fn end(image: &mut [u8], tran: Tran, take: bool) -> Answer
         return Answer::Refused(found.refusal);
     }
     let k = found.control;
-    let refusal = end_refusal(k, tran);
+    let refusal = rows::tran_refusal(k, tran);
     if refusal != 0 {
         return Answer::Refused(refusal);
     }

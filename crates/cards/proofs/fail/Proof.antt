@@ -13,7 +13,7 @@ use Rattle.cabinet_rules.specs.Images.{controlIn, stateIn}
 use Rattle.promise.specs.Rows.{cardRows}
 use Rattle.promise.specs.declared.Answer.the-variants.{Stopped, Placed, Unplaced}
 use Rattle.promise.proofs.Laid.{whole-laid, write-control}
-use Rattle.promise.proofs.CardRows.{card-accepted}
+use Rattle.promise.proofs.SharedRows.{card-accepted}
 use Rattle.promise.proofs.Finish.{form-long, by-form, by-rules, by-plan, by-both}
 use Rattle.cards.proofs.Failing.{fail-rows, stop-is, dropped, halted-is, stops-plan, placed-plan, unplaced-plan, closed-is, added-is, room, newest-is}
 use borrow.Author.Needs.{needs}

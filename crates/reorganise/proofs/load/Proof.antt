@@ -7,7 +7,7 @@ use Rattle.cabinet_rules.specs.Images.{controlIn}
 use Rattle.promise.specs.declared.Answer.the-variants.{Loaded}
 use Rattle.promise.proofs.Finish.{by-form, by-look, by-rules, given, given-whole}
 use Rattle.promise.specs.Rows.{cardRows}
-use Rattle.promise.proofs.CardRows.{card-accepted}
+use Rattle.promise.proofs.SharedRows.{card-accepted}
 use Rattle.reorganise.proofs.Loads.{load-plan, load-rows}
 use borrow.Author.Needs.{needs}
 use Rattle.reorganise.proofs.load.Statement.{statement}

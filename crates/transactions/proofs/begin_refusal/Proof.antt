@@ -8,8 +8,8 @@ use Rattle.mask.specs.Masks.{byte, hasCard}
 use Rattle.method.specs.Rules.{refusal}
 use Rattle.control.specs.Meaning.{meaning, newestMask}
 use Rattle.control.specs.declared.Control.{Control}
+use Rattle.promise.proofs.SharedRows.{tran-range}
 use Rattle.transactions.specs.Transactions.{beginRows}
-use Rattle.transactions.proofs.Rows.{tran-range}
 use Rattle.transactions.proofs.begin_refusal.Statement.{statement}
 use Rattle.transactions.proofs.begin_refusal.Tie as tie
 
@@ -17,12 +17,12 @@ use Rattle.transactions.proofs.begin_refusal.Tie as tie
 has-newest : (k : Control) (h : ℕ) {m : ℕ} (on : Bool) → m ≡ newestMask k → on ≡ hasCard (byte m) h → hasCard (byte (newestMask k)) h ≡ on
 has-newest k h on e f = sym (f ∙ ap (λ (x : ℕ). hasCard (byte x) h) e)
 
-in-range-requires : tie.Need-in-range-requires
-in-range-requires c κs = search needs
+is-tran-requires : tie.Need-is-tran-requires
+is-tran-requires c κs = search needs
 
 returns : tie.Need-returns
 unfolding beginRows refusal
-returns c = rw (sym (c .before .in-range .ensures) ∙ not-true _ (c .if1 .taken))
+returns c = rw (sym (c .before .is-tran .ensures) ∙ not-true _ (c .if1 .taken))
 
 cast-if2 : tie.Need-cast-if2
 cast-if2 c = search needs
@@ -31,18 +31,18 @@ returns-2 : tie.Need-returns-2
 unfolding beginRows refusal
 returns-2 c =
     let s = c .before .before in
-    rw (sym (s .before .in-range .ensures) ∙ not-false _ (s .if1 .left), le-ltb _ _ (c .if2 .taken))
+    rw (sym (s .before .is-tran .ensures) ∙ not-false _ (s .if1 .left), le-ltb _ _ (c .if2 .taken))
 
 returns-3 : tie.Need-returns-3
 unfolding beginRows refusal meaning
 returns-3 c =
     let s = c .before .before .before in
-    rw (sym (s .before .in-range .ensures) ∙ not-false _ (s .if1 .left), lt-ltb _ _ (c .before .if2 .left), c .if3 .taken)
+    rw (sym (s .before .is-tran .ensures) ∙ not-false _ (s .if1 .left), lt-ltb _ _ (c .before .if2 .left), c .if3 .taken)
 
 is-open-requires : tie.Need-is-open-requires
 is-open-requires c κs =
     let s = c .before .before .before in
-    tran-range _ (sym (s .before .in-range .ensures) ∙ not-false _ (s .if1 .left))
+    tran-range _ (sym (s .before .is-tran .ensures) ∙ not-false _ (s .if1 .left))
 
 returns-4 : tie.Need-returns-4
 unfolding beginRows refusal meaning
@@ -50,7 +50,7 @@ returns-4 c =
     let s = c .before .before .before .before .before in
     rw (
       sym (c .before .is-open .ensures) ∙ c .if4 .taken,
-      sym (s .before .in-range .ensures) ∙ not-false _ (s .if1 .left),
+      sym (s .before .is-tran .ensures) ∙ not-false _ (s .if1 .left),
       lt-ltb _ _ (c .before .before .before .if2 .left),
       c .before .before .if3 .left,
     )
@@ -69,7 +69,7 @@ returns-5 c =
     let s = o .before .before .before .before .before in
     rw (
       sym (o .before .is-open .ensures) ∙ o .if4 .left,
-      sym (s .before .in-range .ensures) ∙ not-false _ (s .if1 .left),
+      sym (s .before .is-tran .ensures) ∙ not-false _ (s .if1 .left),
       lt-ltb _ _ (o .before .before .before .if2 .left),
       o .before .before .if3 .left,
       has-newest (s .before .before .args .k) _ _ (n .newest-mask .ensures) (c .before .has .ensures) ∙ not-true _ (c .if5 .taken),
@@ -83,7 +83,7 @@ returns-6 c =
     let s = o .before .before .before .before .before in
     rw (
       sym (o .before .is-open .ensures) ∙ o .if4 .left,
-      sym (s .before .in-range .ensures) ∙ not-false _ (s .if1 .left),
+      sym (s .before .is-tran .ensures) ∙ not-false _ (s .if1 .left),
       lt-ltb _ _ (o .before .before .before .if2 .left),
       o .before .before .if3 .left,
       has-newest (s .before .before .args .k) _ _ (n .newest-mask .ensures) (c .before .has .ensures) ∙ not-false _ (c .if5 .left),
@@ -93,7 +93,7 @@ pub begin-refusal-spec : {M : Type 1} → statement M
 begin-refusal-spec =
     tie.close
     (tie.spec
-    in-range-requires
+    is-tran-requires
     returns
     cast-if2
     returns-2

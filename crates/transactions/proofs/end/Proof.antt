@@ -3,9 +3,10 @@ use borrow.Author.Needs.{needs}
 use mathlib.Core.Path.{_∙_, sym}
 use Rattle.control.specs.Meaning.{meaning}
 use Rattle.promise.proofs.Finish.{by-form}
+use Rattle.promise.proofs.SharedRows.{tran-accepted}
 use Rattle.transactions.specs.Transactions.{endCall}
 use Rattle.transactions.proofs.Calls.{end-done, end-refused, whole-read}
-use Rattle.transactions.proofs.Rows.{end-late, ends}
+use Rattle.transactions.proofs.Rows.{end-late}
 use Rattle.transactions.proofs.end.Statement.{statement}
 use Rattle.transactions.proofs.end.Tie as tie
 
@@ -21,8 +22,8 @@ returns c =
     let a = r .before .before .before .args in
     by-form (endCall (a .take) (a .tran .0)) (end-late (a .take) (a .tran .0)) (a .image .now) (r .read .result .refusal) (r .read .ensures .refusal-is) (c .if1 .taken)
 
-end-refusal-requires : tie.Need-end-refusal-requires
-end-refusal-requires c κs = search needs
+tran-refusal-requires : tie.Need-tran-refusal-requires
+tran-refusal-requires c κs = search needs
 
 same-length-2 : tie.Need-same-length-2
 same-length-2 c = search needs
@@ -33,7 +34,7 @@ returns-2 c =
     let p = e .before .before in
     let r = p .before .before in
     let a = r .before .before .before .args in
-    end-refused (a .image .now) (r .read .result) (r .read .ensures) (p .if1 .left) (a .take) (a .tran .0) (e .end-refusal .result) (e .end-refusal .ensures) (c .if2 .taken)
+    end-refused (a .image .now) (r .read .result) (r .read .ensures) (p .if1 .left) (a .take) (a .tran .0) (e .tran-refusal .result) (e .tran-refusal .ensures) (c .if2 .taken)
 
 end-open-requires : tie.Need-end-open-requires
 end-open-requires c κs =
@@ -43,7 +44,7 @@ end-open-requires c κs =
     let r = p .before .before in
     let a = r .before .before .before .args in (
       whole-read (a .image .now) (r .read .result) (r .read .ensures) (p .if1 .left),
-      (r .read .ensures .good (p .if1 .left) .counted, ends (meaning (r .read .result .control)) (a .tran .0) (sym (q .if2 .left) ∙ e .end-refusal .ensures)),
+      (r .read .ensures .good (p .if1 .left) .counted, tran-accepted (meaning (r .read .result .control)) (a .tran .0) (sym (q .if2 .left) ∙ e .tran-refusal .ensures)),
     )
 
 same-length-3 : tie.Need-same-length-3
@@ -57,7 +58,7 @@ returns-3 c =
     let p = e .before .before in
     let r = p .before .before in
     let a = r .before .before .before .args in
-    end-done (a .image .now) (r .read .result) (r .read .ensures) (p .if1 .left) (a .take) (a .tran .0) _ (sym (q .if2 .left) ∙ e .end-refusal .ensures) (o .end-open .ensures)
+    end-done (a .image .now) (r .read .result) (r .read .ensures) (p .if1 .left) (a .take) (a .tran .0) _ (sym (q .if2 .left) ∙ e .tran-refusal .ensures) (o .end-open .ensures)
 
 pub end-spec : {M : Type 1} → statement M
 end-spec =
@@ -66,7 +67,7 @@ end-spec =
     read-requires
     same-length
     returns
-    end-refusal-requires
+    tran-refusal-requires
     same-length-2
     returns-2
     end-open-requires

@@ -6,7 +6,7 @@ use Rattle.control.specs.ControlBytes.{Part}
 use Rattle.control.specs.Meaning.{meaning}
 use Rattle.promise.proofs.Finish.{given-whole}
 use Rattle.promise.specs.Rows.{cardRows}
-use Rattle.promise.proofs.CardRows.{card-accepted}
+use Rattle.promise.proofs.SharedRows.{card-accepted}
 use Rattle.reorganise.proofs.Moves.{copy-rows, refused-block, refused-card}
 use borrow.Author.Needs.{needs}
 use Rattle.reorganise.proofs.moving.refusal.Statement.{statement}

@@ -1,6 +1,6 @@
 -- The proof of `settling::both_hold`. Assumes nothing.
+use mathlib.Core.Bool.{and-true}
 use mathlib.Core.Path.{_∙_, sym}
-use Rattle.reorganise.proofs.Settles.{and-true}
 use borrow.Author.Needs.{needs}
 use Rattle.reorganise.proofs.settling.both_hold.Statement.{statement}
 use Rattle.reorganise.proofs.settling.both_hold.Tie as tie
@@ -12,7 +12,7 @@ holds-requires-2 : tie.Need-holds-requires-2
 holds-requires-2 c κs = search needs
 
 returns : tie.Need-returns
-returns c = rw (sym (c .before .before .before .holds .ensures) ∙ c .before .before .if1 .taken) (c .holds2 .ensures ∙ and-true _)
+returns c = rw (sym (c .before .before .before .holds .ensures) ∙ c .before .before .if1 .taken) (c .holds2 .ensures ∙ sym (and-true _))
 
 returns-2 : tie.Need-returns-2
 returns-2 c = rw (sym (c .before .holds .ensures) ∙ c .if1 .left)

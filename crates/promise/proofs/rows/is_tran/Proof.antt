@@ -1,4 +1,4 @@
--- The proof of `in_range`. Assumes nothing.
+-- The proof of `rows::is_tran`. Assumes nothing.
 use Prim.Native.Nat.{_<_, _≤_, ℕ}
 use borrow.Author.Needs.{needs}
 use borrow.Author.Tests.{le-leb, le-ltb, leb-true, lt-ltb, ltb-true}
@@ -6,8 +6,8 @@ use lib.Dec.{leb, ltb}
 use mathlib.Core.Path.{_≡_}
 use native.Mathlib.Omega.{arith}
 use Rattle.lists.proofs.Bools.{same-test}
-use Rattle.transactions.proofs.in_range.Statement.{statement}
-use Rattle.transactions.proofs.in_range.Tie as tie
+use Rattle.promise.proofs.rows.is_tran.Statement.{statement}
+use Rattle.promise.proofs.rows.is_tran.Tie as tie
 
 up-to : (t : ℕ) → leb t 15 ≡ ltb t 16
 up-to t = same-test (leb t 15) (ltb t 16)
@@ -23,5 +23,5 @@ cast-result c = search needs
 returns-2 : tie.Need-returns-2
 returns-2 c = rw (lt-ltb 0 (c .before .before .before .args .tran .0) (omega arith)) (up-to (c .before .before .before .args .tran .0))
 
-pub in-range-spec : {M : Type 1} → statement M
-in-range-spec = tie.close (tie.spec returns cast-result returns-2)
+pub is-tran-spec : {M : Type 1} → statement M
+is-tran-spec = tie.close (tie.spec returns cast-result returns-2)

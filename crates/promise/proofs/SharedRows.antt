@@ -4,12 +4,13 @@ use borrow.Author.Tests.{ltb-true}
 use lib.Dec.{ltb}
 use mathlib.Core.Bool.{false, not, true}
 use mathlib.Core.Path.{_≡_, sym}
-use Rattle.lists.proofs.Bools.{not-not-is}
-use Rattle.image.specs.Layout.{cardCount}
+use Rattle.lists.proofs.Bools.{and-l, and-r, not-not-is}
+use Rattle.image.specs.Layout.{cardCount, tranBound}
 use Rattle.mask.specs.Masks.{hasCard}
 use Rattle.method.proofs.Refusals.{row-3, row-clear}
 use Rattle.control.specs.ControlBytes.{Part}
-use Rattle.promise.specs.Rows.{cardRows}
+use Rattle.cabinet_rules.specs.Cabinet.{tranOk}
+use Rattle.promise.specs.Rows.{cardRows, tranRows}
 
 pub card-accepted : (k : Part) (c : ℕ) → 0 ≡ cardRows k c → (c < cardCount) × (k .stopped ≡ false) × (hasCard (k .working) c ≡ true)
 unfolding cardRows
@@ -18,3 +19,11 @@ card-accepted k c e =
     let r4 = row-clear (k .stopped) 3 (r3 .1) in
     let r8 = row-clear (not (hasCard (k .working) c)) 7 (r4 .1) in
     (ltb-true c cardCount (r3 .0), r4 .0, not-not-is (hasCard (k .working) c) (r8 .0))
+
+-- a transaction in its range
+pub tran-range : (t : ℕ) → tranOk t ≡ true → (0 < t) × (t < tranBound)
+tran-range t e = (ltb-true 0 t (and-l (ltb 0 t) (ltb t tranBound) e), ltb-true t tranBound (and-r (ltb 0 t) (ltb t tranBound) e))
+
+pub tran-accepted : (k : Part) (t : ℕ) → 0 ≡ tranRows k t → (0 < t) × (t < tranBound)
+unfolding tranRows
+tran-accepted k t e = tran-range t (row-3 (tranOk t) (sym e) .0)
