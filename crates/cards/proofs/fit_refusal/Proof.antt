@@ -1,6 +1,6 @@
 -- The proof of `fit_refusal`. Assumes nothing.
-use mathlib.Core.Path.{_≡_, refl, sym, _∙_}
-use borrow.Author.Tests.{le-ltb, lt-ltb, not-true, not-false}
+use mathlib.Core.Path.{refl, sym, _∙_}
+use borrow.Author.Tests.{le-ltb, lt-ltb}
 use Rattle.cards.proofs.Rows.{fit-by}
 use borrow.Author.Needs.{needs}
 use Rattle.cards.proofs.fit_refusal.Statement.{statement}

@@ -1,5 +1,5 @@
 -- The proof of `place`. Assumes nothing.
-use mathlib.Core.Path.{_≡_, refl, sym, ap, _∙_}
+use mathlib.Core.Path.{refl, sym, ap, _∙_}
 use native.Mathlib.Omega.{arith}
 use Rattle.mask.specs.Masks.{byte}
 use Rattle.mask.specs.Placements.{fromMask}
