@@ -50,7 +50,9 @@ fn push(image: &[u8], working: u8, block: Block, found: Holders, card: Card) -> 
     requires { ⌜ Whole (now image) × (card .0 < cardCount) × (block .0 < blockCount) ⌝ }
     requires { ⌜ Sound found ⌝ }
     requires { ⌜ found .count < mostHolders ⌝ }
-    ensures { λ r. ⌜ Lists r (cardsOf found ++ keepIf (holdsAt (now (image .entry)) (byte working) (block .0)) (card .0 ∷ []))
+    ensures { λ r.
+        ⌜ Lists r (cardsOf found
+        ++ keepIf (holdsAt (now (image .entry)) (byte working) (block .0)) (card .0 ∷ []))
         × (r .count ≤ found .count + 1) ⌝ }
 {
     if holds(image, working, card, block) {
