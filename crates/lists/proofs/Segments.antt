@@ -157,6 +157,29 @@ put-again l a xs ys e h =
     getD-in (splice l a xs) a ys (a + i) (omega arith) (omega arith) (omega arith) ∙ ap (λ (o : ℕ). getD ys o 0) u)
     (λ i j m. getD-after (splice l a xs) a ys i (omega arith) j ∙ getD-after l a xs i h (omega arith))
 
+-- a put behind a put
+pub put-then : (l : List ℕ) (a : ℕ) (xs ys : List ℕ) → a + length xs + length ys ≤ length l
+    → splice (splice l a xs) (a + length xs) ys ≡ splice l a (xs ++ ys)
+put-then l a xs ys h =
+    let n : length (xs ++ ys) ≡ length xs + length ys = length-append xs ys in
+    let m : List ℕ = splice l a xs in
+    let b : ℕ = a + length xs in
+    let s : length m ≡ length l = length-splice l a xs (omega arith) in
+    let t : length (splice m b ys) ≡ length m = length-splice m b ys (omega arith) in
+    splice-ext l a (xs ++ ys) (splice m b ys) (omega arith) (t ∙ s)
+    (λ i p. getD-before m b ys i (omega arith) (omega arith) ∙ getD-before l a xs i (omega arith) p)
+    (λ i p. ⊎-elim
+    (λ (q : i < length xs).
+    let e : a + i - a ≡ i = omega arith in
+    getD-before m b ys (a + i) (omega arith) (omega arith) ∙ getD-in l a xs (a + i) (omega arith) (omega arith) (omega arith)
+    ∙ ap (λ (o : ℕ). getD xs o 0) e ∙ sym (List·getD-append xs ys 0 i q))
+    (λ (q : length xs ≤ i).
+    let e : length xs + (a + i - b) ≡ i = omega arith in
+    getD-in m b ys (a + i) (omega arith) (omega arith) (omega arith) ∙ sym (getD-append-add xs ys (a + i - b) 0)
+    ∙ ap (λ (o : ℕ). getD (xs ++ ys) o 0) e)
+    (lt-or-ge i (length xs)))
+    (λ i p q. getD-after m b ys i (omega arith) (omega arith) ∙ getD-after l a xs i (omega arith) (omega arith))
+
 -- ---- a splice that is filled from the front, one store a turn
 
 pub splice-none : (l : List ℕ) (a : ℕ) → a ≤ length l → splice l a [] ≡ l

@@ -1,0 +1,48 @@
+-- A line of the listing: document 01, "Commands". Assumes nothing.
+use Prim.Native.Nat.{_*_, _+_, ℕ}
+use lib.Dec.{leb}
+use lib.ListN.{length}
+use mathlib.Core.Bool.{Bool, cond}
+use mathlib.Core.List.{List, _++_, []}
+use Rattle.method.specs.Rules.{Answer, absent, copied, loaded, ok, placed, protected, refused, retired, stops}
+use Rattle.method.specs.Rules.{unplaced, unprotected, value}
+use Rattle.cabinet_rules.specs.Cabinet.{cabinet}
+use Rattle.lines.specs.Text.{decimal, hexByte, hexBytes, text}
+
+-- "value, load, copies and retired with a decimal number; placed with a mask of two hex digits; refused with the
+-- number".
+unfoldable pub words : Answer cabinet → List ℕ
+words ok = text "ok"
+words (value n) = text "value " ++ decimal n
+words absent = text "absent"
+words (placed p) = text "placed " ++ hexByte (p .mask .0)
+words unplaced = text "unplaced"
+words stops = text "stopped"
+words (copied n) = text "copies " ++ decimal n
+words (retired n) = text "retired " ++ decimal n
+words protected = text "protected"
+words unprotected = text "unprotected"
+words (loaded n) = text "load " ++ decimal n
+words (refused n) = text "refused " ++ decimal n
+
+-- "Each line: command number from 1, its hex digits, the answer". A newline ends it.
+abbrev pub head : ℕ → List ℕ → List ℕ
+head n command = decimal n ++ text " " ++ hexBytes command ++ text " "
+
+unfoldable pub line : ℕ → List ℕ → Answer cabinet → List ℕ
+line n command a = head n command ++ words a ++ text "\n"
+
+-- The longest line has a number of 20 digits, two digits for each byte, an answer of 11 letters, two spaces and a
+-- newline.
+abbrev pub longestAnswer : ℕ
+longestAnswer = 11
+
+-- The words of an answer in a buffer: none where the longest answer has no room.
+unfoldable pub wordsIn : List ℕ → Answer cabinet → List ℕ
+wordsIn out a = cond (leb longestAnswer (length out)) (words a) []
+
+abbrev pub longestLine : ℕ → ℕ
+longestLine bytes = 20 + 1 + 2 * bytes + 1 + longestAnswer + 1
+
+unfoldable pub hasRoom : List ℕ → List ℕ → Bool
+hasRoom out command = leb (longestLine (length command)) (length out)
