@@ -1,0 +1,64 @@
+-- Each answer has a code of its own; and the laws that finish the functions' proofs. Assumes nothing.
+use mathlib.Core.Path.{_∙_, _≡_, ap, refl, sym}
+use mathlib.Core.List.{List}
+use Prim.Native.Nat.{_%_, _/_, _<_, ℕ}
+use native.Mathlib.Omega.{arith}
+use lib.ListN.{getD}
+use Rattle.mask.specs.Masks.{Byte}
+use Rattle.mask.specs.Placements.{fromMask}
+use Rattle.mask.proofs.Masks.{byte-of}
+use Rattle.method.specs.Rules.{Answer, Call, absent, copied, loaded, ok, placed, protected, refused, retired, stops}
+use Rattle.method.specs.Rules.{unplaced, unprotected, value}
+use Rattle.cabinet_rules.specs.Cabinet.{cabinet}
+use Rattle.cabinet_rules.specs.Images.{Image}
+use Rattle.promise.specs.Promise.{Done, shown}
+use Rattle.promise.specs.declared.Answer.{Answer as AnswerValue}
+use Rattle.promise.specs.declared.Answer.the-variants.{Placed}
+use Rattle.command.specs.Meaning.{Obeyed}
+use Rattle.abi.specs.Codes.{Coded, CodedCommand, OneNumberEach, answerOf, codeOf, coded, kindOf, kinds, numberOf}
+use Rattle.abi.specs.Codes.{numberRange}
+
+-- ---- codes
+kind-back : (k n : ℕ) → n < numberRange → coded k n / numberRange ≡ k
+kind-back k n h = omega arith
+
+number-back : (k n : ℕ) → n < numberRange → coded k n % numberRange ≡ n
+number-back k n h = omega arith
+
+-- the entry of an answer's kind, with its number, is the answer
+entry : (a : Answer cabinet) → getD kinds (kindOf a) refused (numberOf a) ≡ a
+unfolding kindOf numberOf
+entry ok = refl
+entry (value n) = refl
+entry absent = refl
+entry (placed p) = ap (λ (m : Byte). placed (fromMask m)) (byte-of (p .mask))
+entry unplaced = refl
+entry stops = refl
+entry (copied n) = refl
+entry (retired n) = refl
+entry protected = refl
+entry unprotected = refl
+entry (loaded n) = refl
+entry (refused n) = refl
+
+pub answer-back : (a : Answer cabinet) → numberOf a < numberRange → answerOf (codeOf a) ≡ a
+unfolding answerOf
+answer-back a h =
+    ap (λ (k : ℕ). getD kinds k refused (codeOf a % numberRange)) (kind-back (kindOf a) (numberOf a) h)
+    ∙ ap (getD kinds (kindOf a) refused) (number-back (kindOf a) (numberOf a) h) ∙ entry a
+
+pub one-number-each : OneNumberEach
+one-number-each a b h k e = sym (answer-back a h) ∙ ap answerOf e ∙ answer-back b k
+
+pub placed-code : (m : ℕ) → m < 256 → coded 3 m ≡ codeOf (shown (Placed m))
+unfolding kindOf numberOf
+placed-code m h =
+    let e : m ≡ m % 256 = omega arith in
+    ap (coded 3) e
+
+-- ---- the functions
+pub coded-done : {c : Call cabinet} {g h : Image} {a : AnswerValue} {n : ℕ} → Done c g a h → n ≡ codeOf (shown a) → Coded c g n h
+coded-done d e = record { answers = e ∙ ap codeOf (d .answers); leaves = d .leaves }
+
+pub coded-obeyed : {l : List ℕ} {g h : Image} {a : AnswerValue} {n : ℕ} → Obeyed l g a h → n ≡ codeOf (shown a) → CodedCommand l g n h
+coded-obeyed d e = record { answers = e ∙ ap codeOf (d .answers); leaves = d .leaves }

@@ -1,0 +1,89 @@
+-- Answers as numbers of 32 bits, for callers in other languages. Assumes nothing.
+use Prim.Native.Nat.{_%_, _*_, _+_, _/_, _<_, ℕ}
+use lib.ListN.{getD}
+use mathlib.Core.List.{List, _∷_, []}
+use mathlib.Core.Path.{_≡_}
+use Rattle.mask.specs.Masks.{byte}
+use Rattle.mask.specs.Placements.{fromMask}
+use Rattle.method.specs.Rules.{Answer, Call, absent, copied, loaded, ok, placed, protected, refused, retired, stops}
+use Rattle.method.specs.Rules.{unplaced, unprotected, value}
+use Rattle.cabinet_rules.specs.Cabinet.{cabinet}
+use Rattle.cabinet_rules.specs.Images.{Image, answer, next}
+use Rattle.command.specs.Meaning.{commandAnswer, commandNext}
+
+-- The kind of each answer, and its number: 0 where it has none. Kinds 11 to 14 are none's.
+unfoldable pub kindOf : Answer cabinet → ℕ
+kindOf ok = 0
+kindOf (value n) = 1
+kindOf absent = 2
+kindOf (placed p) = 3
+kindOf unplaced = 4
+kindOf stops = 5
+kindOf (copied n) = 6
+kindOf (retired n) = 7
+kindOf protected = 8
+kindOf unprotected = 9
+kindOf (loaded n) = 10
+kindOf (refused n) = 15
+
+unfoldable pub numberOf : Answer cabinet → ℕ
+numberOf ok = 0
+numberOf (value n) = n
+numberOf absent = 0
+numberOf (placed p) = p .mask .0
+numberOf unplaced = 0
+numberOf stops = 0
+numberOf (copied n) = n
+numberOf (retired n) = n
+numberOf protected = 0
+numberOf unprotected = 0
+numberOf (loaded n) = n
+numberOf (refused n) = n
+
+-- The code of an answer: kind × 65,536 + number.
+abbrev pub numberRange : ℕ
+numberRange = 65536
+
+abbrev pub coded : ℕ → ℕ → ℕ
+coded kind number = kind * numberRange + number
+
+abbrev pub codeOf : Answer cabinet → ℕ
+codeOf a = coded (kindOf a) (numberOf a)
+
+-- The answer of a code: by its kind, with its number. The kinds that are none's stand for ok here.
+abbrev pub kinds : List (ℕ → Answer cabinet)
+kinds =
+    (λ n. ok)
+    ∷ value
+    ∷ (λ n. absent)
+    ∷ (λ n. placed (fromMask (byte n)))
+    ∷ (λ n. unplaced)
+    ∷ (λ n. stops)
+    ∷ copied
+    ∷ retired
+    ∷ (λ n. protected)
+    ∷ (λ n. unprotected)
+    ∷ loaded
+    ∷ (λ n. ok)
+    ∷ (λ n. ok)
+    ∷ (λ n. ok)
+    ∷ (λ n. ok)
+    ∷ []
+
+unfoldable pub answerOf : ℕ → Answer cabinet
+answerOf code = getD kinds (code / numberRange) refused (code % numberRange)
+
+-- Each answer, of those whose number has 16 bits, has a code of its own.
+abbrev pub OneNumberEach : Type 0
+OneNumberEach =
+    (a b : Answer cabinet) → numberOf a < numberRange → numberOf b < numberRange → codeOf a ≡ codeOf b → a ≡ b
+
+-- A call on an image was answered with this code and left the image behind.
+pub record Coded (c : Call cabinet) (before : Image) (code : ℕ) (behind : Image) : Type 0 where
+  pub answers : code ≡ codeOf (answer c before)
+  pub leaves : behind ≡ next c before
+
+-- The bytes of a command on an image were answered with this code and left the image behind.
+pub record CodedCommand (l : List ℕ) (before : Image) (code : ℕ) (behind : Image) : Type 0 where
+  pub answers : code ≡ codeOf (commandAnswer l before)
+  pub leaves : behind ≡ commandNext l before

@@ -1,0 +1,197 @@
+// The store for callers in other languages: document 01's fifteen calls and a command's bytes, on an image that the caller
+// lends as a pointer and a length. An answer is one number of 32 bits.
+ghost use mathlib.Core.Path.{_≡_};
+ghost use Prim.Native.Nat.{_<_};
+ghost use Rattle.method.specs.Rules.{begin, commit, delete, fail, fit, get, load, move, place, rollback, settle, start, state, store, withdraw};
+ghost use Rattle.mask.specs.Masks.{byte};
+ghost use Rattle.promise.specs.Promise.{shown};
+ghost use Rattle.abi.specs.Codes.{Coded, CodedCommand, codeOf, coded};
+use image::Block;
+use image::Card;
+use image::Rec;
+use image::Tran;
+use promise::Answer;
+
+// Kinds of answers.
+const OK: u32 = 0;
+
+const VALUE: u32 = 1;
+
+const ABSENT: u32 = 2;
+
+const PLACED: u32 = 3;
+
+const UNPLACED: u32 = 4;
+
+const STOPPED: u32 = 5;
+
+const COPIES: u32 = 6;
+
+const RETIRED: u32 = 7;
+
+const PROTECTED: u32 = 8;
+
+const UNPROTECTED: u32 = 9;
+
+const LOAD: u32 = 10;
+
+const REFUSED: u32 = 15;
+
+// Numbers of 16 bits stand below the kind.
+const NUMBER_RANGE: u32 = 65536;
+
+// The code of a kind and a number.
+fn pair(kind: u32, number: u16) -> u32
+    requires { ⌜ kind < 16 ⌝ }
+    ensures { λ r. ⌜ r ≡ coded kind number ⌝ }
+{
+    kind * NUMBER_RANGE + number as u32
+}
+
+// The code of an answer.
+fn code(answer: Answer) -> u32
+    ensures { λ r. ⌜ r ≡ codeOf (shown answer) ⌝ }
+{
+    match answer {
+        Answer::Ok => pair(OK, 0),
+        Answer::Value(n) => pair(VALUE, n),
+        Answer::Absent => pair(ABSENT, 0),
+        Answer::Placed(mask) => pair(PLACED, mask as u16),
+        Answer::Unplaced => pair(UNPLACED, 0),
+        Answer::Stopped => pair(STOPPED, 0),
+        Answer::Copied(n) => pair(COPIES, n as u16),
+        Answer::Retired(n) => pair(RETIRED, n as u16),
+        Answer::Protected => pair(PROTECTED, 0),
+        Answer::Unprotected => pair(UNPROTECTED, 0),
+        Answer::Loaded(n) => pair(LOAD, n),
+        Answer::Refused(n) => pair(REFUSED, n as u16),
+    }
+}
+
+// All zero, then the mask's cards work and are the one placement.
+#[no_mangle]
+pub extern "C" fn nolpigat_start(image: &mut [u8], mask: u8) -> u32
+    ensures { λ r. ⌜ Coded (start (byte mask)) (now (image .entry)) r (now (image .exit)) ⌝ }
+{
+    code(store::start(image, mask))
+}
+
+// A transaction opens, with its home in the newest placement.
+#[no_mangle]
+pub extern "C" fn nolpigat_begin(image: &mut [u8], tran: u8, home: u8) -> u32
+    ensures { λ r. ⌜ Coded (begin tran home) (now (image .entry)) r (now (image .exit)) ⌝ }
+{
+    code(store::begin(image, Tran(tran), Card(home)))
+}
+
+// The record as the transaction sees it.
+#[no_mangle]
+pub extern "C" fn nolpigat_get(image: &[u8], tran: u8, rec: u16) -> u32
+    ensures { λ r. ⌜ Coded (get tran rec) (now (image .entry)) r (now (image .entry)) ⌝ }
+{
+    code(store::get(image, Tran(tran), Rec(rec)))
+}
+
+// The record is locked with a pending value.
+#[no_mangle]
+pub extern "C" fn nolpigat_store(image: &mut [u8], tran: u8, rec: u16, value: u16) -> u32
+    ensures { λ r. ⌜ Coded (store tran rec value) (now (image .entry)) r (now (image .exit)) ⌝ }
+{
+    code(store::store(image, Tran(tran), Rec(rec), value))
+}
+
+// The record is locked with a pending absence; absent already, nothing changes.
+#[no_mangle]
+pub extern "C" fn nolpigat_delete(image: &mut [u8], tran: u8, rec: u16) -> u32
+    ensures { λ r. ⌜ Coded (delete tran rec) (now (image .entry)) r (now (image .exit)) ⌝ }
+{
+    code(store::delete(image, Tran(tran), Rec(rec)))
+}
+
+// What the transaction locks takes its pending state; it closes.
+#[no_mangle]
+pub extern "C" fn nolpigat_commit(image: &mut [u8], tran: u8) -> u32
+    ensures { λ r. ⌜ Coded (commit tran) (now (image .entry)) r (now (image .exit)) ⌝ }
+{
+    code(store::commit(image, Tran(tran)))
+}
+
+// What the transaction locks drops its pending state; it closes.
+#[no_mangle]
+pub extern "C" fn nolpigat_rollback(image: &mut [u8], tran: u8) -> u32
+    ensures { λ r. ⌜ Coded (rollback tran) (now (image .entry)) r (now (image .exit)) ⌝ }
+{
+    code(store::rollback(image, Tran(tran)))
+}
+
+// A card begins to work, with an empty table.
+#[no_mangle]
+pub extern "C" fn nolpigat_fit(image: &mut [u8], card: u8) -> u32
+    ensures { λ r. ⌜ Coded (fit card) (now (image .entry)) r (now (image .exit)) ⌝ }
+{
+    code(store::fit(image, Card(card)))
+}
+
+// A card ceases to work; its table is zeroed.
+#[no_mangle]
+pub extern "C" fn nolpigat_withdraw(image: &mut [u8], card: u8) -> u32
+    ensures { λ r. ⌜ Coded (withdraw card) (now (image .entry)) r (now (image .exit)) ⌝ }
+{
+    code(store::withdraw(image, Card(card)))
+}
+
+// The mask's cards are the newest placement.
+#[no_mangle]
+pub extern "C" fn nolpigat_place(image: &mut [u8], mask: u8) -> u32
+    ensures { λ r. ⌜ Coded (place (byte mask)) (now (image .entry)) r (now (image .exit)) ⌝ }
+{
+    code(store::place(image, mask))
+}
+
+// A card is lost.
+#[no_mangle]
+pub extern "C" fn nolpigat_fail(image: &mut [u8], card: u8) -> u32
+    ensures { λ r. ⌜ Coded (fail card) (now (image .entry)) r (now (image .exit)) ⌝ }
+{
+    code(store::fail(image, Card(card)))
+}
+
+// A card's copy of a block goes to the newest sites.
+#[no_mangle]
+pub extern "C" fn nolpigat_move(image: &mut [u8], card: u8, block: u8) -> u32
+    ensures { λ r. ⌜ Coded (move card block) (now (image .entry)) r (now (image .exit)) ⌝ }
+{
+    code(store::move_block(image, Card(card), Block(block)))
+}
+
+// Older placements retire, if nothing is left there.
+#[no_mangle]
+pub extern "C" fn nolpigat_settle(image: &mut [u8]) -> u32
+    ensures { λ r. ⌜ Coded settle (now (image .entry)) r (now (image .exit)) ⌝ }
+{
+    code(store::settle(image))
+}
+
+// Whether one placement is active.
+#[no_mangle]
+pub extern "C" fn nolpigat_state(image: &[u8]) -> u32
+    ensures { λ r. ⌜ Coded state (now (image .entry)) r (now (image .entry)) ⌝ }
+{
+    code(store::state(image))
+}
+
+// How many records are committed present on a card.
+#[no_mangle]
+pub extern "C" fn nolpigat_load(image: &[u8], card: u8) -> u32
+    ensures { λ r. ⌜ Coded (load card) (now (image .entry)) r (now (image .entry)) ⌝ }
+{
+    code(store::load(image, Card(card)))
+}
+
+// The call that a command's five bytes ask for; other bytes are refused with 15.
+#[no_mangle]
+pub extern "C" fn nolpigat_command(image: &mut [u8], bytes: &[u8]) -> u32
+    ensures { λ r. ⌜ CodedCommand (now (bytes .entry)) (now (image .entry)) r (now (image .exit)) ⌝ }
+{
+    code(store::perform_command(image, bytes))
+}
