@@ -1,0 +1,206 @@
+//! A replicated record store in an image of bytes that the caller lends.
+//!
+//! The store keeps 512 records of 16 bits, each on two of up to eight cards. Records are read and written in
+//! transactions; cards can fail, be fitted or be withdrawn while the store goes on. For every image length and
+//! contents, answer and image after a call are proved to be those of document 01's rules.
+//!
+//! ```
+//! use nolpigat::{begin, commit, get, start, store, Answer, IMAGE_SIZE};
+//!
+//! let mut image = [0; IMAGE_SIZE];
+//! assert_eq!(start(&mut image, 0xE0), Answer::Ok); // cards 0, 1 and 2
+//! assert_eq!(begin(&mut image, 1, 0), Answer::Ok); // transaction 1, home card 0
+//! assert_eq!(store(&mut image, 1, 9, 4660), Answer::Ok);
+//! assert_eq!(commit(&mut image, 1), Answer::Ok);
+//! assert_eq!(begin(&mut image, 2, 1), Answer::Ok);
+//! assert_eq!(get(&image, 2, 9), Answer::Value(4660));
+//! ```
+//!
+//! Cards are 0 to 7, blocks 0 to 63, records 0 to 511, transactions 1 to 15; record r lies in block r / 8. A mask is
+//! a set of cards in a byte, card 0 its highest bit. No call panics: what cannot be done is
+//! [refused](Answer::Refused), and the lowest number that applies is returned. Refusals 1, 2 and 4 come from every
+//! call but [`start`], and 3 from every call with a number other than a mask or a value; each function names its others.
+
+#![deny(missing_docs)]
+
+mod answer;
+mod ffi;
+
+pub use answer::Answer;
+
+/// The length of an image in bytes.
+pub const IMAGE_SIZE: usize = 21_024;
+
+/// The length of a command in bytes.
+pub const COMMAND_SIZE: usize = 5;
+
+/// The answer of a function of the archive.
+macro_rules! ask {
+    ($function:ident($($argument:expr),+)) => {
+        // SAFETY: each pointer and its length are those of one slice, borrowed for the whole call: shared where the
+        // function only reads, else exclusive. The function accepts every length and contents and keeps no pointer.
+        Answer::from(unsafe { ffi::$function($($argument),+) })
+    };
+}
+
+/// All zero, then the mask's cards work and are the one placement. Older contents are not examined.
+///
+/// Answer: [`Ok`](Answer::Ok). Refused: 1; 9 if the mask has under two members.
+pub fn start(image: &mut [u8], mask: u8) -> Answer {
+    ask!(nolpigat_start(image.as_mut_ptr(), image.len(), mask))
+}
+
+/// The transaction opens, with its home card in the newest placement.
+///
+/// Answer: [`Ok`](Answer::Ok). Refused: 6 if it is open; 8 if the home is not in the newest placement.
+pub fn begin(image: &mut [u8], transaction: u8, home: u8) -> Answer {
+    ask!(nolpigat_begin(
+        image.as_mut_ptr(),
+        image.len(),
+        transaction,
+        home
+    ))
+}
+
+/// The record's pending state if this transaction locks it, else the committed one. Takes no lock.
+///
+/// Answer: [`Value`](Answer::Value) or [`Absent`](Answer::Absent). Refused: 5 if the transaction is not open; 7 if
+/// another locks the record.
+pub fn get(image: &[u8], transaction: u8, record: u16) -> Answer {
+    ask!(nolpigat_get(
+        image.as_ptr(),
+        image.len(),
+        transaction,
+        record
+    ))
+}
+
+/// Every holder's slot is locked and given the pending value. With no holder, both sites of the newest placement get
+/// the block.
+///
+/// Answer: [`Ok`](Answer::Ok). Refused: as [`get`].
+pub fn store(image: &mut [u8], transaction: u8, record: u16, value: u16) -> Answer {
+    ask!(nolpigat_store(
+        image.as_mut_ptr(),
+        image.len(),
+        transaction,
+        record,
+        value
+    ))
+}
+
+/// Every holder's slot is locked with pending absent. Where [`get`] would say absent, nothing changes.
+///
+/// Answer: [`Ok`](Answer::Ok) or [`Absent`](Answer::Absent). Refused: as [`get`].
+pub fn delete(image: &mut [u8], transaction: u8, record: u16) -> Answer {
+    ask!(nolpigat_delete(
+        image.as_mut_ptr(),
+        image.len(),
+        transaction,
+        record
+    ))
+}
+
+/// Slots locked by the transaction, on all working cards, take the pending state and are unlocked. The transaction
+/// closes.
+///
+/// Answer: [`Ok`](Answer::Ok). Refused: 5 if the transaction is not open.
+pub fn commit(image: &mut [u8], transaction: u8) -> Answer {
+    ask!(nolpigat_commit(
+        image.as_mut_ptr(),
+        image.len(),
+        transaction
+    ))
+}
+
+/// Slots locked by the transaction, on all working cards, drop the pending state and are unlocked. The transaction
+/// closes.
+///
+/// Answer and refusals: as [`commit`].
+pub fn rollback(image: &mut [u8], transaction: u8) -> Answer {
+    ask!(nolpigat_rollback(
+        image.as_mut_ptr(),
+        image.len(),
+        transaction
+    ))
+}
+
+/// The card's table is zeroed, a failed mark is cleared and it works.
+///
+/// Answer: [`Ok`](Answer::Ok). Refused: 8 if the card works or is in an active placement.
+pub fn fit(image: &mut [u8], card: u8) -> Answer {
+    ask!(nolpigat_fit(image.as_mut_ptr(), image.len(), card))
+}
+
+/// The card's table is zeroed; it no longer works.
+///
+/// Answer: [`Ok`](Answer::Ok). Refused: 8 if the card does not work or is in an active placement; 14 if an open
+/// transaction has its home there.
+pub fn withdraw(image: &mut [u8], card: u8) -> Answer {
+    ask!(nolpigat_withdraw(image.as_mut_ptr(), image.len(), card))
+}
+
+/// The mask becomes the newest placement.
+///
+/// Answer: [`Ok`](Answer::Ok). Refused: 9 if the mask has under two members or one that does not work, or is the
+/// newest again; 10 if three or more placements are active.
+pub fn place(image: &mut [u8], mask: u8) -> Answer {
+    ask!(nolpigat_place(image.as_mut_ptr(), image.len(), mask))
+}
+
+/// The card no longer works and is marked failed; its table is not read again before a [`fit`]. If some active
+/// placement now has two failed or fewer than two working members, every open transaction is rolled back and the
+/// store stops. Otherwise transactions begun there are rolled back, and if the card was in the newest placement, one
+/// without it is added.
+///
+/// Answer: [`Placed`](Answer::Placed), [`Unplaced`](Answer::Unplaced) or [`Stopped`](Answer::Stopped). Refused: 8 if
+/// the card does not work.
+pub fn fail(image: &mut [u8], card: u8) -> Answer {
+    ask!(nolpigat_fail(image.as_mut_ptr(), image.len(), card))
+}
+
+/// Each site of the newest placement that lacks the block gets a copy of the card's; one that has it keeps its own.
+/// The card drops the block unless it is a site.
+///
+/// Answer: [`Copies`](Answer::Copies). Refused: 8 if the card does not work; 11 if it does not hold the block; 12 if
+/// its copy has a locked slot.
+pub fn move_block(image: &mut [u8], card: u8, block: u8) -> Answer {
+    ask!(nolpigat_move(image.as_mut_ptr(), image.len(), card, block))
+}
+
+/// If every block held on a working card is held by both its newest sites and by no other working card, only the
+/// newest placement remains.
+///
+/// Answer: [`Retired`](Answer::Retired). Refused: 13 if the condition is unmet.
+pub fn settle(image: &mut [u8]) -> Answer {
+    ask!(nolpigat_settle(image.as_mut_ptr(), image.len()))
+}
+
+/// Whether exactly one placement is active.
+///
+/// Answer: [`Protected`](Answer::Protected) or [`Unprotected`](Answer::Unprotected).
+pub fn state(image: &[u8]) -> Answer {
+    ask!(nolpigat_state(image.as_ptr(), image.len()))
+}
+
+/// How many records are committed present in the card's held blocks.
+///
+/// Answer: [`Load`](Answer::Load). Refused: 8 if the card does not work.
+pub fn load(image: &[u8], card: u8) -> Answer {
+    ask!(nolpigat_load(image.as_ptr(), image.len(), card))
+}
+
+/// The call that a command's bytes ask for: operation (4 bits), transaction (4), card (4), record or block (12),
+/// value or mask (16), most significant bit first. Operations 0 to 14 are the calls above in their order, from
+/// [`start`] to [`load`]. Fields that an operation lacks are zero, and a mask is below 256.
+///
+/// Answer: that of the call. Refused: as the call; before all others 15, for malformed bytes or another length than
+/// [`COMMAND_SIZE`].
+pub fn command(image: &mut [u8], bytes: &[u8]) -> Answer {
+    ask!(nolpigat_command(
+        image.as_mut_ptr(),
+        image.len(),
+        bytes.as_ptr(),
+        bytes.len()
+    ))
+}
