@@ -4,13 +4,7 @@ extern "C" {
     pub fn nolpigat_start(image: *mut u8, length: usize, mask: u8) -> u32;
     pub fn nolpigat_begin(image: *mut u8, length: usize, transaction: u8, home: u8) -> u32;
     pub fn nolpigat_get(image: *const u8, length: usize, transaction: u8, record: u16) -> u32;
-    pub fn nolpigat_store(
-        image: *mut u8,
-        length: usize,
-        transaction: u8,
-        record: u16,
-        value: u16,
-    ) -> u32;
+    pub fn nolpigat_store(image: *mut u8, length: usize, transaction: u8, record: u16, value: u16) -> u32;
     pub fn nolpigat_delete(image: *mut u8, length: usize, transaction: u8, record: u16) -> u32;
     pub fn nolpigat_commit(image: *mut u8, length: usize, transaction: u8) -> u32;
     pub fn nolpigat_rollback(image: *mut u8, length: usize, transaction: u8) -> u32;
@@ -22,10 +16,5 @@ extern "C" {
     pub fn nolpigat_settle(image: *mut u8, length: usize) -> u32;
     pub fn nolpigat_state(image: *const u8, length: usize) -> u32;
     pub fn nolpigat_load(image: *const u8, length: usize, card: u8) -> u32;
-    pub fn nolpigat_command(
-        image: *mut u8,
-        length: usize,
-        bytes: *const u8,
-        bytes_length: usize,
-    ) -> u32;
+    pub fn nolpigat_command(image: *mut u8, length: usize, bytes: *const u8, bytes_length: usize) -> u32;
 }

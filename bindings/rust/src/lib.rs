@@ -54,25 +54,16 @@ pub fn start(image: &mut [u8], mask: u8) -> Answer {
 ///
 /// Answer: [`Ok`](Answer::Ok). Refused: 6 if it is open; 8 if the home is not in the newest placement.
 pub fn begin(image: &mut [u8], transaction: u8, home: u8) -> Answer {
-    ask!(nolpigat_begin(
-        image.as_mut_ptr(),
-        image.len(),
-        transaction,
-        home
-    ))
+    ask!(nolpigat_begin(image.as_mut_ptr(), image.len(), transaction, home))
 }
 
-/// The record's pending state if this transaction locks it, else the committed one. Takes no lock.
+/// The record's pending state if the first holder's slot is locked by this transaction, else the committed one. With no
+/// holder the record is absent. Takes no lock.
 ///
-/// Answer: [`Value`](Answer::Value) or [`Absent`](Answer::Absent). Refused: 5 if the transaction is not open; 7 if
-/// another locks the record.
+/// Answer: [`Value`](Answer::Value) or [`Absent`](Answer::Absent). Refused: 5 if the transaction is not open; 7 if some
+/// holder's slot is locked by another.
 pub fn get(image: &[u8], transaction: u8, record: u16) -> Answer {
-    ask!(nolpigat_get(
-        image.as_ptr(),
-        image.len(),
-        transaction,
-        record
-    ))
+    ask!(nolpigat_get(image.as_ptr(), image.len(), transaction, record))
 }
 
 /// Every holder's slot is locked and given the pending value. With no holder, both sites of the newest placement get
@@ -80,25 +71,14 @@ pub fn get(image: &[u8], transaction: u8, record: u16) -> Answer {
 ///
 /// Answer: [`Ok`](Answer::Ok). Refused: as [`get`].
 pub fn store(image: &mut [u8], transaction: u8, record: u16, value: u16) -> Answer {
-    ask!(nolpigat_store(
-        image.as_mut_ptr(),
-        image.len(),
-        transaction,
-        record,
-        value
-    ))
+    ask!(nolpigat_store(image.as_mut_ptr(), image.len(), transaction, record, value))
 }
 
 /// Every holder's slot is locked with pending absent. Where [`get`] would say absent, nothing changes.
 ///
 /// Answer: [`Ok`](Answer::Ok) or [`Absent`](Answer::Absent). Refused: as [`get`].
 pub fn delete(image: &mut [u8], transaction: u8, record: u16) -> Answer {
-    ask!(nolpigat_delete(
-        image.as_mut_ptr(),
-        image.len(),
-        transaction,
-        record
-    ))
+    ask!(nolpigat_delete(image.as_mut_ptr(), image.len(), transaction, record))
 }
 
 /// Slots locked by the transaction, on all working cards, take the pending state and are unlocked. The transaction
@@ -106,11 +86,7 @@ pub fn delete(image: &mut [u8], transaction: u8, record: u16) -> Answer {
 ///
 /// Answer: [`Ok`](Answer::Ok). Refused: 5 if the transaction is not open.
 pub fn commit(image: &mut [u8], transaction: u8) -> Answer {
-    ask!(nolpigat_commit(
-        image.as_mut_ptr(),
-        image.len(),
-        transaction
-    ))
+    ask!(nolpigat_commit(image.as_mut_ptr(), image.len(), transaction))
 }
 
 /// Slots locked by the transaction, on all working cards, drop the pending state and are unlocked. The transaction
@@ -118,11 +94,7 @@ pub fn commit(image: &mut [u8], transaction: u8) -> Answer {
 ///
 /// Answer and refusals: as [`commit`].
 pub fn rollback(image: &mut [u8], transaction: u8) -> Answer {
-    ask!(nolpigat_rollback(
-        image.as_mut_ptr(),
-        image.len(),
-        transaction
-    ))
+    ask!(nolpigat_rollback(image.as_mut_ptr(), image.len(), transaction))
 }
 
 /// The card's table is zeroed, a failed mark is cleared and it works.
@@ -197,10 +169,5 @@ pub fn load(image: &[u8], card: u8) -> Answer {
 /// Answer: that of the call. Refused: as the call; before all others 15, for malformed bytes or another length than
 /// [`COMMAND_SIZE`].
 pub fn command(image: &mut [u8], bytes: &[u8]) -> Answer {
-    ask!(nolpigat_command(
-        image.as_mut_ptr(),
-        image.len(),
-        bytes.as_ptr(),
-        bytes.len()
-    ))
+    ask!(nolpigat_command(image.as_mut_ptr(), image.len(), bytes.as_ptr(), bytes.len()))
 }

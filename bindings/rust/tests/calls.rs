@@ -153,13 +153,7 @@ fn load_counts_committed_records() {
 #[test]
 fn command_performs() {
     let mut image = stored();
-    assert_eq!(
-        command(&mut image, &[0x21, 0x00, 0x09, 0x00, 0x00]),
-        Answer::Value(4660)
-    );
-    assert_eq!(
-        command(&mut image, &[0x51, 0x00, 0x00, 0x00, 0x00]),
-        Answer::Ok
-    );
+    assert_eq!(command(&mut image, &[0x21, 0x00, 0x09, 0x00, 0x00]), Answer::Value(4660));
+    assert_eq!(command(&mut image, &[0x51, 0x00, 0x00, 0x00, 0x00]), Answer::Ok);
     assert_eq!(image, committed());
 }
