@@ -19,7 +19,8 @@
 //! Cards are 0 to 7, blocks 0 to 63, records 0 to 511, transactions 1 to 15; record r lies in block r / 8. A mask is
 //! a set of cards in a byte, card 0 its highest bit. No call panics: what cannot be done is
 //! [refused](Answer::Refused), and the lowest number that applies is returned. Refusals 1, 2 and 4 come from every
-//! call but [`start`], and 3 from every call with a number other than a mask or a value; each function names its others.
+//! call but [`start`], and 3 from every call with a number other than a mask or a value; each function names its
+//! others.
 
 #![deny(missing_docs)]
 
