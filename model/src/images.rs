@@ -18,50 +18,82 @@ fn random_mask(random: &mut Random, from: u8) -> u8 {
     from & (random.byte() | random.byte())
 }
 
-/// One to four masks, of which few break the form.
-fn random_placements(random: &mut Random, working: u8, failed: u8) -> Vec<u8> {
-    let number = 1 + random.below(4);
+/// Masks of which few break the form. Those of a stopped store have failed cards more often.
+fn random_placements(random: &mut Random, number: usize, stopped: bool, working: u8, failed: u8) -> Vec<u8> {
+    let from = if stopped { working | failed } else { working };
     let mut placements = Vec::new();
     for _ in 0..number {
-        let mut mask = random_mask(random, working);
+        let mut mask = random_mask(random, from);
         if random.chance(500) {
             mask |= failed & bit(random.below(CARDS));
         }
         placements.push(mask);
     }
-    if number == 4 && failed != 0 {
-        placements[3] = random_mask(random, working);
-        placements[2] = placements[3] | 0x80 >> failed.leading_zeros();
-    }
-    if let Some(newest) = placements.last_mut() {
-        *newest &= working;
+    let newest = placements[number - 1] & from;
+    placements[number - 1] = newest;
+    if let (4, Some(card)) = (number, random.any_of(&members(failed & !newest))) {
+        placements[2] = newest | bit(card);
     }
     placements
 }
 
-/// A control part that is often whole.
-fn random_control(random: &mut Random, image: &mut [u8]) {
+/// A control part whose form is often whole.
+fn random_parts(random: &mut Random, number: usize, stopped: bool) -> Control {
     let mut failed = 0;
     for _ in 0..random.below(4) {
         failed |= bit(random.below(CARDS));
     }
     let working = (random.byte() | random.byte() | random.byte()) & !failed;
-    let placements = random_placements(random, working, failed);
-    let stopped = random.chance(50);
+    let placements = random_placements(random, number, stopped, working, failed);
     let mut homes = NO_HOMES;
     for home in &mut homes[1..] {
         if !stopped && working != 0 && random.chance(300) {
             *home = Some(random.one_of(&members(working)) as u8);
         }
     }
-    Control { stopped, placements, working, failed, homes }.write(image);
+    Control { stopped, placements, working, failed, homes }
+}
+
+/// The bytes of a control part whose form is whole, with this many active placements.
+pub fn whole_control(random: &mut Random, number: usize, stopped: bool) -> [u8; CONTROL] {
+    loop {
+        let mut bytes = [0; CONTROL];
+        random_parts(random, number, stopped).write(&mut bytes);
+        if Control::read(&bytes).is_some() {
+            return bytes;
+        }
+    }
+}
+
+fn random_control(random: &mut Random, image: &mut [u8]) {
+    let number = 1 + random.below(4);
+    let stopped = random.chance(50);
+    random_parts(random, number, stopped).write(image);
     if random.chance(30) {
         image[random.below(CONTROL)] ^= 1 << random.below(8);
     }
 }
 
+/// Random bytes into the tables of the cards marked failed, which no call reads before a fit.
+pub fn disturb(random: &mut Random, image: &mut [u8]) {
+    for card in members(image[6]) {
+        let bytes = &mut image[table_at(card)];
+        match random.below(4) {
+            0 => random.fill(bytes),
+            1 => bytes.fill(0),
+            2 => bytes.fill(0xFF),
+            _ => {
+                for _ in 0..20 {
+                    let at = random.below(TABLE_BYTES);
+                    bytes[at] = random.byte();
+                }
+            }
+        }
+    }
+}
+
 /// Tables of any bytes, with few held blocks and few locks.
-fn random_tables(random: &mut Random, image: &mut [u8]) {
+pub fn random_tables(random: &mut Random, image: &mut [u8]) {
     random.fill(&mut image[CONTROL..]);
     let dense = random.one_of(&[20, 200, 500, 1000]);
     let locked = random.one_of(&[0, 20, 300]);
@@ -96,14 +128,18 @@ fn tidy(random: &mut Random, image: &mut [u8], placement: u8) {
     }
 }
 
-/// A call whose numbers are mostly in their ranges.
-pub fn random_call(random: &mut Random) -> Call {
+/// Numbers that are mostly in their ranges.
+pub fn random_numbers(random: &mut Random) -> Numbers {
     let transaction = if random.chance(900) { 1 + random.below(15) as u8 } else { random.one_of(&[0, 16, 255]) };
     let card = if random.chance(950) { random.below(8) as u8 } else { random.one_of(&[8, 9, 15, 16, 255]) };
     let record = if random.chance(950) { random.below(512) as u16 } else { random.one_of(&[512, 513, 4095, 65535]) };
     let block = if random.chance(950) { random.below(64) as u16 } else { random.one_of(&[64, 255, 4095, 65535]) };
-    let value = random.below(0x1_0000) as u16;
-    let mask = random.byte();
-    let operation = random.below(15) as u8;
-    Call::of(operation, &Numbers { transaction, card, record, block, value, mask }).expect("operations 0 to 14")
+    let value = if random.chance(950) { random.below(0x1_0000) as u16 } else { random.one_of(&[0, 1, 0x8000, 0xFFFF]) };
+    Numbers { transaction, card, record, block, value, mask: random.byte() }
+}
+
+/// A call whose numbers are mostly in their ranges.
+pub fn random_call(random: &mut Random) -> Call {
+    let numbers = random_numbers(random);
+    Call::of(random.below(15) as u8, &numbers).expect("operations 0 to 14")
 }

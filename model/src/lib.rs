@@ -2,6 +2,7 @@
 //! Command files are run by it and by the proved program, and the listings are compared.
 
 pub mod calls;
+pub mod clauses;
 pub mod commands;
 pub mod control;
 pub mod image;

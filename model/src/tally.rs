@@ -14,7 +14,7 @@ pub const ANSWERS: [&str; 11] = [
 
 /// Each operation with its answers and refusals, by document 01. An image of the
 /// program has its length, so 1 is not among them.
-const OPERATIONS: [(&str, &[&str], &[u8]); 16] = [
+pub const OPERATIONS: [(&str, &[&str], &[u8]); 16] = [
     ("start", &["ok"], &[9, 15]),
     ("begin", &["ok"], &[2, 3, 4, 6, 8, 15]),
     ("get", &["value", "absent"], &[2, 3, 4, 5, 7, 15]),
@@ -34,7 +34,7 @@ const OPERATIONS: [(&str, &[&str], &[u8]); 16] = [
 ];
 
 /// What each operation can be answered, as 'get value' or 'get refused 7'.
-fn possible() -> BTreeSet<String> {
+pub fn possible() -> BTreeSet<String> {
     let mut all = BTreeSet::new();
     for (operation, words, numbers) in OPERATIONS {
         all.extend(words.iter().map(|word| format!("{operation} {word}")));

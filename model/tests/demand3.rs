@@ -3,30 +3,12 @@
 
 use model::calls::{perform, Answer, Call};
 use model::commands::read_command;
-use model::control::{has, Control};
-use model::image::*;
+use model::control::Control;
+use model::image::LENGTH;
+use model::images::disturb;
 use model::kinds::{Maker, KINDS};
 use model::plain::{Expected, Plain};
 use model::random::Random;
-
-/// Random bytes into the tables of the cards marked failed.
-fn disturb(random: &mut Random, image: &mut [u8]) {
-    let failed = image[6];
-    for card in (0..CARDS).filter(|card| has(failed, *card)) {
-        let bytes = &mut image[table_at(card)];
-        match random.below(4) {
-            0 => random.fill(bytes),
-            1 => bytes.fill(0),
-            2 => bytes.fill(0xFF),
-            _ => {
-                for _ in 0..20 {
-                    let at = random.below(TABLE_BYTES);
-                    bytes[at] = random.byte();
-                }
-            }
-        }
-    }
-}
 
 #[derive(Debug, Default)]
 struct Seen {

@@ -1,0 +1,79 @@
+//! The calls of the archive libabi.a, by the model's names of calls and answers.
+
+use model::{Answer, Call};
+
+extern "C" {
+    fn nolpigat_start(image: *mut u8, length: usize, mask: u8) -> u32;
+    fn nolpigat_begin(image: *mut u8, length: usize, transaction: u8, home: u8) -> u32;
+    fn nolpigat_get(image: *const u8, length: usize, transaction: u8, record: u16) -> u32;
+    fn nolpigat_store(image: *mut u8, length: usize, transaction: u8, record: u16, value: u16) -> u32;
+    fn nolpigat_delete(image: *mut u8, length: usize, transaction: u8, record: u16) -> u32;
+    fn nolpigat_commit(image: *mut u8, length: usize, transaction: u8) -> u32;
+    fn nolpigat_rollback(image: *mut u8, length: usize, transaction: u8) -> u32;
+    fn nolpigat_fit(image: *mut u8, length: usize, card: u8) -> u32;
+    fn nolpigat_withdraw(image: *mut u8, length: usize, card: u8) -> u32;
+    fn nolpigat_place(image: *mut u8, length: usize, mask: u8) -> u32;
+    fn nolpigat_fail(image: *mut u8, length: usize, card: u8) -> u32;
+    fn nolpigat_move(image: *mut u8, length: usize, card: u8, block: u8) -> u32;
+    fn nolpigat_settle(image: *mut u8, length: usize) -> u32;
+    fn nolpigat_state(image: *const u8, length: usize) -> u32;
+    fn nolpigat_load(image: *const u8, length: usize, card: u8) -> u32;
+    fn nolpigat_command(image: *mut u8, length: usize, bytes: *const u8, number: usize) -> u32;
+}
+
+/// The code of the archive's answer. A block is a byte there.
+pub fn perform(image: &mut [u8], call: &Call) -> u32 {
+    let (at, length) = (image.as_mut_ptr(), image.len());
+    // The pointer and the length are those of a slice that is lent for the call alone.
+    unsafe {
+        match *call {
+            Call::Start { mask } => nolpigat_start(at, length, mask),
+            Call::Begin { transaction, home } => nolpigat_begin(at, length, transaction, home),
+            Call::Get { transaction, record } => nolpigat_get(at, length, transaction, record),
+            Call::Store { transaction, record, value } => nolpigat_store(at, length, transaction, record, value),
+            Call::Delete { transaction, record } => nolpigat_delete(at, length, transaction, record),
+            Call::Commit { transaction } => nolpigat_commit(at, length, transaction),
+            Call::Rollback { transaction } => nolpigat_rollback(at, length, transaction),
+            Call::Fit { card } => nolpigat_fit(at, length, card),
+            Call::Withdraw { card } => nolpigat_withdraw(at, length, card),
+            Call::Place { mask } => nolpigat_place(at, length, mask),
+            Call::Fail { card } => nolpigat_fail(at, length, card),
+            Call::Move { card, block } => {
+                nolpigat_move(at, length, card, block.try_into().expect("a block of one byte"))
+            }
+            Call::Settle => nolpigat_settle(at, length),
+            Call::State => nolpigat_state(at, length),
+            Call::Load { card } => nolpigat_load(at, length, card),
+        }
+    }
+}
+
+/// The code of the archive's answer to a command's bytes.
+pub fn perform_command(image: &mut [u8], bytes: &[u8]) -> u32 {
+    // Both slices are lent for the call alone, and they do not overlap.
+    unsafe { nolpigat_command(image.as_mut_ptr(), image.len(), bytes.as_ptr(), bytes.len()) }
+}
+
+pub const REFUSED: u32 = 15;
+
+/// Numbers of 16 bits stand below the kind of an answer.
+pub const NUMBER_RANGE: u32 = 0x1_0000;
+
+/// The code of an answer.
+pub fn code(answer: Answer) -> u32 {
+    let (kind, number) = match answer {
+        Answer::Ok => (0, 0),
+        Answer::Value(value) => (1, value),
+        Answer::Absent => (2, 0),
+        Answer::Placed(mask) => (3, mask.into()),
+        Answer::Unplaced => (4, 0),
+        Answer::Stopped => (5, 0),
+        Answer::Copies(copies) => (6, copies.into()),
+        Answer::Retired(retired) => (7, retired.into()),
+        Answer::Protected => (8, 0),
+        Answer::Unprotected => (9, 0),
+        Answer::Load(load) => (10, load),
+        Answer::Refused(number) => (REFUSED, number.into()),
+    };
+    kind * NUMBER_RANGE + u32::from(number)
+}

@@ -1,0 +1,9 @@
+//! Comparison of the archive with the model: the answer, and every byte of the image after each call.
+
+pub mod archive;
+pub mod cases;
+pub mod lists;
+pub mod pair;
+pub mod requests;
+pub mod run;
+pub mod single;

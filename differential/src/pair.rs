@@ -1,0 +1,115 @@
+//! Two images of the same bytes, one lent to the archive and one to the model.
+
+use crate::archive;
+use model::commands::Fields;
+use model::{listing, perform, Answer, Call};
+use std::ops::Range;
+
+/// Bytes on both sides of an image, which no call may change.
+const GUARD: usize = 64;
+const GUARD_BYTE: u8 = 0xA5;
+
+/// The places at which an image begins, so that every alignment occurs.
+pub const ALIGNMENTS: usize = 16;
+
+/// What is asked of both.
+#[derive(Clone, Copy, Debug)]
+pub enum Request<'a> {
+    Call(Call),
+    Command(&'a [u8]),
+}
+
+impl Request<'_> {
+    /// The number of the operation; 15 for bytes that name none.
+    pub fn operation(&self) -> usize {
+        match self {
+            Request::Call(call) => Fields::of(call).operation as usize,
+            Request::Command(bytes) => bytes.first().map_or(15, |byte| byte >> 4) as usize,
+        }
+    }
+}
+
+/// A byte in which the two differ.
+#[derive(Clone, Copy, Debug)]
+pub struct DifferentByte {
+    /// From the image's first byte; below 0 or beyond the length is outside the image.
+    pub at: isize,
+    pub archive: u8,
+    pub model: u8,
+}
+
+#[derive(Clone, Copy, Debug)]
+pub struct Outcome {
+    /// The archive's answer.
+    pub code: u32,
+    /// The model's answer.
+    pub answer: Answer,
+    pub byte: Option<DifferentByte>,
+}
+
+impl Outcome {
+    pub fn same(&self) -> bool {
+        self.code == archive::code(self.answer) && self.byte.is_none()
+    }
+}
+
+#[derive(Default)]
+pub struct Pair {
+    archive: Vec<u8>,
+    model: Vec<u8>,
+    image: Range<usize>,
+}
+
+impl Pair {
+    /// Both images take these bytes, and begin at this alignment.
+    pub fn load(&mut self, image: &[u8], alignment: usize) {
+        let first = GUARD + alignment;
+        self.image = first..first + image.len();
+        let whole = self.image.end + GUARD;
+        for side in [&mut self.archive, &mut self.model] {
+            side.resize(whole, GUARD_BYTE);
+            side[..first].fill(GUARD_BYTE);
+            side[first..first + image.len()].copy_from_slice(image);
+            side[first + image.len()..].fill(GUARD_BYTE);
+        }
+    }
+
+    /// The model's image.
+    pub fn image(&self) -> &[u8] {
+        &self.model[self.image.clone()]
+    }
+
+    pub fn archive_image(&self) -> &[u8] {
+        &self.archive[self.image.clone()]
+    }
+
+    /// Changes the model's image and copies the bytes of the range to the archive's.
+    pub fn change(&mut self, ranges: &[Range<usize>], change: impl FnOnce(&mut [u8])) {
+        change(&mut self.model[self.image.clone()]);
+        for range in ranges {
+            let both = self.image.start + range.start..self.image.start + range.end;
+            self.archive[both.clone()].copy_from_slice(&self.model[both]);
+        }
+    }
+
+    pub fn perform(&mut self, request: &Request) -> Outcome {
+        let archive = &mut self.archive[self.image.clone()];
+        let model = &mut self.model[self.image.clone()];
+        let (code, answer) = match request {
+            Request::Call(call) => (archive::perform(archive, call), perform(model, call)),
+            Request::Command(bytes) => (archive::perform_command(archive, bytes), listing::answer(model, bytes)),
+        };
+        Outcome { code, answer, byte: self.different_byte() }
+    }
+
+    fn different_byte(&mut self) -> Option<DifferentByte> {
+        if self.archive == self.model {
+            return None;
+        }
+        let at = self.archive.iter().zip(&self.model).position(|(archive, model)| archive != model)?;
+        let (archive, model) = (self.archive[at], self.model[at]);
+        // The calls after this one are compared as if this one had not differed.
+        self.archive.copy_from_slice(&self.model);
+        Some(DifferentByte { at: at as isize - self.image.start as isize, archive, model })
+    }
+}

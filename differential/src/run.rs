@@ -1,0 +1,40 @@
+//! One run: requests on a pair of images, counted, with what differs printed.
+
+use crate::cases::Cases;
+use crate::pair::{Outcome, Pair, Request};
+use model::random::Random;
+
+/// Differences beyond these are counted and not printed.
+const PRINTED: usize = 10;
+
+pub struct Run {
+    pub seed: u64,
+    pub random: Random,
+    pub cases: Cases,
+    /// Requests so far.
+    pub calls: usize,
+    pub differences: usize,
+}
+
+impl Run {
+    pub fn new(seed: u64) -> Run {
+        Run { seed, random: Random::new(seed), cases: Cases::default(), calls: 0, differences: 0 }
+    }
+
+    pub fn perform(&mut self, pair: &mut Pair, request: &Request) -> Outcome {
+        self.calls += 1;
+        let outcome = pair.perform(request);
+        self.cases.add_answer(request, outcome.code);
+        if !outcome.same() {
+            self.report(request, &format!("{outcome:X?}"));
+        }
+        outcome
+    }
+
+    pub fn report(&mut self, request: &Request, what: &str) {
+        self.differences += 1;
+        if self.differences <= PRINTED {
+            println!("difference: seed {}, call {}, {request:X?}: {what}", self.seed, self.calls);
+        }
+    }
+}

@@ -1,0 +1,177 @@
+//! Single calls on images of any length and contents.
+
+use crate::cases::{Entries, COMMAND_ENTRY, ENTRIES};
+use crate::pair::{Pair, Request, ALIGNMENTS};
+use crate::requests::{command_class, command_classes, random_command, Requests, RECORD_ENDS};
+use crate::run::Run;
+use model::clauses::{broken, broken_control, Clause, CLAUSES};
+use model::control::Control;
+use model::image::{CONTROL, LENGTH};
+use model::images::{random_tables, whole_control};
+use model::random::Random;
+use model::{Answer, Call};
+
+const CALLS_ON_AN_IMAGE: usize = 64;
+
+const LENGTHS: [usize; 7] = [0, 1, 31, 32, LENGTH - 1, LENGTH + 1, 2 * LENGTH];
+
+/// How an image is made.
+#[derive(Clone, Copy)]
+enum Making {
+    Whole { number: usize, stopped: bool },
+    Broken(Clause),
+    Length(usize),
+    AnyLength,
+    AllRandom,
+}
+
+const RUNNING_WITH_FAILED: &str = "running, a placement with a failed card";
+const RUNNING_WITH_OPEN: &str = "running, open transactions";
+const ANOTHER_LENGTH: &str = "another length";
+const ALL_RANDOM: &str = "all contents random";
+const MALFORMED_BEFORE_1: &str = "malformed command on a wrong length";
+const MALFORMED_BEFORE_2: &str = "malformed command on a broken form";
+
+/// Every way but running stores.
+fn makings() -> Vec<Making> {
+    let mut all: Vec<Making> = (1..=4).map(|number| Making::Whole { number, stopped: true }).collect();
+    all.extend(CLAUSES.map(Making::Broken));
+    all.extend(LENGTHS.map(Making::Length));
+    all.extend([Making::AnyLength, Making::AllRandom]);
+    all
+}
+
+fn active_name(number: usize, stopped: bool) -> String {
+    format!("{}, {number} active", if stopped { "stopped" } else { "running" })
+}
+
+/// Classes of images that a run must meet, each with every call and with a command's bytes.
+pub fn image_classes() -> Vec<String> {
+    let mut all: Vec<String> = (1..=4).flat_map(|n| [active_name(n, false), active_name(n, true)]).collect();
+    all.extend([RUNNING_WITH_FAILED, RUNNING_WITH_OPEN, ANOTHER_LENGTH, ALL_RANDOM].map(String::from));
+    all.extend(CLAUSES.map(|clause| format!("{clause:?} broken alone")));
+    all.extend(LENGTHS.map(|length| format!("length {length}")));
+    all
+}
+
+/// Classes of arguments that a run must meet.
+pub fn argument_classes() -> Vec<String> {
+    let mut all = command_classes();
+    all.extend(RECORD_ENDS.map(|(_, name)| name.to_string()));
+    all.extend([MALFORMED_BEFORE_1, MALFORMED_BEFORE_2].map(String::from));
+    all
+}
+
+/// The classes of an image, told from its bytes where they can be.
+fn classes(image: &[u8], making: Making) -> Vec<String> {
+    if image.len() != LENGTH {
+        let named = LENGTHS.contains(&image.len());
+        return vec![if named { format!("length {}", image.len()) } else { ANOTHER_LENGTH.into() }];
+    }
+    let mut found = Vec::new();
+    if let Making::AllRandom = making {
+        found.push(ALL_RANDOM.into());
+    }
+    if let [clause] = broken(&image[..CONTROL])[..] {
+        found.push(format!("{clause:?} broken alone"));
+    }
+    let Some(control) = Control::read(image) else { return found };
+    found.push(active_name(control.placements.len(), control.stopped));
+    if !control.stopped && control.placements.iter().any(|mask| mask & control.failed != 0) {
+        found.push(RUNNING_WITH_FAILED.into());
+    }
+    if !control.open().is_empty() {
+        found.push(RUNNING_WITH_OPEN.into());
+    }
+    found
+}
+
+fn make(random: &mut Random, making: Making) -> Vec<u8> {
+    let number = 1 + random.below(4);
+    let control = match making {
+        Making::Whole { number, stopped } => whole_control(random, number, stopped),
+        Making::Broken(clause) => broken_control(random, clause),
+        _ => whole_control(random, number, false),
+    };
+    let mut image = vec![0; LENGTH];
+    image[..CONTROL].copy_from_slice(&control);
+    random_tables(random, &mut image);
+    match making {
+        Making::Length(length) => image.resize(length, 0xFF),
+        Making::AnyLength => image.resize(random.below(3 * LENGTH), 0xFF),
+        Making::AllRandom => random.fill(&mut image),
+        Making::Whole { .. } | Making::Broken(_) => {}
+    }
+    image
+}
+
+/// Calls on one image, which takes its first contents again after each that changed it.
+fn calls_on(run: &mut Run, pair: &mut Pair, requests: &mut Requests, image: &[u8], calls: usize) -> Entries {
+    let mut entries = [0; ENTRIES];
+    let alignment = run.random.below(ALIGNMENTS);
+    pair.load(image, alignment);
+    for _ in 0..calls {
+        if run.random.chance(125) {
+            let bytes = random_command(&mut run.random);
+            let outcome = run.perform(pair, &Request::Command(&bytes));
+            count_command(run, image, &bytes, outcome.answer);
+            entries[COMMAND_ENTRY] += 1;
+        } else {
+            let call = requests.call(&mut run.random);
+            let request = Request::Call(call);
+            run.perform(pair, &request);
+            count_record(run, &call);
+            entries[request.operation()] += 1;
+        }
+        if pair.image() != image {
+            pair.load(image, alignment);
+        }
+    }
+    entries
+}
+
+fn count_command(run: &mut Run, image: &[u8], bytes: &[u8], answer: Answer) {
+    run.cases.add(&command_class(bytes));
+    if answer == Answer::Refused(15) {
+        if image.len() != LENGTH {
+            run.cases.add(MALFORMED_BEFORE_1);
+        } else if Control::read(image).is_none() {
+            run.cases.add(MALFORMED_BEFORE_2);
+        }
+    }
+}
+
+fn count_record(run: &mut Run, call: &Call) {
+    if let Call::Get { record, .. } | Call::Store { record, .. } | Call::Delete { record, .. } = *call {
+        for (_, name) in RECORD_ENDS.iter().filter(|(end, _)| *end == record) {
+            run.cases.add(name);
+        }
+    }
+}
+
+/// This many calls; every second image is of a running store.
+pub fn run(run: &mut Run, calls: usize) {
+    let mut pair = Pair::default();
+    let mut requests = Requests::default();
+    let makings = makings();
+    let end = run.calls + calls;
+    for round in 0.. {
+        let left = end - run.calls;
+        if left == 0 {
+            break;
+        }
+        let running = Making::Whole { number: 1 + round / 2 % 4, stopped: false };
+        let making = if round % 2 == 0 { running } else { makings[round / 2 % makings.len()] };
+        let image = make(&mut run.random, making);
+        let entries = calls_on(run, &mut pair, &mut requests, &image, CALLS_ON_AN_IMAGE.min(left));
+        run.cases.add_image(&classes(&image, making), &entries);
+        check_clauses(run, &image);
+    }
+}
+
+/// The form as read by the model is that of the clauses one by one.
+fn check_clauses(run: &mut Run, image: &[u8]) {
+    if image.len() == LENGTH && broken(&image[..CONTROL]).is_empty() != Control::read(image).is_some() {
+        run.report(&Request::Call(Call::State), &format!("clauses of {:X?}", &image[..CONTROL]));
+    }
+}

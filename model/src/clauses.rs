@@ -1,0 +1,123 @@
+//! The clauses of the control form by name, and control parts that break one of them alone.
+
+use crate::control::{bit, count, has};
+use crate::image::CONTROL;
+use crate::images::whole_control;
+use crate::random::Random;
+use std::ops::Range;
+use Clause::*;
+
+#[derive(Clone, Copy, Debug, PartialEq, Eq, PartialOrd, Ord)]
+pub enum Clause {
+    CountZero,
+    CountOverFour,
+    FirstByteZeros,
+    UnusedMask,
+    SeventhByte,
+    OpenTransactionZeros,
+    ClosedTransaction,
+    LastBytes,
+    WorkingAndFailed,
+    FewMembers,
+    MemberUnknown,
+    ThirdLacksMember,
+    ThirdIsFourth,
+    ThirdHasSeveralMore,
+    ThirdHasWorkingMore,
+    NewestMemberIdle,
+    TwoFailed,
+    FewWorking,
+    HomeNotWorking,
+    StoppedAndOpen,
+}
+
+pub const CLAUSES: [Clause; 20] = [
+    CountZero, CountOverFour, FirstByteZeros, UnusedMask, SeventhByte, OpenTransactionZeros, ClosedTransaction,
+    LastBytes, WorkingAndFailed, FewMembers, MemberUnknown, ThirdLacksMember, ThirdIsFourth, ThirdHasSeveralMore,
+    ThirdHasWorkingMore, NewestMemberIdle, TwoFailed, FewWorking, HomeNotWorking, StoppedAndOpen,
+];
+
+/// The clauses that a control part breaks. Clauses on placements speak of those that there are.
+pub fn broken(bytes: &[u8]) -> Vec<Clause> {
+    let number = (bytes[0] >> 4 & 7) as usize;
+    let (active, unused) = bytes[1..5].split_at(number.min(4));
+    let mut found = Vec::new();
+    let mut add = |clause: Clause, holds: bool| if holds { found.push(clause) };
+    add(CountZero, number == 0);
+    add(CountOverFour, number > 4);
+    add(FirstByteZeros, bytes[0] & 0x0F != 0);
+    add(UnusedMask, unused.iter().any(|mask| *mask != 0));
+    add(SeventhByte, bytes[7] != 0);
+    let transactions = &bytes[8..23];
+    add(OpenTransactionZeros, transactions.iter().any(|byte| byte & 0x80 != 0 && byte & 0x0F != 0));
+    add(ClosedTransaction, transactions.iter().any(|byte| byte & 0x80 == 0 && *byte != 0));
+    add(LastBytes, bytes[23..CONTROL].iter().any(|byte| *byte != 0));
+    let (working, failed) = (bytes[5], bytes[6]);
+    add(WorkingAndFailed, working & failed != 0);
+    add(FewMembers, active.iter().any(|mask| count(*mask) < 2));
+    add(MemberUnknown, active.iter().any(|mask| mask & !(working | failed) != 0));
+    if number == 4 {
+        found.extend(fault_of_third(active[2], active[3], failed));
+    }
+    found.extend(faults_of_state(bytes[0] & 0x80 != 0, active, working, failed, transactions));
+    found
+}
+
+/// What keeps the third mask from being the fourth plus exactly one failed card.
+fn fault_of_third(third: u8, fourth: u8, failed: u8) -> Option<Clause> {
+    let more = third & !fourth;
+    match count(more) {
+        _ if fourth & !third != 0 => Some(ThirdLacksMember),
+        0 => Some(ThirdIsFourth),
+        1 if more & failed == 0 => Some(ThirdHasWorkingMore),
+        1 => None,
+        _ => Some(ThirdHasSeveralMore),
+    }
+}
+
+/// The clauses that depend on whether the store is stopped.
+fn faults_of_state(stopped: bool, active: &[u8], working: u8, failed: u8, transactions: &[u8]) -> Vec<Clause> {
+    let mut open = transactions.iter().filter(|byte| **byte & 0x80 != 0);
+    let faults = if stopped {
+        vec![(StoppedAndOpen, open.next().is_some())]
+    } else {
+        vec![
+            (NewestMemberIdle, active.last().is_some_and(|mask| mask & !working != 0)),
+            (TwoFailed, active.iter().any(|mask| count(mask & failed) > 1)),
+            (FewWorking, active.iter().any(|mask| count(mask & working) < 2)),
+            (HomeNotWorking, open.any(|byte| !has(working, (byte >> 4 & 7) as usize))),
+        ]
+    };
+    faults.into_iter().filter(|(_, holds)| *holds).map(|(clause, _)| clause).collect()
+}
+
+/// The bytes in which a fault of the clause lies.
+fn bytes_of(clause: Clause) -> Range<usize> {
+    match clause {
+        CountZero | CountOverFour | FirstByteZeros => 0..1,
+        UnusedMask => 1..5,
+        SeventhByte => 7..8,
+        OpenTransactionZeros | ClosedTransaction | HomeNotWorking | StoppedAndOpen => 8..23,
+        LastBytes => 23..CONTROL,
+        _ => 1..7,
+    }
+}
+
+/// A control part that breaks this clause and no other.
+pub fn broken_control(random: &mut Random, clause: Clause) -> [u8; CONTROL] {
+    loop {
+        let number = 1 + random.below(4);
+        let stopped = random.chance(500);
+        let mut bytes = whole_control(random, number, stopped);
+        for _ in 0..1 + random.below(2) {
+            let faulty = random.one_of(&bytes_of(clause).collect::<Vec<usize>>());
+            bytes[faulty] ^= if random.chance(500) { bit(random.below(8)) } else { random.byte() };
+        }
+        if clause == CountZero {
+            bytes[1..5].fill(0);
+        }
+        if broken(&bytes) == [clause] {
+            return bytes;
+        }
+    }
+}
