@@ -123,7 +123,7 @@ impl List {
         }
         let same_cards = expected == Expected::Stops || same_cards(plain, self.pair.archive_image());
         if !agrees || !same_cards {
-            run.report(request, &format!("the plain list expects {expected:X?}, {outcome:X?}, same cards: {same_cards}"));
+            run.report(request, &format!("the plain list expects {expected:?}; same cards: {same_cards}; {outcome}"));
         }
         if expected == Expected::Stops {
             self.plain = None;

@@ -1,8 +1,9 @@
 //! Two images of the same bytes, one lent to the archive and one to the model.
 
-use crate::archive;
+use crate::archive::{self, NUMBER_RANGE};
 use model::commands::Fields;
 use model::{listing, perform, Answer, Call};
+use std::fmt;
 use std::ops::Range;
 
 /// Bytes on both sides of an image, which no call may change.
@@ -38,6 +39,12 @@ pub struct DifferentByte {
     pub model: u8,
 }
 
+impl fmt::Display for DifferentByte {
+    fn fmt(&self, f: &mut fmt::Formatter) -> fmt::Result {
+        write!(f, "byte {} is {:02X} by the archive and {:02X} by the model", self.at, self.archive, self.model)
+    }
+}
+
 #[derive(Clone, Copy, Debug)]
 pub struct Outcome {
     /// The archive's answer.
@@ -50,6 +57,17 @@ pub struct Outcome {
 impl Outcome {
     pub fn same(&self) -> bool {
         self.code == archive::code(self.answer) && self.byte.is_none()
+    }
+}
+
+impl fmt::Display for Outcome {
+    fn fmt(&self, f: &mut fmt::Formatter) -> fmt::Result {
+        let (kind, number) = (self.code / NUMBER_RANGE, self.code % NUMBER_RANGE);
+        write!(f, "the archive answers kind {kind} number {number}, the model {}; ", self.answer)?;
+        match &self.byte {
+            Some(byte) => write!(f, "{byte}"),
+            None => write!(f, "no byte differs"),
+        }
     }
 }
 
@@ -83,7 +101,7 @@ impl Pair {
         &self.archive[self.image.clone()]
     }
 
-    /// Changes the model's image and copies the bytes of the range to the archive's.
+    /// Changes the model's image and copies the bytes of the ranges to the archive's.
     pub fn change(&mut self, ranges: &[Range<usize>], change: impl FnOnce(&mut [u8])) {
         change(&mut self.model[self.image.clone()]);
         for range in ranges {

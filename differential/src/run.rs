@@ -26,7 +26,7 @@ impl Run {
         let outcome = pair.perform(request);
         self.cases.add_answer(request, outcome.code);
         if !outcome.same() {
-            self.report(request, &format!("{outcome:X?}"));
+            self.report(request, &outcome.to_string());
         }
         outcome
     }
@@ -34,7 +34,7 @@ impl Run {
     pub fn report(&mut self, request: &Request, what: &str) {
         self.differences += 1;
         if self.differences <= PRINTED {
-            println!("difference: seed {}, call {}, {request:X?}: {what}", self.seed, self.calls);
+            println!("difference: seed {}, call {}, {request:?}: {what}", self.seed, self.calls);
         }
     }
 }
