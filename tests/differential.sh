@@ -1,12 +1,8 @@
 #!/bin/sh
 # differential.sh [SEED] [CALLS]
 # Compares the archive with the model, call by call: the answer and every byte of the image. Exit 1 on a
-# difference or on a class of cases that did not occur. NOLPIGAT_LIB_DIR names another folder of libabi.a.
+# difference or on a class of cases that did not occur. NOLPIGAT_LIB_DIR, a whole path, names another folder of libabi.a.
 set -eu
-case ${NOLPIGAT_LIB_DIR-} in
-/* | '') ;;
-*) export NOLPIGAT_LIB_DIR="$PWD/$NOLPIGAT_LIB_DIR" ;;
-esac
 cd "$(dirname "$0")/.."
 [ -n "${NOLPIGAT_LIB_DIR-}" ] || [ -f target/staticlib/libabi.a ] || rt staticlib abi
 cargo build --release --offline --quiet -j1 --manifest-path differential/Cargo.toml

@@ -31,8 +31,8 @@ fn main() {
     for fault in &faults {
         println!("fault of the run: {fault}");
     }
-    let (first, second) = (middle - start, middle.elapsed());
-    println!("seed {seed}: {} calls, {:.1} s single, {:.1} s lists", run.calls, first.as_secs_f64(), second.as_secs_f64());
+    let (single, lists) = ((middle - start).as_secs_f64(), middle.elapsed().as_secs_f64());
+    println!("seed {seed}: {} calls, {single:.1} s single, {lists:.1} s lists", run.calls);
     println!("{} differences, {} faults of the run", run.differences, faults.len());
     let incomplete = calls >= CALLS_FOR_ALL_CLASSES && !faults.is_empty();
     exit(if run.differences > 0 || incomplete { 1 } else { 0 });

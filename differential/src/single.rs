@@ -172,6 +172,7 @@ pub fn run(run: &mut Run, calls: usize) {
 /// The form as read by the model is that of the clauses one by one.
 fn check_clauses(run: &mut Run, image: &[u8]) {
     if image.len() == LENGTH && broken(&image[..CONTROL]).is_empty() != Control::read(image).is_some() {
-        run.report(&Request::Call(Call::State), &format!("the clauses of {:02X?} are not the model's form", &image[..CONTROL]));
+        let what = format!("the clauses of {:02X?} are not the model's form", &image[..CONTROL]);
+        run.report(&Request::Call(Call::State), &what);
     }
 }
