@@ -6,4 +6,4 @@ set -eu
 cd "$(dirname "$0")/.."
 [ -n "${NOLPIGAT_LIB_DIR-}" ] || [ -f target/staticlib/libabi.a ] || rt staticlib abi
 cargo build --release --offline --quiet -j1 --manifest-path differential/Cargo.toml
-exec differential/target/release/differential "${1:-1}" "${2:-3000000}"
+exec differential/target/release/differential "${1:-1}" "${2:-2500000}"
