@@ -1,7 +1,7 @@
 -- Laws of blocks: their bytes, the bit 'held', and their slots after a write. Assumes nothing.
 use mathlib.Core.Path.{_≡_, refl, sym, ap, _∙_}
 use mathlib.Core.Logic.{_⊎_, inl, inr, _≢_}
-use mathlib.Core.Bool.{Bool, true, false, _&&_, cond}
+use mathlib.Core.Bool.{Bool, true, false, _&&_, and-false, cond}
 use mathlib.Core.Option.{Option}
 use mathlib.Core.HLevel.{Σ-prop-path}
 use Prim.Native.Nat.{ℕ, zero, suc, _+_, _-_, _/_, _%_, _^_, _≤_, _<_}
@@ -12,12 +12,13 @@ use lib.ListN.{length, getD}
 use lib.Seq.{ext-getD}
 use borrow.Author.Tests.{eqb-true, eqb-false, ne-eqb, lt-ltb, ltb-true, le-leb, lt-leb, leb-true}
 use Rattle.lists.proofs.Bools.{eqb-self, split, and-l, and-r, never-true}
+use Rattle.lists.proofs.Counts.{below-none}
 use Rattle.lists.proofs.Tabulate.{at-tabulate}
 use Rattle.image.specs.Layout.{blockSize, slotCount, slotSize, slotStart, tranBound, valueBound, zeros}
 use Rattle.image.proofs.Zeros.{length-zeros, zeros-at}
 use Rattle.slot.specs.declared.Slot.{Slot}
 use Rattle.slot.specs.Words.{slotOf, wordOf, InRange, entryOf, lockedSlot, freedSlot}
-use Rattle.slot.specs.Blocks.{BlockBytes, byteIn, blockOfBytes, emptyBlock, ofList, freshBlock, isHeld, numberOf, byteOf, wordAt, slotAt, putSlot, lockSlot, endedByte, endSlots}
+use Rattle.slot.specs.Blocks.{BlockBytes, byteIn, blockOfBytes, emptyBlock, ofList, freshBlock, isHeld, numberOf, byteOf, wordAt, slotAt, putSlot, lockSlot, endedByte, endSlots, anyPicked, isPicked}
 use Rattle.slot.proofs.Words.{word-lt, slot-of-word, slot-in-range, locked-in-range, freed-in-range}
 
 -- Blocks are equal where their lists are, and where their bytes are.
@@ -178,6 +179,20 @@ unfolding endedByte
 ended-at take f x i j h k =
     let d : (j - 1) / slotSize ≡ i = omega arith in
     rw (lt-ltb 0 j (omega arith), d)
+
+-- a block in which none of them locks a slot stays as it is
+ended-none : (take : Bool) (f : ℕ → Bool) (x : BlockBytes) (j : ℕ) → anyPicked f x ≡ false → j < blockSize → endedByte take f x j ≡ byteIn x j
+unfolding endedByte anyPicked
+ended-none take f x zero h p = refl
+ended-none take f x (suc j) h p =
+    let i : ℕ = (suc j - 1) / slotSize in
+    let e : f (slotAt x i .lock) ≡ false = below-none slotCount (isPicked f x) i h (omega arith) in
+    ap (λ (t : Bool). cond (ltb 0 (suc j) && t) (byteOf (wordOf (freedSlot take (slotAt x i))) (suc j - slotStart i)) (byteIn x (suc j))) e
+    ∙ ap (λ (t : Bool). cond t (byteOf (wordOf (freedSlot take (slotAt x i))) (suc j - slotStart i)) (byteIn x (suc j))) (and-false (ltb 0 (suc j)))
+
+pub end-none : (take : Bool) (f : ℕ → Bool) (x : BlockBytes) → anyPicked f x ≡ false → endSlots take f x ≡ x
+unfolding endSlots
+end-none take f x h = block-ext (endSlots take f x) x (λ j p. byte-in (endedByte take f x) j p ∙ ended-none take f x j h p)
 
 pub slot-end : (take : Bool) (f : ℕ → Bool) (x : BlockBytes) (i : ℕ) → i < slotCount
     → slotAt (endSlots take f x) i ≡ cond (f (slotAt x i .lock)) (freedSlot take (slotAt x i)) (slotAt x i)

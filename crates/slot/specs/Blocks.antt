@@ -95,6 +95,13 @@ isLocked x i = not (eqb (slotAt x i .lock) 0)
 unfoldable pub anyLocked : BlockBytes → Bool
 anyLocked x = anyBelow slotCount (isLocked x)
 
+-- A transaction that f picks locks slot i; one of them locks some slot.
+abbrev pub isPicked : (ℕ → Bool) → BlockBytes → ℕ → Bool
+isPicked f x i = f (slotAt x i .lock)
+
+unfoldable pub anyPicked : (ℕ → Bool) → BlockBytes → Bool
+anyPicked f x = anyBelow slotCount (isPicked f x)
+
 -- Slot i has a committed value; how many slots have one.
 abbrev pub isCommitted : BlockBytes → ℕ → Bool
 isCommitted x i = slotAt x i .committed .present

@@ -19,6 +19,7 @@ ghost use Rattle.slot.specs.Words.{
 };
 ghost use Rattle.slot.specs.Blocks.{
   anyLocked,
+  anyPicked,
   committedCount,
   endSlots,
   endedSlot,
@@ -279,6 +280,21 @@ pub fn end_slots(block: [u8; 41], take: bool, set: u16) -> [u8; 41]
         i += 1;
     }
     y
+}
+
+// Whether a transaction of the set locks some slot.
+pub fn any_picked(block: [u8; 41], set: u16) -> bool
+    ensures { λ r. ⌜ r ≡ anyPicked (inSet set) (ofList block) ⌝ }
+{
+    let mut i = 0;
+    while i < SLOT_COUNT {
+        let s = slot_at(block, i);
+        if in_set(set, s.lock) {
+            return true;
+        }
+        i += 1;
+    }
+    false
 }
 
 // Whether a transaction locks some slot.

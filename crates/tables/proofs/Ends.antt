@@ -1,17 +1,21 @@
 -- The end of transactions in all tables: the loop of the code, and the rules' commit, rollback and fail. Assumes nothing.
 use Prim.Native.Nat.{_-_, _/_, _<_, ℕ}
+use native.Mathlib.Omega.{arith}
 use lib.Dec.{eqb, ltb}
 use mathlib.Core.Bool.{Bool, _&&_, cond, false, not, true}
 use mathlib.Core.List.{List}
 use mathlib.Core.Option.{Option, none, some}
 use mathlib.Core.Path.{_∙_, _≡_, ap, fun-ext, refl, sym}
-use Rattle.image.specs.Layout.{Whole, putBlock, slotSize, slotStart, tranBound}
+use lib.ListN.{length}
+use Rattle.lists.proofs.Segments.{length-segment, put-get}
+use Rattle.image.specs.Layout.{Whole, blockAddress, blockAt, blockCount, blockSize, cardCount, putBlock, slotSize}
+use Rattle.image.specs.Layout.{slotStart, tranBound}
 use Rattle.mask.specs.Masks.{Byte, hasCard, withoutCard}
 use Rattle.mask.proofs.Masks.{has-without}
-use Rattle.slot.specs.Blocks.{BlockBytes, blockOfBytes, byteIn, byteOf, emptyBlock, endSlots, endedByte, inSet, isHeld}
+use Rattle.slot.specs.Blocks.{BlockBytes, anyPicked, blockOfBytes, byteIn, byteOf, emptyBlock, endSlots, endedByte, inSet, isHeld}
 use Rattle.slot.specs.Blocks.{ofList, slotAt, wordAt}
 use Rattle.slot.specs.Words.{freedSlot, wordOf}
-use Rattle.slot.proofs.Blocks.{held-empty}
+use Rattle.slot.proofs.Blocks.{end-none, held-empty, of-list}
 use Rattle.slot.proofs.Words.{slot-in-range}
 use Rattle.method.specs.Rules.{dropHeld, endHeld, look, updated}
 use Rattle.cabinet_rules.specs.Cabinet.{cabinet}
@@ -35,6 +39,17 @@ module _ (on take : Bool) (f : ℕ → Bool) (x : List ℕ) (c b : ℕ) (g : Ima
   pub block-held : on ≡ true → isHeld (ofList x) ≡ true → putBlock g c b (endSlots take f (ofList x) .0) ≡ give (endBlock on take f x) c b g
   unfolding give endBlock
   block-held e h = rw (e, h)
+
+-- held, but none of them locks a slot: the block is written as it is found
+pub block-idle : (on take : Bool) (f : ℕ → Bool) (c b : ℕ) (g : Image) → Whole g → c < cardCount → b < blockCount → on ≡ true
+    → isHeld (ofList (blockAt g c b)) ≡ true → anyPicked f (ofList (blockAt g c b)) ≡ false → g ≡ give (endBlock on take f (blockAt g c b)) c b g
+unfolding putBlock blockAt
+block-idle on take f c b g long hc hb e h n =
+    let x : List ℕ = blockAt g c b in
+    let m : length x ≡ blockSize = length-segment g (blockAddress c b) blockSize (omega (arith, long)) in
+    sym (put-get g (blockAddress c b) blockSize (omega (arith, long)))
+    ∙ ap (putBlock g c b) (sym (ap (λ (y : BlockBytes). y .0) (end-none take f (ofList x) n ∙ of-list (x, m))))
+    ∙ block-held on take f x c b g e h
 
 -- ---- all blocks, as the loop goes through them
 abbrev pub endAt : Byte → Bool → (ℕ → Bool) → ℕ → ℕ → List ℕ → Option BlockBytes

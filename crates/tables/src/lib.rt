@@ -22,7 +22,8 @@ use image::CARD_COUNT;
 use image::Card;
 use image::Tran;
 
-// The transactions of the set end in block i % 64 of card i / 64, if the card is on and the block is held.
+// The transactions of the set end in block i % 64 of card i / 64, if the card is on and the block is held. Few blocks have
+// a slot that one of them locks; the others are not copied.
 fn end_block(image: &mut [u8], on: bool, i: usize, take: bool, set: u16)
     requires { ⌜ Whole (now image) × (i < sweepCount) ⌝ }
     ensures { λ _. ⌜ now (image .exit)
@@ -34,7 +35,9 @@ fn end_block(image: &mut [u8], on: bool, i: usize, take: bool, set: u16)
         let block = Block((i % BLOCK_COUNT) as u8);
         let bytes = image::get_block(image, card, block);
         if slot::is_held(bytes) {
-            image::put_block(image, card, block, slot::end_slots(bytes, take, set));
+            if slot::any_picked(bytes, set) {
+                image::put_block(image, card, block, slot::end_slots(bytes, take, set));
+            }
         }
     }
 }
