@@ -1,25 +1,7 @@
 //! The calls of the archive libabi.a, by the model's names of calls and answers.
 
 use model::{Answer, Call};
-
-extern "C" {
-    fn nolpigat_start(image: *mut u8, length: usize, mask: u8) -> u32;
-    fn nolpigat_begin(image: *mut u8, length: usize, transaction: u8, home: u8) -> u32;
-    fn nolpigat_get(image: *const u8, length: usize, transaction: u8, record: u16) -> u32;
-    fn nolpigat_store(image: *mut u8, length: usize, transaction: u8, record: u16, value: u16) -> u32;
-    fn nolpigat_delete(image: *mut u8, length: usize, transaction: u8, record: u16) -> u32;
-    fn nolpigat_commit(image: *mut u8, length: usize, transaction: u8) -> u32;
-    fn nolpigat_rollback(image: *mut u8, length: usize, transaction: u8) -> u32;
-    fn nolpigat_fit(image: *mut u8, length: usize, card: u8) -> u32;
-    fn nolpigat_withdraw(image: *mut u8, length: usize, card: u8) -> u32;
-    fn nolpigat_place(image: *mut u8, length: usize, mask: u8) -> u32;
-    fn nolpigat_fail(image: *mut u8, length: usize, card: u8) -> u32;
-    fn nolpigat_move(image: *mut u8, length: usize, card: u8, block: u8) -> u32;
-    fn nolpigat_settle(image: *mut u8, length: usize) -> u32;
-    fn nolpigat_state(image: *const u8, length: usize) -> u32;
-    fn nolpigat_load(image: *const u8, length: usize, card: u8) -> u32;
-    fn nolpigat_command(image: *mut u8, length: usize, bytes: *const u8, number: usize) -> u32;
-}
+use nolpigat::ffi::*;
 
 /// The code of the archive's answer. A block is a byte there.
 pub fn perform(image: &mut [u8], call: &Call) -> u32 {

@@ -1,4 +1,4 @@
-//! The archive's functions, as `include/nolpigat.h` declares them.
+//! The archive's functions, as `include/nolpigat.h` declares and describes them. Their answers are codes.
 
 extern "C" {
     pub fn nolpigat_start(image: *mut u8, length: usize, mask: u8) -> u32;

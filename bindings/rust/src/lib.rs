@@ -25,7 +25,8 @@
 #![deny(missing_docs)]
 
 mod answer;
-mod ffi;
+#[allow(missing_docs)]
+pub mod ffi;
 
 pub use answer::Answer;
 
