@@ -1,8 +1,9 @@
-// The store for callers in other languages: document 01's fifteen calls and a command's bytes, on an image that the caller
-// lends as a pointer and a length. An answer is one number of 32 bits.
+// The store for callers in other languages: document 01's fifteen calls and a command's bytes, on an image that the
+// caller lends as a pointer and a length. An answer is one number of 32 bits.
 ghost use mathlib.Core.Path.{_≡_};
 ghost use Prim.Native.Nat.{_<_};
-ghost use Rattle.method.specs.Rules.{begin, commit, delete, fail, fit, get, load, move, place, rollback, settle, start, state, store, withdraw};
+ghost use Rattle.method.specs.Rules.{begin, commit, delete, fail, fit, get, load, move, place, rollback, settle};
+ghost use Rattle.method.specs.Rules.{start, state, store, withdraw};
 ghost use Rattle.mask.specs.Masks.{byte};
 ghost use Rattle.promise.specs.Promise.{shown};
 ghost use Rattle.abi.specs.Codes.{Coded, CodedCommand, codeOf, coded};

@@ -15,8 +15,8 @@ use crate::text::put_hexes;
 use crate::text::put_word;
 use promise::Answer;
 
-// Digits of the greatest line number and letters of the longest answer; with two spaces and a newline, all of a line but
-// its command.
+// Digits of the greatest line number and letters of the longest answer; with two spaces and a newline, all of a line
+// but its command.
 const LONGEST_NUMBER: usize = 20;
 
 pub const LONGEST_ANSWER: usize = 11;
@@ -54,7 +54,8 @@ fn put_mask(out: &mut [u8], at: usize, mask: u8) -> usize
 // An answer in words.
 fn put_answer(out: &mut [u8], at: usize, answer: Answer) -> usize
     requires { ⌜ at + longestAnswer ≤ length (now out) ⌝ }
-    ensures { λ r. ⌜ Puts (words (shown answer)) (now (out .entry)) at r (now (out .exit)) × (r ≤ at + longestAnswer) ⌝ }
+    ensures { λ r. ⌜ Puts (words (shown answer)) (now (out .entry)) at r (now (out .exit))
+        × (r ≤ at + longestAnswer) ⌝ }
 {
     match answer {
         Answer::Ok => put_word(out, at, b"ok"),

@@ -16,10 +16,11 @@ use Rattle.lines.specs.Text.{Puts}
 abbrev pub lineOn : ℕ → List ℕ → Image → List ℕ
 lineOn n command g = line n command (commandAnswer command g)
 
--- One command was performed and its line put at the start of a buffer; with no room for the longest line nothing was.
-pub record Stepped (n : ℕ) (command out : List ℕ) (g : Image) (end : ℕ) (outBehind : List ℕ) (behind : Image) : Type 0 where
-  pub prints : Puts (cond (hasRoom out command) (lineOn n command g) []) out 0 end outBehind
-  pub leaves : behind ≡ cond (hasRoom out command) (commandNext command g) g
+-- One command was performed and its line put at the start of a buffer, which leaves it so; with no room for the longest
+-- line nothing was.
+pub record Stepped (n : ℕ) (command out : List ℕ) (g : Image) (end : ℕ) (left : List ℕ) (after : Image) : Type 0 where
+  pub prints : Puts (cond (hasRoom out command) (lineOn n command g) []) out 0 end left
+  pub leaves : after ≡ cond (hasRoom out command) (commandNext command g) g
 
 -- An input is one command after the other, five bytes each; the last may have fewer. Command i counts from 0.
 abbrev pub commandCount : List ℕ → ℕ
@@ -44,9 +45,9 @@ fits n input out =
     leb (commandCount input * longestLine commandSize) (length out) && leb (n + commandCount input) (2 ^ 64)
 
 -- All commands of an input were performed and their lines put at the start of a buffer; where they do not fit, none.
-pub record Ran (n : ℕ) (input out : List ℕ) (g : Image) (end : ℕ) (outBehind : List ℕ) (behind : Image) : Type 0 where
-  pub prints : Puts (cond (fits n input out) (listing n input g (commandCount input)) []) out 0 end outBehind
-  pub leaves : behind ≡ cond (fits n input out) (imageAfter input g (commandCount input)) g
+pub record Ran (n : ℕ) (input out : List ℕ) (g : Image) (end : ℕ) (left : List ℕ) (after : Image) : Type 0 where
+  pub prints : Puts (cond (fits n input out) (listing n input g (commandCount input)) []) out 0 end left
+  pub leaves : after ≡ cond (fits n input out) (imageAfter input g (commandCount input)) g
 
 -- An input may be read in parts, if each but the last has whole commands: its listing is the parts' listings, one after
 -- the other, each on the image that the part before it left.

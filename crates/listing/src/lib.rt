@@ -69,8 +69,8 @@ fn command_end(input: &[u8], start: usize) -> usize
 fn turn(image: &mut [u8], number: u64, input: &[u8], i: usize, out: &mut [u8], at: usize) -> usize
     requires { ⌜ i * commandSize < length (now input) ⌝ }
     requires { ⌜ at + longestLine commandSize ≤ length (now out) ⌝ }
-    ensures { λ r. ⌜ Puts (lineOn number (commandBytes (now (input .entry)) i) (now (image .entry))) (now (out .entry)) at r
-        (now (out .exit))
+    ensures { λ r. ⌜ Puts (lineOn number (commandBytes (now (input .entry)) i) (now (image .entry)))
+        (now (out .entry)) at r (now (out .exit))
         × (r ≤ at + longestLine commandSize)
         × (now (image .exit) ≡ commandNext (commandBytes (now (input .entry)) i) (now (image .entry))) ⌝ }
 {

@@ -22,8 +22,8 @@ use image::CARD_COUNT;
 use image::Card;
 use image::Tran;
 
-// The transactions of the set end in block i % 64 of card i / 64, if the card is on and the block is held. Few blocks have
-// a slot that one of them locks; the others are not copied.
+// The transactions of the set end in block i % 64 of card i / 64, if the card is on and the block is held. A block in
+// which none of them locks a slot is not written.
 fn end_block(image: &mut [u8], on: bool, i: usize, take: bool, set: u16)
     requires { ⌜ Whole (now image) × (i < sweepCount) ⌝ }
     ensures { λ _. ⌜ now (image .exit)
