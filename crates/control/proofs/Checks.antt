@@ -10,12 +10,12 @@ use borrow.Author.Tests.{not-true, not-false, lt-ltb, leb-true}
 use Rattle.lists.specs.Tests.{all, allBelow}
 use Rattle.lists.proofs.Bools.{and-l, and-r}
 use Rattle.lists.proofs.Counts.{all-fails}
-use Rattle.image.specs.Layout.{controlSize, tranBound}
+use Rattle.image.specs.Layout.{tranBound}
 use Rattle.mask.specs.Masks.{Byte, byte, isOneMore}
 use Rattle.mask.specs.Placements.{Placement, fromMask}
 use Rattle.method.specs.ControlPart.{active}
-use Rattle.control.specs.ControlBytes.{controlByte, countIn, homeIn, homeOf, placementsIn, controlOf}
-use Rattle.control.specs.ControlForm.{countOk, zeroFieldsOk, fourthOk, homeOk, controlForm}
+use Rattle.control.specs.ControlBytes.{countIn, homeIn, homeOf, placementsIn, controlOf}
+use Rattle.control.specs.ControlForm.{countOk, fourthOk, homeOk, controlForm}
 use Rattle.control.specs.Meaning.{structOf, maskIn, meaning, Counted, Is}
 use Rattle.control.specs.declared.Control.{Control}
 use Rattle.control.proofs.RoundTrip.{form-count}
@@ -103,9 +103,6 @@ module _ (k : Control) where
   homes-passed t e h = sym (homes-are ∙ ap (λ (n : ℕ). allBelow n (homeTest k)) e ∙ h)
 
 -- ---- bytes, and the struct that was read off them
-unfoldable pub byteTest : List ℕ → Control → ℕ → Bool
-byteTest l k n = eqb (getD l n 0) (controlByte (meaning k) n)
-
 module _ (l : List ℕ) (k : Control) (e : k ≡ structOf l) where
   count-is : k .count ≡ countIn (getD l 0 0)
   unfolding structOf
@@ -121,16 +118,6 @@ module _ (l : List ℕ) (k : Control) (e : k ≡ structOf l) where
       let lo : 1 ≤ n = leb-true 1 n (and-l (leb 1 n) (leb n 4) h) in
       let hi : n ≤ 4 = leb-true n 4 (and-r (leb 1 n) (leb n 4) h) in
       record { some = omega (arith, count-is); few = omega (arith, count-is) }
-
-  zeros-are : Counted k → zeroFieldsOk (λ n. getD l n 0) ≡ allBelow controlSize (byteTest l k)
-  unfolding zeroFieldsOk byteTest
-  zeros-are w = rw (means-is w)
-
-  pub byte-fails : Counted k → (i : ℕ) → i < controlSize → byteTest l k i ≡ false → false ≡ zeroFieldsOk (λ n. getD l n 0)
-  byte-fails w i h x = sym (zeros-are w ∙ all-fails (byteTest l k) controlSize i h x)
-
-  pub bytes-passed : Counted k → (i : ℕ) → controlSize ≡ i → allBelow i (byteTest l k) ≡ true → true ≡ zeroFieldsOk (λ n. getD l n 0)
-  bytes-passed w i x h = sym (zeros-are w ∙ ap (λ (n : ℕ). allBelow n (byteTest l k)) x ∙ h)
 
   -- Where the form holds, the struct is the control part that the bytes show.
   pub form-reads : controlForm l ≡ true → Is k (controlOf (λ n. getD l n 0))

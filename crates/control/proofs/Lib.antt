@@ -2,5 +2,6 @@ pub mod Struct
 pub mod Changes
 pub mod RoundTrip
 pub mod Checks
+pub mod ZeroFields
 pub mod Put
 pub mod FormTable

@@ -43,7 +43,7 @@ past-masks f (suc n) zero h = absurd (omega arith)
 past-masks f (suc n) (suc i) h = past-masks (λ i. f (suc i)) n i (omega arith)
 
 -- ---- what is read
-at-row : (l : List ℕ) (n a i : ℕ) → i < n → getD (rowOf l a n) i 0 ≡ getD l (a + i) 0
+pub at-row : (l : List ℕ) (n a i : ℕ) → i < n → getD (rowOf l a n) i 0 ≡ getD l (a + i) 0
 at-row l zero a i h = absurd (omega arith)
 at-row l (suc n) a zero h = ap (λ (j : ℕ). getD l j 0) e
   where

@@ -1,17 +1,18 @@
 -- What the code's struct means: the rules' control part. Assumes nothing.
 use mathlib.Core.Path.{_≡_}
-use mathlib.Core.Bool.{cond}
+use mathlib.Core.Bool.{Bool, _||_, cond}
 use mathlib.Core.List.{List, [], _∷_}
 use Prim.Native.Nat.{ℕ, zero, suc, _-_, _≤_}
-use lib.Dec.{leb}
+use lib.Dec.{eqb, leb, ltb}
 use lib.ListN.{getD}
+use Rattle.lists.specs.Tests.{allBelow}
 use Rattle.lists.specs.Tabulate.{tabulate}
 use Rattle.lists.specs.Segments.{splice}
 use Rattle.image.specs.Layout.{controlSize}
 use Rattle.mask.specs.Masks.{byte}
 use Rattle.mask.specs.Placements.{fromMask}
 use Rattle.method.specs.ControlPart.{isCard}
-use Rattle.control.specs.ControlBytes.{Part, controlByte, countIn, homeIn, homeOf, placementsIn, controlOf}
+use Rattle.control.specs.ControlBytes.{Part, homeByte, controlByte, countIn, homeIn, homeOf, placementsIn, controlOf}
 use Rattle.control.specs.ControlForm.{formRefusal}
 use Rattle.control.specs.declared.Control.{Control}
 use Rattle.control.specs.declared.Found.{Found}
@@ -64,6 +65,18 @@ pub record Is (k : Control) (part : Part) : Type 0 where
 -- A transaction's byte after what was begun at card c closed.
 unfoldable pub keptHome : ℕ → ℕ → ℕ
 keptHome c b = cond (isCard (homeIn b) c) 0 b
+
+-- Every number from a on and below e passes the test.
+unfoldable pub allFrom : ℕ → ℕ → (ℕ → Bool) → Bool
+allFrom a e f = allBelow e (λ n. ltb n a || f n)
+
+-- Byte n is zero.
+unfoldable pub isZeroAt : List ℕ → ℕ → Bool
+isZeroAt l n = eqb (getD l n 0) 0
+
+-- Byte n is a transaction's as it is written: all zero when not open, and else zero behind the home card.
+unfoldable pub isHomeAt : List ℕ → ℕ → Bool
+isHomeAt l n = eqb (getD l n 0) (homeByte (homeIn (getD l n 0)))
 
 -- The image with a whole new control part.
 unfoldable pub putControl : List ℕ → Part → List ℕ

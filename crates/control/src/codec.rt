@@ -14,15 +14,15 @@ use crate::MASK_COUNT;
 use crate::TRAN_COUNT;
 
 // Where the fields start; byte 0 has the stopped bit and the count, byte 7 and those from HOMES_END on are zero.
-const MASKS_AT: usize = 1;
+pub const MASKS_AT: usize = 1;
 
-const WORKING_AT: usize = MASKS_AT + MASK_COUNT;
+pub const WORKING_AT: usize = MASKS_AT + MASK_COUNT;
 
-const FAILED_AT: usize = WORKING_AT + 1;
+pub const FAILED_AT: usize = WORKING_AT + 1;
 
-const HOMES_AT: usize = FAILED_AT + 2;
+pub const HOMES_AT: usize = FAILED_AT + 2;
 
-const HOMES_END: usize = HOMES_AT + TRAN_COUNT;
+pub const HOMES_END: usize = HOMES_AT + TRAN_COUNT;
 
 // The highest bit: stopped in byte 0, open in a transaction's byte.
 const STOPPED: u8 = 0x80;
@@ -63,7 +63,7 @@ fn stopped_bit(stopped: bool) -> u8
 }
 
 // Byte n of the control part.
-pub fn byte_of(k: Control, n: usize) -> u8
+fn byte_of(k: Control, n: usize) -> u8
     requires { ⌜ Counted k ⌝ }
     ensures { λ r. ⌜ r ≡ controlByte (meaning k) n ⌝ }
 {

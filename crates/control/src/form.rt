@@ -1,14 +1,15 @@
 // The control form, a clause a function, and the reader that checks it.
 ghost use mathlib.Core.Path.{_≡_};
-ghost use mathlib.Core.Bool.{_||_};
+ghost use mathlib.Core.Bool.{true, _||_};
 ghost use Prim.Native.Nat.{_≤_};
+ghost use lib.Dec.{eqb};
 ghost use lib.ListN.{length, getD};
 ghost use Rattle.lists.specs.Tests.{all, allBelow};
 ghost use Rattle.image.specs.Layout.{controlSize, tranBound};
 ghost use Rattle.mask.specs.Masks.{byte, isWithin};
 ghost use Rattle.mask.specs.Placements.{fromMask};
 ghost use Rattle.method.specs.ControlPart.{active};
-ghost use Rattle.control.specs.ControlBytes.{homeIn};
+ghost use Rattle.control.specs.ControlBytes.{homeByte, homeIn};
 ghost use Rattle.control.specs.ControlForm.{
   countOk,
   zeroFieldsOk,
@@ -19,15 +20,19 @@ ghost use Rattle.control.specs.ControlForm.{
   partOk,
   controlForm,
 };
-ghost use Rattle.control.specs.Meaning.{structOf, meaning, Counted, Reads};
+ghost use Rattle.control.specs.Meaning.{structOf, meaning, allFrom, isZeroAt, isHomeAt, Counted, Reads};
 use crate::Control;
 use crate::Found;
 use crate::MOST_ACTIVE;
 use crate::TRAN_COUNT;
+use crate::codec::FAILED_AT;
 use crate::codec::FIELD;
 use crate::codec::FIELD_BOUND;
+use crate::codec::HOMES_AT;
+use crate::codec::HOMES_END;
+use crate::codec::MASKS_AT;
 use crate::codec::OPEN;
-use crate::codec::byte_of;
+use crate::codec::WORKING_AT;
 use crate::codec::decode;
 use crate::codec::home_of;
 use image::Card;
@@ -47,21 +52,67 @@ fn count_ok(s: &[u8]) -> bool
     count <= MOST_ACTIVE
 }
 
-// Zero fields are zero: the bytes are those of the control part that they show.
-fn zero_fields_ok(s: &[u8], k: Control) -> bool
-    requires { ⌜ controlSize ≤ length (now s) ⌝ }
-    requires { ⌜ Counted k ⌝ }
-    requires { ⌜ k ≡ structOf (now s) ⌝ }
-    ensures { λ r. ⌜ r ≡ zeroFieldsOk (λ n. getD (now (s .entry)) n 0) ⌝ }
+// The bytes from one on and below another are zero.
+fn zeros(s: &[u8], from: usize, end: usize) -> bool
+    requires { ⌜ end ≤ length (now s) ⌝ }
+    requires { ⌜ from ≤ end ⌝ }
+    ensures { λ r. ⌜ r ≡ allFrom from end (isZeroAt (now (s .entry))) ⌝ }
 {
-    let mut i = 0;
-    while i < image::CONTROL_SIZE {
-        if s[i] != byte_of(k, i) {
+    let mut i = from;
+    while i < end {
+        if s[i] != 0 {
             return false;
         }
         i += 1;
     }
     true
+}
+
+// A transaction's byte is all zero when not open, and else zero behind the home card.
+fn home_byte_ok(b: u8) -> bool
+    ensures { λ r. ⌜ r ≡ eqb b (homeByte (homeIn b)) ⌝ }
+{
+    if b < OPEN {
+        return b == 0;
+    }
+    b % FIELD == 0
+}
+
+// Every transaction's byte is so.
+fn home_bytes_ok(s: &[u8]) -> bool
+    requires { ⌜ controlSize ≤ length (now s) ⌝ }
+    ensures { λ r. ⌜ r ≡ allFrom 8 23 (isHomeAt (now (s .entry))) ⌝ }
+{
+    let mut i = HOMES_AT;
+    while i < HOMES_END {
+        if !home_byte_ok(s[i]) {
+            return false;
+        }
+        i += 1;
+    }
+    true
+}
+
+// Zero fields are zero. Masks that count, working and failed have none.
+fn zero_fields_ok(s: &[u8]) -> bool
+    requires { ⌜ controlSize ≤ length (now s) ⌝ }
+    requires { ⌜ countOk (λ n. getD (now s) n 0) ≡ true ⌝ }
+    ensures { λ r. ⌜ r ≡ zeroFieldsOk (λ n. getD (now (s .entry)) n 0) ⌝ }
+{
+    if s[0] % FIELD != 0 {
+        return false;
+    }
+    let count = s[0] / FIELD % FIELD_BOUND;
+    if !zeros(s, MASKS_AT + count as usize, WORKING_AT) {
+        return false;
+    }
+    if s[FAILED_AT + 1] != 0 {
+        return false;
+    }
+    if !home_bytes_ok(s) {
+        return false;
+    }
+    zeros(s, HOMES_END, image::CONTROL_SIZE)
 }
 
 // A placement with this mask has at least two members, all working or failed.
@@ -211,7 +262,7 @@ fn form_ok(s: &[u8], k: Control) -> bool
     if !count_ok(s) {
         return false;
     }
-    if !zero_fields_ok(s, k) {
+    if !zero_fields_ok(s) {
         return false;
     }
     part_ok(k)

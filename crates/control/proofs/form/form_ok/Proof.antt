@@ -16,7 +16,7 @@ returns c = rw (failed-is (c .before .count-ok .ensures) (c .if1 .taken))
 zero-fields-ok-requires : tie.Need-zero-fields-ok-requires
 zero-fields-ok-requires c κs =
     let s = c .before .before .before in
-    (s .pre .0, (count-counted (s .args .s .now) (s .args .k) (s .pre .1) (passed-is (c .before .count-ok .ensures) (c .if1 .left)), s .pre .1))
+    (s .pre .0, passed-is (c .before .count-ok .ensures) (c .if1 .left))
 
 returns-2 : tie.Need-returns-2
 unfolding formOk

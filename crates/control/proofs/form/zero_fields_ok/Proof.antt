@@ -1,71 +1,117 @@
 -- The proof of `form::zero_fields_ok`. Assumes nothing.
-use mathlib.Core.Path.{_≡_, refl, sym, _∙_}
-use mathlib.Core.Bool.{true}
-use Prim.Native.Nat.{_≤_, _-_}
+use mathlib.Core.Path.{_≡_}
+use mathlib.Core.Bool.{true, false}
+use mathlib.Core.List.{List}
+use Prim.Native.Nat.{ℕ}
 use native.Mathlib.Omega.{arith}
 use borrow.Author.Needs.{needs}
 use borrow.Author.Tests.{eq-eqb, ne-eqb}
-use Rattle.lists.specs.Tests.{allBelow}
-use Rattle.lists.proofs.Counts.{all-more}
-use Rattle.image.specs.Layout.{controlSize}
-use Rattle.control.proofs.Checks.{byteTest, byte-fails, bytes-passed}
+use lib.ListN.{getD}
+use Rattle.control.specs.Meaning.{isZeroAt}
+use Rattle.control.proofs.Checks.{failed-is, passed-is}
+use Rattle.control.proofs.ZeroFields.{count-few, zero-fields-by}
 use Rattle.control.proofs.form.zero_fields_ok.Statement.{statement}
 use Rattle.control.proofs.form.zero_fields_ok.Tie as tie
 
-abbrev Inv-loop : tie.InvT-loop
-Inv-loop s k i₀ i = (i ≤ controlSize) × (allBelow i (byteTest s k) ≡ true)
+zero-fails : (l : List ℕ) (n : ℕ) → (getD l n 0 ≡ 0 → ⊥) → isZeroAt l n ≡ false
+unfolding isZeroAt
+zero-fails l n h = ne-eqb (getD l n 0) 0 h
 
-abbrev μ-loop : tie.MeasureT-loop
-μ-loop s k i₀ i = controlSize - i
+zero-holds : (l : List ℕ) (n : ℕ) → getD l n 0 ≡ 0 → isZeroAt l n ≡ true
+unfolding isZeroAt
+zero-holds l n h = eq-eqb (getD l n 0) 0 h
 
-loop-holds : tie.Need-loop-holds Inv-loop μ-loop
-loop-holds c = (search needs, refl)
-
-shared-slice-read-if1 : tie.Need-shared-slice-read-if1 Inv-loop μ-loop
+shared-slice-read-if1 : tie.Need-shared-slice-read-if1
 shared-slice-read-if1 c = search needs
 
-byte-of-requires : tie.Need-byte-of-requires Inv-loop μ-loop
-byte-of-requires c κs = c .before .before .before .before .pre .1 .0
-
-returns : tie.Need-returns Inv-loop μ-loop
+returns : tie.Need-returns
 returns c =
-    let l = c .before .before .before .before .loop in
-    let s = c .before .before .before .before .before .before in
-    byte-fails (s .args .s .now) (s .args .k) (s .pre .1 .1) (s .pre .1 .0) (l .i) (omega arith)
-    (unfold byteTest in (ne-eqb _ _ (λ e. c .if1 .taken (e ∙ sym (c .before .byte-of .ensures)))))
+    let a = c .before .before in
+    rw (zero-fields-by (a .before .args .s .now) (a .before .pre .1) (λ n. a .shared-slice-known .given n .fits), ne-eqb _ _ (c .if1 .taken))
 
-add-i : tie.Need-add-i Inv-loop μ-loop
-add-i c = search needs
+shared-slice-read-count : tie.Need-shared-slice-read-count
+shared-slice-read-count c = search needs
 
-loop-less : tie.Need-loop-less Inv-loop μ-loop
-loop-less c = search needs
+cast-zeros : tie.Need-cast-zeros
+cast-zeros c = search needs
 
-loop-again : tie.Need-loop-again Inv-loop μ-loop
-loop-again c =
-    let l = c .before .before .before .before .loop in
-    let s = c .before .before .before .before .before .before in (
-      omega arith,
-      all-more (byteTest (s .args .s .now) (s .args .k)) (l .i)
-          (unfold byteTest in (eq-eqb _ _ (c .if1 .left ∙ c .before .byte-of .ensures))) (l .inv .1),
+add-zeros : tie.Need-add-zeros
+add-zeros c = search needs
+
+zeros-requires : tie.Need-zeros-requires
+zeros-requires c κs =
+    let s = c .before .before .before .before in
+    (omega (arith, s .pre .0), omega (arith, count-few (s .args .s .now) (s .pre .1)))
+
+returns-2 : tie.Need-returns-2
+returns-2 c =
+    let a = c .before .before .before .before .before in
+    rw (
+      zero-fields-by (a .before .args .s .now) (a .before .pre .1) (λ n. a .shared-slice-known .given n .fits),
+      eq-eqb _ _ (c .before .before .before .if1 .left),
+      failed-is (c .before .zeros .ensures) (c .if2 .taken),
     )
 
-returns-2 : tie.Need-returns-2 Inv-loop μ-loop
-returns-2 c =
-    let l = c .before .loop in
-    let s = c .before .before .before in
-    bytes-passed (s .args .s .now) (s .args .k) (s .pre .1 .1) (s .pre .1 .0) (l .i) (omega arith) (l .inv .1)
+add-if3 : tie.Need-add-if3
+add-if3 c = search needs
+
+shared-slice-read-if3 : tie.Need-shared-slice-read-if3
+shared-slice-read-if3 c = search needs
+
+returns-3 : tie.Need-returns-3
+returns-3 c =
+    let a = c .before .before .before .before .before .before .before in
+    rw (
+      zero-fields-by (a .before .args .s .now) (a .before .pre .1) (λ n. a .shared-slice-known .given n .fits),
+      eq-eqb _ _ (c .before .before .before .before .before .if1 .left),
+      passed-is (c .before .before .before .zeros .ensures) (c .before .before .if2 .left),
+      zero-fails _ _ (c .if3 .taken),
+    )
+
+home-bytes-ok-requires : tie.Need-home-bytes-ok-requires
+home-bytes-ok-requires c κs = search needs
+
+returns-4 : tie.Need-returns-4
+returns-4 c =
+    let a = c .before .before .before .before .before .before .before .before .before in
+    rw (
+      zero-fields-by (a .before .args .s .now) (a .before .pre .1) (λ n. a .shared-slice-known .given n .fits),
+      eq-eqb _ _ (c .before .before .before .before .before .before .before .if1 .left),
+      passed-is (c .before .before .before .before .before .zeros .ensures) (c .before .before .before .before .if2 .left),
+      zero-holds _ _ (c .before .before .if3 .left),
+      failed-is (c .before .home-bytes-ok .ensures) (c .if4 .taken),
+    )
+
+zeros-requires-2 : tie.Need-zeros-requires-2
+zeros-requires-2 c κs = search needs
+
+returns-5 : tie.Need-returns-5
+returns-5 c =
+    let a = c .before .before .before .before .before .before .before .before .before .before in
+    rw (
+      zero-fields-by (a .before .args .s .now) (a .before .pre .1) (λ n. a .shared-slice-known .given n .fits),
+      eq-eqb _ _ (c .before .before .before .before .before .before .before .before .if1 .left),
+      passed-is (c .before .before .before .before .before .before .zeros .ensures) (c .before .before .before .before .before .if2 .left),
+      zero-holds _ _ (c .before .before .before .if3 .left),
+      passed-is (c .before .before .home-bytes-ok .ensures) (c .before .if4 .left),
+    )
+    (c .zeros2 .ensures)
 
 pub zero-fields-ok-spec : {M : Type 1} → statement M
 zero-fields-ok-spec =
     tie.close
     (tie.spec
-    Inv-loop
-    μ-loop
-    loop-holds
     shared-slice-read-if1
-    byte-of-requires
     returns
-    add-i
-    loop-less
-    loop-again
-    returns-2)
+    shared-slice-read-count
+    cast-zeros
+    add-zeros
+    zeros-requires
+    returns-2
+    add-if3
+    shared-slice-read-if3
+    returns-3
+    home-bytes-ok-requires
+    returns-4
+    zeros-requires-2
+    returns-5)
