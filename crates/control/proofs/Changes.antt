@@ -121,7 +121,7 @@ module _ (k : Control) (w : Counted k) where
   cards-are x y p q ep eq = record { counted = record { some = w .some; few = w .few }; means = ap₂ (withCards (meaning k)) ep eq }
 
 -- No transaction is open where all bytes are zero.
-at-zeros : (n i : ℕ) → _≡_ {A = ℕ} (getD (replicate n 0) i 0) 0
+pub at-zeros : (n i : ℕ) → _≡_ {A = ℕ} (getD (replicate n 0) i 0) 0
 at-zeros zero i = refl
 at-zeros (suc n) zero = refl
 at-zeros (suc n) (suc i) = at-zeros n i

@@ -1,6 +1,6 @@
 -- What is read means what the rules read, and the struct's bytes are the rules' bytes. Assumes nothing.
-use mathlib.Core.Path.{_≡_, refl, sym, ap, ap₂, _∙_, fun-ext}
-use mathlib.Core.Logic.{_⊎_, inl, inr}
+use mathlib.Core.Path.{_≡_, refl, sym, ap, ap₂, subst, _∙_, fun-ext}
+use mathlib.Core.Logic.{_⊎_, inl, inr, ⊎-elim}
 use mathlib.Core.Bool.{Bool, true, false, _&&_, cond}
 use mathlib.Core.List.{List, [], _∷_, _++_}
 use Prim.Native.Nat.{ℕ, zero, suc, _+_, _-_, _*_, _%_, _≤_, _<_}
@@ -10,6 +10,7 @@ use lib.Dec.{leb, ltb}
 use lib.ListN.{getD, length}
 use borrow.Author.Tests.{ne-eqb, ltb-true, lt-ltb, le-ltb}
 use Rattle.lists.proofs.Bools.{split, and-l, and-r}
+use Rattle.lists.proofs.Cases.{lt-or-ge}
 use Rattle.image.specs.Layout.{tranBound}
 use Rattle.mask.specs.Masks.{byte}
 use Rattle.mask.specs.Placements.{Placement, fromMask}
@@ -126,6 +127,20 @@ module _ (k : Control) (w : Counted k) where
   pub byte-unused : (n : ℕ) → 0 < n → n < 5 → k .count < n → 0 ≡ controlByte (meaning k) n
   byte-unused n lo hi h = sym (mask-byte n lo hi ∙ past-masks (maskIn k) (k .count) (n - 1) (omega arith))
 
+  -- mask i, zero from the count on
+  pub byte-mask-at : (i : ℕ) → i < 4 → maskIn k i < 256 → cond (ltb i (k .count)) (maskIn k i) 0 ≡ controlByte (meaning k) (1 + i)
+  byte-mask-at i h b = ⊎-elim counts unused (lt-or-ge i (k .count))
+    where
+      e : i ≡ 1 + i - 1
+      e = omega arith
+
+      counts : i < k .count → cond (ltb i (k .count)) (maskIn k i) 0 ≡ controlByte (meaning k) (1 + i)
+      counts p = rw (lt-ltb i (k .count) p) (ap (maskIn k) e
+          ∙ byte-mask (1 + i) (omega arith) (omega arith) (omega arith) (subst (λ (j : ℕ). maskIn k j < 256) e b))
+
+      unused : k .count ≤ i → cond (ltb i (k .count)) (maskIn k i) 0 ≡ controlByte (meaning k) (1 + i)
+      unused p = rw (le-ltb i (k .count) p) (byte-unused (1 + i) (omega arith) (omega arith) (omega arith))
+
   pub byte-working : k .working < 256 → k .working ≡ controlByte (meaning k) 5
   unfolding controlByte meaning
   byte-working h = sym (mod-eq-of-lt h)
@@ -150,6 +165,12 @@ module _ (k : Control) (w : Counted k) where
       (ap (λ (i : ℕ). homeByte (homeIn (getD (k .homes) i 0))) e)
     where
       e : n - 8 ≡ n - 7 - 1
+      e = omega arith
+
+  pub byte-home-at : (i : ℕ) → i < 15 → homeByte (homeIn (getD (k .homes) i 0)) ≡ controlByte (meaning k) (8 + i)
+  byte-home-at i h = ap (λ (j : ℕ). homeByte (homeIn (getD (k .homes) j 0))) e ∙ byte-home (8 + i) (omega arith) (omega arith)
+    where
+      e : i ≡ 8 + i - 8
       e = omega arith
 
   pub byte-zero : (n : ℕ) → (n ≡ 7) ⊎ (23 ≤ n) → 0 ≡ controlByte (meaning k) n

@@ -12,7 +12,16 @@ use Rattle.image.specs.Layout.{controlSize}
 use Rattle.mask.specs.Masks.{byte}
 use Rattle.mask.specs.Placements.{fromMask}
 use Rattle.method.specs.ControlPart.{isCard}
-use Rattle.control.specs.ControlBytes.{Part, homeByte, controlByte, countIn, homeIn, homeOf, placementsIn, controlOf}
+use Rattle.control.specs.ControlBytes.{
+  Part,
+  homeByte,
+  controlByte,
+  countIn,
+  homeIn,
+  homeOf,
+  placementsIn,
+  controlOf,
+}
 use Rattle.control.specs.ControlForm.{formRefusal}
 use Rattle.control.specs.declared.Control.{Control}
 use Rattle.control.specs.declared.Found.{Found}

@@ -3,6 +3,7 @@ ghost use mathlib.Core.Path.{_≡_};
 ghost use mathlib.Core.Bool.{true, cond};
 ghost use mathlib.Core.Option.{some};
 ghost use Prim.Native.Nat.{_≤_, _<_};
+ghost use lib.Dec.{ltb};
 ghost use lib.ListN.{length};
 ghost use Rattle.lists.specs.Tabulate.{tabulate};
 ghost use Rattle.image.specs.Layout.{cardCount, controlSize};
@@ -13,14 +14,17 @@ use crate::Control;
 use crate::MASK_COUNT;
 use crate::TRAN_COUNT;
 
-// Where the fields start; byte 0 has the stopped bit and the count, byte 7 and those from HOMES_END on are zero.
+// Where the fields start; byte 0 has the stopped bit and the count. The spare byte and those from HOMES_END on are
+// zero.
 pub const MASKS_AT: usize = 1;
 
 pub const WORKING_AT: usize = MASKS_AT + MASK_COUNT;
 
-pub const FAILED_AT: usize = WORKING_AT + 1;
+const FAILED_AT: usize = WORKING_AT + 1;
 
-pub const HOMES_AT: usize = FAILED_AT + 2;
+pub const SPARE_AT: usize = FAILED_AT + 1;
+
+pub const HOMES_AT: usize = SPARE_AT + 1;
 
 pub const HOMES_END: usize = HOMES_AT + TRAN_COUNT;
 
@@ -62,33 +66,12 @@ fn stopped_bit(stopped: bool) -> u8
     0
 }
 
-// Byte n of the control part.
-fn byte_of(k: Control, n: usize) -> u8
-    requires { ⌜ Counted k ⌝ }
-    ensures { λ r. ⌜ r ≡ controlByte (meaning k) n ⌝ }
+// The byte of mask i, zero from the count on.
+fn mask_byte(count: u8, i: usize, mask: u8) -> u8
+    ensures { λ r. ⌜ r ≡ cond (ltb i count) mask 0 ⌝ }
 {
-    if n < MASKS_AT {
-        return stopped_bit(k.stopped) + k.count * FIELD;
-    }
-    if n < WORKING_AT {
-        let i = n - MASKS_AT;
-        if i < k.count as usize {
-            return k.masks[i];
-        }
-        return 0;
-    }
-    if n == WORKING_AT {
-        return k.working;
-    }
-    if n == FAILED_AT {
-        return k.failed;
-    }
-    if n < HOMES_AT {
-        return 0;
-    }
-    if n < HOMES_END {
-        let i = n - HOMES_AT;
-        return home_byte(k.homes[i]);
+    if i < count as usize {
+        return mask;
     }
     0
 }
@@ -99,10 +82,18 @@ pub fn encode(k: Control) -> [u8; image::CONTROL_SIZE]
     ensures { λ r. ⌜ r ≡ tabulate controlSize (controlByte (meaning k)) ⌝ }
 {
     let mut bytes = [0u8; image::CONTROL_SIZE];
+    bytes[0] = stopped_bit(k.stopped) + k.count * FIELD;
     let mut i = 0;
-    while i < image::CONTROL_SIZE {
-        bytes[i] = byte_of(k, i);
+    while i < MASK_COUNT {
+        bytes[MASKS_AT + i] = mask_byte(k.count, i, k.masks[i]);
         i += 1;
+    }
+    bytes[WORKING_AT] = k.working;
+    bytes[FAILED_AT] = k.failed;
+    let mut t = 0;
+    while t < TRAN_COUNT {
+        bytes[HOMES_AT + t] = home_byte(k.homes[t]);
+        t += 1;
     }
     bytes
 }

@@ -25,13 +25,13 @@ use crate::Control;
 use crate::Found;
 use crate::MOST_ACTIVE;
 use crate::TRAN_COUNT;
-use crate::codec::FAILED_AT;
 use crate::codec::FIELD;
 use crate::codec::FIELD_BOUND;
 use crate::codec::HOMES_AT;
 use crate::codec::HOMES_END;
 use crate::codec::MASKS_AT;
 use crate::codec::OPEN;
+use crate::codec::SPARE_AT;
 use crate::codec::WORKING_AT;
 use crate::codec::decode;
 use crate::codec::home_of;
@@ -106,7 +106,7 @@ fn zero_fields_ok(s: &[u8]) -> bool
     if !zeros(s, MASKS_AT + count as usize, WORKING_AT) {
         return false;
     }
-    if s[FAILED_AT + 1] != 0 {
+    if s[SPARE_AT] != 0 {
         return false;
     }
     if !home_bytes_ok(s) {

@@ -1,56 +1,120 @@
 -- The proof of `codec::encode`. Assumes nothing.
-use mathlib.Core.Path.{_≡_, refl, sym, ap, _∙_}
-use Prim.Native.Nat.{ℕ, _≤_, _<_, _-_}
-use native.Mathlib.Nat.{not-suc-le-zero}
+use mathlib.Core.Path.{_≡_, refl, ap, subst, _∙_}
+use mathlib.Core.Logic.{inl, inr}
+use Prim.Native.Nat.{ℕ, _+_, _*_, _-_, _≤_}
 use native.Mathlib.Omega.{arith}
+use mir.Syntax.{w8}
+use mir.Val.{Fits}
 use borrow.Author.Needs.{needs}
-use lib.ListN.{length, set, getD, length-set}
-use lib.Seq.{ext-getD}
-use Rattle.lists.specs.Tabulate.{tabulate}
-use Rattle.lists.proofs.Tabulate.{length-tabulate, at-tabulate}
-use Rattle.lists.proofs.Segments.{fill-more}
-use Rattle.image.specs.Layout.{controlSize}
 use Rattle.control.specs.ControlBytes.{controlByte}
-use Rattle.control.specs.Meaning.{meaning}
+use Rattle.control.specs.Meaning.{maskIn, meaning}
+use Rattle.control.proofs.Struct.{byte-first, byte-mask-at, byte-working, byte-failed, byte-home-at, byte-zero, bit-le}
+use Rattle.control.proofs.Written.{Written, none-written, one-written, zero-written, all-written}
 use Rattle.control.proofs.codec.encode.Statement.{statement}
 use Rattle.control.proofs.codec.encode.Tie as tie
 
 abbrev Inv-loop : tie.InvT-loop
-Inv-loop k bytes₀ i₀ bytes i = (i ≤ controlSize) × (length bytes ≡ controlSize) × ((j : ℕ) → j < i → getD bytes j 0 ≡ controlByte (meaning k) j)
+Inv-loop k bytes₀ i₀ bytes i = (i ≤ 4) × Written (controlByte (meaning k)) (1 + i) bytes
 
 abbrev μ-loop : tie.MeasureT-loop
-μ-loop k bytes₀ i₀ bytes i = controlSize - i
+μ-loop k bytes₀ i₀ bytes i = 4 - i
 
-loop-holds : tie.Need-loop-holds Inv-loop μ-loop
-loop-holds c = (search needs, refl, λ k h. absurd (not-suc-le-zero h))
+abbrev Inv-loop2 : tie.InvT-loop2
+Inv-loop2 k bytes₀ i t₀ bytes t = (t ≤ 15) × Written (controlByte (meaning k)) (8 + t) bytes
 
-byte-of-requires : tie.Need-byte-of-requires Inv-loop μ-loop
-byte-of-requires c κs = search needs
+abbrev μ-loop2 : tie.MeasureT-loop2
+μ-loop2 k bytes₀ i t₀ bytes t = 15 - t
 
-array-write-bytes : tie.Need-array-write-bytes Inv-loop μ-loop
+stopped-bit-requires : tie.Need-stopped-bit-requires Inv-loop μ-loop Inv-loop2 μ-loop2
+stopped-bit-requires c κs = search needs
+
+mul-bytes : tie.Need-mul-bytes Inv-loop μ-loop Inv-loop2 μ-loop2
+mul-bytes c = search needs
+
+add-bytes : tie.Need-add-bytes Inv-loop μ-loop Inv-loop2 μ-loop2
+add-bytes c = omega (arith, c .stopped-bit .ensures, bit-le (c .before .args .t1 .stopped))
+
+array-write-bytes : tie.Need-array-write-bytes Inv-loop μ-loop Inv-loop2 μ-loop2
 array-write-bytes c = search needs
 
-add-i : tie.Need-add-i Inv-loop μ-loop
+loop-holds : tie.Need-loop-holds Inv-loop μ-loop Inv-loop2 μ-loop2
+loop-holds c =
+    let s = c .before in
+    let first = ap (λ (x : ℕ). x + s .args .t1 .count * 16) (c .stopped-bit .ensures) ∙ byte-first (s .args .t1) (s .pre) in
+    (search needs, one-written _ 0 1 _ _ (none-written _) (omega arith) (omega arith) first)
+
+element-copy-out-mask-byte : tie.Need-element-copy-out-mask-byte Inv-loop μ-loop Inv-loop2 μ-loop2
+element-copy-out-mask-byte c = search needs
+
+mask-byte-requires : tie.Need-mask-byte-requires Inv-loop μ-loop Inv-loop2 μ-loop2
+mask-byte-requires c κs = search needs
+
+add-bytes-2 : tie.Need-add-bytes-2 Inv-loop μ-loop Inv-loop2 μ-loop2
+add-bytes-2 c = search needs
+
+array-write-bytes-2 : tie.Need-array-write-bytes-2 Inv-loop μ-loop Inv-loop2 μ-loop2
+array-write-bytes-2 c = search needs
+
+add-i : tie.Need-add-i Inv-loop μ-loop Inv-loop2 μ-loop2
 add-i c = search needs
 
-loop-less : tie.Need-loop-less Inv-loop μ-loop
+loop-less : tie.Need-loop-less Inv-loop μ-loop Inv-loop2 μ-loop2
 loop-less c = search needs
 
-loop-again : tie.Need-loop-again Inv-loop μ-loop
+loop-again : tie.Need-loop-again Inv-loop μ-loop Inv-loop2 μ-loop2
 loop-again c =
-    let l = c .before .before .loop in
-    let f : ℕ → ℕ = controlByte (meaning (c .before .before .before .args .k)) in (
-      omega arith,
-      simp length-set (l .inv .1),
-      λ j h. ap (λ (v : ℕ). getD (set (l .bytes) (l .i) v) j 0) (c .byte-of .ensures) ∙ fill-more f (l .bytes) (l .i) (omega arith) (l .inv .2) j h,
-    )
+    let l = c .before .before .before .loop in
+    let s = c .before .before .before .before .before in
+    let f : Fits w8 (maskIn (s .args .t1) (l .i)) = search needs in
+    let mask = c .mask-byte .ensures ∙ byte-mask-at (s .args .t1) (s .pre) (l .i) (omega arith) (f .fits) in
+    (omega arith, one-written _ (1 + l .i) (1 + (l .i + 1)) (l .bytes) _ (l .inv .1) (omega arith) (omega arith) mask)
 
-returns : tie.Need-returns Inv-loop μ-loop
-returns c =
+array-write-bytes-3 : tie.Need-array-write-bytes-3 Inv-loop μ-loop Inv-loop2 μ-loop2
+array-write-bytes-3 c = search needs
+
+array-write-bytes-4 : tie.Need-array-write-bytes-4 Inv-loop μ-loop Inv-loop2 μ-loop2
+array-write-bytes-4 c = search needs
+
+loop2-holds : tie.Need-loop2-holds Inv-loop μ-loop Inv-loop2 μ-loop2
+loop2-holds c =
     let l = c .before .loop in
-    let f : ℕ → ℕ = controlByte (meaning (c .before .before .args .k)) in
-    ext-getD 0 (l .bytes) (tabulate controlSize f) (omega (arith, length-tabulate controlSize f))
-    (λ j h. l .inv .2 j (omega arith) ∙ sym (at-tabulate controlSize f j (omega arith)))
+    let s = c .before .before .before in
+    let five : 1 + l .i ≡ 5 = omega arith in
+    let masks = subst (λ (m : ℕ). Written (controlByte (meaning (s .args .t1))) m (l .bytes)) five (l .inv .1) in
+    let working = one-written _ 5 6 (l .bytes) _ masks (omega arith) (omega arith) (byte-working (s .args .t1) (s .pre) (search needs)) in
+    let failed = one-written _ 6 7 _ _ working (omega arith) (omega arith) (byte-failed (s .args .t1) (s .pre) (search needs)) in
+    (search needs, zero-written _ 7 8 _ failed (omega arith) (byte-zero (s .args .t1) (s .pre) 7 (inl refl)))
+
+element-copy-out-home-byte : tie.Need-element-copy-out-home-byte Inv-loop μ-loop Inv-loop2 μ-loop2
+element-copy-out-home-byte c = search needs
+
+home-byte-requires : tie.Need-home-byte-requires Inv-loop μ-loop Inv-loop2 μ-loop2
+home-byte-requires c κs = search needs
+
+add-bytes-3 : tie.Need-add-bytes-3 Inv-loop μ-loop Inv-loop2 μ-loop2
+add-bytes-3 c = search needs
+
+array-write-bytes-5 : tie.Need-array-write-bytes-5 Inv-loop μ-loop Inv-loop2 μ-loop2
+array-write-bytes-5 c = search needs
+
+add-t : tie.Need-add-t Inv-loop μ-loop Inv-loop2 μ-loop2
+add-t c = search needs
+
+loop2-less : tie.Need-loop2-less Inv-loop μ-loop Inv-loop2 μ-loop2
+loop2-less c = search needs
+
+loop2-again : tie.Need-loop2-again Inv-loop μ-loop Inv-loop2 μ-loop2
+loop2-again c =
+    let l = c .before .before .before .loop2 in
+    let s = c .before .before .before .before .before .before .before in
+    let home = c .home-byte .ensures ∙ byte-home-at (s .args .t1) (s .pre) (l .t) (omega arith) in
+    (omega arith, one-written _ (8 + l .t) (8 + (l .t + 1)) (l .bytes) _ (l .inv .1) (omega arith) (omega arith) home)
+
+returns : tie.Need-returns Inv-loop μ-loop Inv-loop2 μ-loop2
+returns c =
+    let l = c .before .loop2 in
+    let s = c .before .before .before .before .before in
+    all-written _ (8 + l .t) (l .bytes) (l .inv .1) (λ j h. byte-zero (s .args .t1) (s .pre) j (inr (omega arith)))
 
 pub encode-spec : {M : Type 1} → statement M
 encode-spec =
@@ -58,10 +122,28 @@ encode-spec =
     (tie.spec
     Inv-loop
     μ-loop
-    loop-holds
-    byte-of-requires
+    Inv-loop2
+    μ-loop2
+    stopped-bit-requires
+    mul-bytes
+    add-bytes
     array-write-bytes
+    loop-holds
+    element-copy-out-mask-byte
+    mask-byte-requires
+    add-bytes-2
+    array-write-bytes-2
     add-i
     loop-less
     loop-again
+    array-write-bytes-3
+    array-write-bytes-4
+    loop2-holds
+    element-copy-out-home-byte
+    home-byte-requires
+    add-bytes-3
+    array-write-bytes-5
+    add-t
+    loop2-less
+    loop2-again
     returns)

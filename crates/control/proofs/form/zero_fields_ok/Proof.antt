@@ -52,9 +52,6 @@ returns-2 c =
       failed-is (c .before .zeros .ensures) (c .if2 .taken),
     )
 
-add-if3 : tie.Need-add-if3
-add-if3 c = search needs
-
 shared-slice-read-if3 : tie.Need-shared-slice-read-if3
 shared-slice-read-if3 c = search needs
 
@@ -108,7 +105,6 @@ zero-fields-ok-spec =
     add-zeros
     zeros-requires
     returns-2
-    add-if3
     shared-slice-read-if3
     returns-3
     home-bytes-ok-requires
