@@ -32,17 +32,17 @@ head n command = decimal n ++ text " " ++ hexBytes command ++ text " "
 unfoldable pub line : ℕ → List ℕ → Answer cabinet → List ℕ
 line n command a = head n command ++ words a ++ text "\n"
 
--- The longest line has a number of 20 digits, two digits for each byte, an answer of 11 letters, two spaces and a
--- newline.
+-- The longest answer has 11 letters. The words of an answer in a buffer: none where that one has no room.
 abbrev pub longestAnswer : ℕ
 longestAnswer = 11
 
--- The words of an answer in a buffer: none where the longest answer has no room.
 unfoldable pub wordsIn : List ℕ → Answer cabinet → List ℕ
 wordsIn out a = cond (leb longestAnswer (length out)) (words a) []
 
+-- The longest line has a number of 20 digits, two digits for each byte, the longest answer, two spaces and a newline.
 abbrev pub longestLine : ℕ → ℕ
 longestLine bytes = 20 + 1 + 2 * bytes + 1 + longestAnswer + 1
 
+-- A buffer has room for any line of this command.
 unfoldable pub hasRoom : List ℕ → List ℕ → Bool
 hasRoom out command = leb (longestLine (length command)) (length out)

@@ -36,8 +36,8 @@ decimalWithin (suc k) n = cond (ltb n 10) (glyph n ∷ []) (decimalWithin k (n /
 unfoldable pub decimal : ℕ → List ℕ
 decimal n = decimalWithin n n
 
--- The text is put into a lent buffer at this index, and the answer is the index behind it: "answers the number of bytes
--- written and leaves the rest" where the index is 0.
+-- A text is put into a lent buffer at an index, and the answer is the index behind it. At index 0 this is "answers the
+-- number of bytes written and leaves the rest".
 pub record Puts (t before : List ℕ) (at end : ℕ) (behind : List ℕ) : Type 0 where
   pub ends : end ≡ at + length t
   pub leaves : behind ≡ splice before at t
