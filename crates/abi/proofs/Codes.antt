@@ -5,7 +5,6 @@ use Prim.Native.Nat.{_%_, _/_, _<_, ℕ}
 use native.Mathlib.Omega.{arith}
 use lib.ListN.{getD}
 use Rattle.mask.specs.Masks.{Byte}
-use Rattle.mask.specs.Placements.{fromMask}
 use Rattle.mask.proofs.Masks.{byte-of}
 use Rattle.method.specs.Rules.{Answer, Call, absent, copied, loaded, ok, placed, protected, refused, retired, stops}
 use Rattle.method.specs.Rules.{unplaced, unprotected, value}
@@ -31,7 +30,7 @@ unfolding kindOf numberOf
 entry ok = refl
 entry (value n) = refl
 entry absent = refl
-entry (placed p) = ap (λ (m : Byte). placed (fromMask m)) (byte-of (p .mask))
+entry (placed m) = ap (λ (x : Byte). placed x) (byte-of m)
 entry unplaced = refl
 entry stops = refl
 entry (copied n) = refl

@@ -4,7 +4,6 @@ use lib.ListN.{getD}
 use mathlib.Core.List.{List, _∷_, []}
 use mathlib.Core.Path.{_≡_}
 use Rattle.mask.specs.Masks.{byte}
-use Rattle.mask.specs.Placements.{fromMask}
 use Rattle.method.specs.Rules.{Answer, Call, absent, copied, loaded, ok, placed, protected, refused, retired, stops}
 use Rattle.method.specs.Rules.{unplaced, unprotected, value}
 use Rattle.cabinet_rules.specs.Cabinet.{cabinet}
@@ -16,7 +15,7 @@ unfoldable pub kindOf : Answer cabinet → ℕ
 kindOf ok = 0
 kindOf (value n) = 1
 kindOf absent = 2
-kindOf (placed p) = 3
+kindOf (placed m) = 3
 kindOf unplaced = 4
 kindOf stops = 5
 kindOf (copied n) = 6
@@ -30,7 +29,7 @@ unfoldable pub numberOf : Answer cabinet → ℕ
 numberOf ok = 0
 numberOf (value n) = n
 numberOf absent = 0
-numberOf (placed p) = p .mask .0
+numberOf (placed m) = m .0
 numberOf unplaced = 0
 numberOf stops = 0
 numberOf (copied n) = n
@@ -56,7 +55,7 @@ kinds =
     (λ n. ok)
     ∷ value
     ∷ (λ n. absent)
-    ∷ (λ n. placed (fromMask (byte n)))
+    ∷ (λ n. placed (byte n))
     ∷ (λ n. unplaced)
     ∷ (λ n. stops)
     ∷ copied

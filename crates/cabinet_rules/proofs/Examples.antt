@@ -22,7 +22,7 @@ abbrev answerNumbers : Answer cabinet → List ℕ
 answerNumbers ok = 0 ∷ []
 answerNumbers (value n) = 1 ∷ n ∷ []
 answerNumbers absent = 2 ∷ []
-answerNumbers (placed p) = 3 ∷ p .mask .0 ∷ []
+answerNumbers (placed m) = 3 ∷ m .0 ∷ []
 answerNumbers unplaced = 4 ∷ []
 answerNumbers stops = 5 ∷ []
 answerNumbers (copied n) = 6 ∷ n ∷ []

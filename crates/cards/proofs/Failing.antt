@@ -142,7 +142,7 @@ module _ (g : Image) (clear : formRefusal g ≡ 0) (k : Struct) (i : Is k (contr
     closedPart = closed (marked cabinet (controlIn g) c) (begunAt (controlIn g) c)
 
     pub placed-plan : hasCard (controlIn g .newest .mask) c ≡ true
-        → planOn (fail c) g ≡ writing cabinet (placed (placementWithout (controlIn g .newest) c)) (added closedPart (placementWithout (controlIn g .newest) c)) (dropHeld cabinet (begunAt (controlIn g) c) c (look cabinet (stateIn g)))
+        → planOn (fail c) g ≡ writing cabinet (placed (withoutCard (controlIn g .newest .mask) c)) (added closedPart (placementWithout (controlIn g .newest) c)) (dropHeld cabinet (begunAt (controlIn g) c) c (look cabinet (stateIn g)))
     unfolding act
     placed-plan h = rw (s, h)
 

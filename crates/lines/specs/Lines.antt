@@ -15,7 +15,7 @@ unfoldable pub words : Answer cabinet → List ℕ
 words ok = text "ok"
 words (value n) = text "value " ++ decimal n
 words absent = text "absent"
-words (placed p) = text "placed " ++ hexByte (p .mask .0)
+words (placed m) = text "placed " ++ hexByte (m .0)
 words unplaced = text "unplaced"
 words stops = text "stopped"
 words (copied n) = text "copies " ++ decimal n

@@ -18,10 +18,10 @@ use Rattle.method.specs.ControlPart.{active, added, begunAt, closed, hal
 use Rattle.method.specs.ControlPart.{withCards}
 use Rattle.method.specs.OneRecordList.{isLast, isStop, observe}
 use Rattle.method.specs.Parameters.{Parameters}
-use Rattle.method.specs.Rules.{Call, Plan, View, absent, act, begin, commit, delete, dropHeld, fail, fit, get}
-use Rattle.method.specs.Rules.{guarded, inActive, load, lockHolders, move, ok, place, placed, plan, refusal}
-use Rattle.method.specs.Rules.{rollback, seenSlot, settle, start, state, stopping, stops, store, unplaced}
-use Rattle.method.specs.Rules.{unwritten, withdraw, writing}
+use Rattle.method.specs.Rules.{Call, Plan, View, absent, act, begin, commit, delete, dropHeld, fail, failAnswer}
+use Rattle.method.specs.Rules.{fit, get, guarded, inActive, load, lockHolders, move, ok, place, plan, refusal}
+use Rattle.method.specs.Rules.{rollback, seenSlot, settle, start, state, stopping, stops, store, unwritten}
+use Rattle.method.specs.Rules.{withdraw, writing}
 use Rattle.method.specs.Slots.{isNone, isSome, readBy}
 use Rattle.method.proofs.Invariant.{Form}
 use Rattle.method.proofs.Laws.{Laws}
@@ -260,9 +260,9 @@ module _ (P : Parameters) (L : Laws P) where
     act-full (fail c) e s = either (stopping P k c) s
       where
         either : (b : Bool) → isStop P ((cond {A = Plan P} b (writing P stops (halted (marked P k c)) (dropHeld P (isOpen k) c v))
-            (writing P (cond (has (mask (k .newest)) c) (placed (without (k .newest) c)) unplaced) (replaced P k c) (dropHeld P (begunAt k c) c v))) .answer) ≡ false
+            (writing P (failAnswer P k c) (replaced P k c) (dropHeld P (begunAt k c) c v))) .answer) ≡ false
             → ControlInv ((cond {A = Plan P} b (writing P stops (halted (marked P k c)) (dropHeld P (isOpen k) c v))
-            (writing P (cond (has (mask (k .newest)) c) (placed (without (k .newest) c)) unplaced) (replaced P k c) (dropHeld P (begunAt k c) c v))) .after)
+            (writing P (failAnswer P k c) (replaced P k c) (dropHeld P (begunAt k c) c v))) .after)
         either true z = tf true refl z
         either false z = full-fail k f g c (row-3 (ltb c cards) e .0) (has (mask (k .newest)) c) refl
     act-full (move c b) e s = g

@@ -12,9 +12,9 @@ use Rattle.method.specs.ControlPart.{added, begunAt, closed, halted, isO
 use Rattle.method.specs.OneRecordList.{disturb}
 use Rattle.method.specs.Parameters.{Parameters}
 use Rattle.method.specs.Rules.{Call, Plan, State, View, absent, act, apply, begin, clearCard, commit, delete}
-use Rattle.method.specs.Rules.{dropHeld, fail, fit, get, guarded, load, lockHolders, look, move, ok, place}
-use Rattle.method.specs.Rules.{placed, plan, refusal, refused, rollback, seenSlot, settle, start, state, stopping}
-use Rattle.method.specs.Rules.{stops, store, unplaced, unwritten, updated, visible, withdraw, writing}
+use Rattle.method.specs.Rules.{dropHeld, fail, failAnswer, fit, get, guarded, load, lockHolders, look, move, ok}
+use Rattle.method.specs.Rules.{place, plan, refusal, refused, rollback, seenSlot, settle, start, state, stopping}
+use Rattle.method.specs.Rules.{stops, store, unwritten, updated, visible, withdraw, writing}
 use Rattle.method.specs.Slots.{isNone, readBy}
 use Rattle.method.proofs.Keeping.{nextView}
 use Rattle.method.proofs.Laws.{Laws}
@@ -95,9 +95,9 @@ module _ (P : Parameters) (L : Laws P) where
     act-sight (place a) r = kept-sight (act P (place a) k v) refl refl
     act-sight (fail x) r = either (stopping P k x)
         (writing P stops (halted (marked P k x)) (dropHeld P (isOpen k) x v))
-        (writing P (cond (has (mask (k .newest)) x) (placed (without (k .newest) x)) unplaced) (replaced P k x) (dropHeld P (begunAt k x) x v))
+        (writing P (failAnswer P k x) (replaced P k x) (dropHeld P (begunAt k x) x v))
         (lost-sight (writing P stops (halted (marked P k x)) (dropHeld P (isOpen k) x v)) x refl refl)
-        (lost-sight (writing P (cond (has (mask (k .newest)) x) (placed (without (k .newest) x)) unplaced) (replaced P k x) (dropHeld P (begunAt k x) x v)) x (replaced-working x (has (mask (k .newest)) x)) (replaced-setting x (has (mask (k .newest)) x)))
+        (lost-sight (writing P (failAnswer P k x) (replaced P k x) (dropHeld P (begunAt k x) x v)) x (replaced-working x (has (mask (k .newest)) x)) (replaced-setting x (has (mask (k .newest)) x)))
     act-sight (move x b) r = kept-sight (act P (move x b) k v) refl refl
     act-sight settle r = kept-sight (act P settle k v) refl refl
     act-sight state r = kept-sight (act P state k v) refl refl

@@ -39,7 +39,7 @@ module _ (P : Parameters) where
   isStop ok = false
   isStop (value n) = false
   isStop absent = false
-  isStop (placed p) = false
+  isStop (placed m) = false
   isStop unplaced = false
   isStop stops = true
   isStop (copied n) = false

@@ -54,7 +54,7 @@ module _ (P : Parameters) where
     ok : Answer
     value : ℕ → Answer
     absent : Answer
-    placed : Placement → Answer
+    placed : Mask → Answer
     unplaced : Answer
     stops : Answer
     copied : ℕ → Answer
@@ -261,7 +261,7 @@ module _ (P : Parameters) where
 
   -- fail, the store goes on: the new placement's mask, or 'unplaced'.
   abbrev pub failAnswer : Control P → ℕ → Answer
-  failAnswer k c = cond (has (mask (k .newest)) c) (placed (without (k .newest) c)) unplaced
+  failAnswer k c = cond (has (mask (k .newest)) c) (placed (mask (without (k .newest) c))) unplaced
 
   -- load: how many records are committed present in the card's held blocks.
   abbrev pub committedIn : Block → ℕ

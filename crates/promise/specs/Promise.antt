@@ -1,7 +1,6 @@
 -- The promise of every call: its answer and the image that it leaves are those of the rules. Assumes nothing.
 use mathlib.Core.Path.{_≡_}
 use Rattle.mask.specs.Masks.{byte}
-use Rattle.mask.specs.Placements.{fromMask}
 use Rattle.method.specs.Rules.{Answer, Call, absent, begin, commit, copied, delete, fail, fit, get, load, loaded, move}
 use Rattle.method.specs.Rules.{ok, place, placed, protected, refused, retired, rollback, settle, start, state, stops}
 use Rattle.method.specs.Rules.{store, unplaced, unprotected, value, withdraw}
@@ -37,7 +36,7 @@ abbrev pub shown : AnswerValue → Answer cabinet
 shown Ok = ok
 shown (Value n) = value n
 shown Absent = absent
-shown (Placed m) = placed (fromMask (byte m))
+shown (Placed m) = placed (byte m)
 shown Unplaced = unplaced
 shown Stopped = stops
 shown (Copied n) = copied n

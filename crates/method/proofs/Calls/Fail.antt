@@ -19,8 +19,8 @@ use Rattle.method.specs.ControlPart.{active, added, begunAt, closed, hal
 use Rattle.method.specs.OneRecordList.{Observation, failing, isStop, plainObserve}
 use Rattle.method.specs.Parameters.{Parameters}
 use Rattle.method.specs.PlainList.{endRecords, plainAct, plainNext, plainRefusal, stopsNow, unlessRefused}
-use Rattle.method.specs.Rules.{View, act, dropHeld, fail, guarded, lost, placed, plan, refusal, refused, row}
-use Rattle.method.specs.Rules.{stopping, stops, unplaced, updated, visible, writing}
+use Rattle.method.specs.Rules.{View, act, dropHeld, fail, failAnswer, guarded, lost, placed, plan, refusal}
+use Rattle.method.specs.Rules.{refused, row, stopping, stops, unplaced, updated, visible, writing}
 use Rattle.method.specs.Slots.{Slot, ended}
 use Rattle.method.proofs.Calls.Agreement.{Agrees, Good, idle-still, plainOf}
 use Rattle.method.proofs.ControlForms.{base-home, form-added}
@@ -149,12 +149,12 @@ module _ (P : Parameters) (L : Laws P) where
         branch : has (k .working) c ≡ true → (b : Bool) → stopping P k c ≡ b
             → Good P L v (fail c) (cond b
             (writing P stops (halted (marked P k c)) (dropHeld P (isOpen k) c v))
-            (writing P (cond (has (mask (k .newest)) c) (placed (without (k .newest) c)) unplaced) (replaced P k c) (dropHeld P (begunAt k c) c v)))
+            (writing P (failAnswer P k c) (replaced P k c) (dropHeld P (begunAt k c) c v)))
             (failing b) (endRecords P (plainOf P k records) false (begunAt k c) (replaced P k c))
         branch on true e = record { sight = refl; goes = λ z. tf true refl z }
         branch on false e = record { sight = quiet-fail (has (mask (k .newest)) c); goes = λ z. (refl, unfold k1 in (fail-inv c (lt-ltb c cards (has-card (k .working) c on)) on e (has (mask (k .newest)) c) refl)) }
           where
-            quiet-fail : (b : Bool) → _≡_ {A = Observation P} (failing (isStop P (cond b (placed (without (k .newest) c)) unplaced))) (failing false)
+            quiet-fail : (b : Bool) → _≡_ {A = Observation P} (failing (isStop P (cond b (placed (mask (without (k .newest) c))) unplaced))) (failing false)
             quiet-fail true = refl
             quiet-fail false = refl
 
