@@ -1,8 +1,8 @@
 -- Laws of tests over lists, and of membership. Assumes nothing.
-use mathlib.Core.Path.{_≡_, refl, sym, _∙_}
+use mathlib.Core.Path.{_≡_, ap, refl, sym, _∙_}
 use mathlib.Core.Logic.{_⊎_, inl, inr}
 use mathlib.Core.Bool.{Bool, true, false, not, _&&_, _||_, cond}
-use mathlib.Core.List.{List, [], _∷_, _++_, reverse, reverse-cons}
+use mathlib.Core.List.{List, [], _∷_, _++_, map, reverse, reverse-cons, reverseAux}
 use Prim.Native.Nat.{ℕ}
 use lib.Dec.{eqb}
 use borrow.Author.Tests.{eqb-true}
@@ -119,3 +119,22 @@ module _ {A : Type 0} (f : A → List ℕ) where
   concat-in [] c p m e = absurd m
   concat-in (q ∷ l) c p (inl i) e = in-left (f q) (concatMap f l) c (elem-in c (f q) (rw i at e))
   concat-in (q ∷ l) c p (inr i) e = in-right (f q) (concatMap f l) c (concat-in l c p i e)
+
+-- the list of what f gives of each element
+module _ {A B : Type 0} (f : A → B) where
+  pub map-in : (l : List A) (x : A) → In x l → In (f x) (map f l)
+  map-in [] x m = absurd m
+  map-in (y ∷ l) x (inl p) = inl (ap f p)
+  map-in (y ∷ l) x (inr m) = inr (map-in l x m)
+
+  pub in-map : (l : List A) (y : B) → In y (map f l) → (x : A) × In x l × (y ≡ f x)
+  in-map [] y m = absurd m
+  in-map (x ∷ l) y (inl p) = (x, inl refl, p)
+  in-map (x ∷ l) y (inr m) = let z = in-map l y m in (z .0, inr (z .1), z .2)
+
+  pub map-reverse : (l : List A) → map f (reverse l) ≡ reverse (map f l)
+  map-reverse l = onto l []
+    where
+      onto : (l m : List A) → map f (reverseAux l m) ≡ reverseAux (map f l) (map f m)
+      onto [] m = refl
+      onto (x ∷ l) m = onto l (x ∷ m)

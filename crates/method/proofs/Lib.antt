@@ -11,3 +11,4 @@ pub mod Capacity
 pub mod Sight
 pub mod Run
 pub mod Reached
+pub mod Growth

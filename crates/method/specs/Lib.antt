@@ -5,3 +5,4 @@ pub mod Changes
 pub mod Rules
 pub mod PlainList
 pub mod OneRecordList
+pub mod Growth

@@ -1,0 +1,136 @@
+-- Demand 3 where the list of calls goes on under a later paper: what such a paper may change, what an older store is
+-- then, and the statement. Assumes nothing.
+use Prim.Native.Nat.{ℕ}
+use mathlib.Core.Bool.{Bool, false}
+use mathlib.Core.List.{List, [], _∷_, map}
+use mathlib.Core.Path.{_≡_}
+use Rattle.method.specs.Changes.{Control}
+use Rattle.method.specs.ControlPart.{ControlPart, part}
+use Rattle.method.specs.OneRecordList.{callsOf, disturb, isLast, observe, runPlain, runStore, settleAccepted}
+use Rattle.method.specs.OneRecordList.{zeroed}
+use Rattle.method.specs.Parameters.{Parameters}
+use Rattle.method.specs.PlainList.{PlainList, plainNext, plainStart}
+use Rattle.method.specs.Rules.{Call, State, View, answerOf, nextState, ok, start}
+
+-- ---- what a later paper changes
+pub record Growth (P : Parameters) : Type 1 where
+  -- the kinds of placement, of setting, and of argument of start and place
+  pub Placement : Type 0
+  pub Setting : Type 0
+  pub StartArgument : Type 0
+  pub PlaceArgument : Type 0
+  -- how many copies and blocks a setting has, and which records and values are in range
+  pub copies : Setting → ℕ
+  pub blocks : Setting → ℕ
+  pub recInRange : Setting → ℕ → Bool
+  pub valueInRange : ℕ → Bool
+  -- the cards of a placement, the sites of a block, the placement after a failure, and what a placement must be
+  pub mask : Placement → Parameters.Mask P
+  pub sites : Setting → Placement → ℕ → List ℕ
+  pub without : Placement → ℕ → Placement
+  pub usable : Setting → Placement → Type 0
+  -- what the arguments of start and place say, and when they are refused
+  pub starts : StartArgument → Placement
+  pub startSetting : StartArgument → Setting
+  pub startRefusal : StartArgument → ℕ
+  pub places : Placement → PlaceArgument → Placement
+  pub placeInRange : PlaceArgument → Bool
+  pub placeRefusal : ControlPart (Parameters.Mask P) Placement Setting → PlaceArgument → ℕ
+  -- the most active placements that a place call leaves
+  pub placeLimit : Setting → ℕ
+  -- what a placement and a setting from before the paper are now
+  pub older : Parameters.Placement P → Placement
+  pub olderSetting : Parameters.Setting P → Setting
+
+-- The parameters under the later paper: all that it does not change stays.
+abbrev pub grown : (P : Parameters) → Growth P → Parameters
+grown P G = record {
+  Mask = Parameters.Mask P;
+  Placement = G .Placement;
+  Setting = G .Setting;
+  Block = Parameters.Block P;
+  StartArgument = G .StartArgument;
+  PlaceArgument = G .PlaceArgument;
+  cards = Parameters.cards P;
+  transactions = Parameters.transactions P;
+  slots = Parameters.slots P;
+  copies = G .copies;
+  blocks = G .blocks;
+  tranInRange = Parameters.tranInRange P;
+  recInRange = G .recInRange;
+  valueInRange = G .valueInRange;
+  blockOf = Parameters.blockOf P;
+  placeOf = Parameters.placeOf P;
+  has = Parameters.has P;
+  noCards = Parameters.noCards P;
+  insert = Parameters.insert P;
+  remove = Parameters.remove P;
+  mask = G .mask;
+  sites = G .sites;
+  without = G .without;
+  usable = G .usable;
+  starts = G .starts;
+  startSetting = G .startSetting;
+  startRefusal = G .startRefusal;
+  places = G .places;
+  placeInRange = G .placeInRange;
+  placeRefusal = G .placeRefusal;
+  placeLimit = G .placeLimit;
+  empty = Parameters.empty P;
+  fresh = Parameters.fresh P;
+  held = Parameters.held P;
+  slot = Parameters.slot P;
+  lockSlot = Parameters.lockSlot P;
+  endSlots = Parameters.endSlots P;
+}
+
+-- ---- what an older store is under the later paper
+module _ (P : Parameters) (G : Growth P) where
+  -- A control part: each of its placements, and its setting, is what it is now.
+  abbrev pub grownControl : Control P → Control (grown P G)
+  grownControl k =
+      part (k .stopped) (map (G .older) (k .older)) (G .older (k .newest)) (k .working) (k .failed) (k .home)
+      (G .olderSetting (k .setting))
+
+  -- A state: no byte of a card table changes.
+  abbrev pub grownState : State P → State (grown P G)
+  grownState s = record { control = grownControl (s .control); block = s .block }
+
+  -- A plain record list: no record changes.
+  abbrev pub grownPlain : PlainList P → PlainList (grown P G)
+  grownPlain q = record { records = q .records; control = grownControl (q .control) }
+
+-- ---- what a list of calls leaves
+module _ (P : Parameters) where
+  -- The state after a list of calls, each with the noise before it.
+  unfoldable pub stateAfter : List (View P × Call P) → State P → State P
+  stateAfter [] s = s
+  stateAfter (e ∷ l) s = stateAfter l (nextState P (e .1) (disturb P (e .0) s))
+
+  -- None of these calls stopped the store.
+  unfoldable pub NoStop : List (View P × Call P) → State P → Type 0
+  NoStop [] s = Unit {0}
+  NoStop (e ∷ l) s =
+      (isLast P (observe P (e .1) (answerOf P (e .1) (disturb P (e .0) s))) ≡ false)
+      × NoStop l (nextState P (e .1) (disturb P (e .0) s))
+
+  -- The state after the calls alone, with no noise: the run of the rules beside the plain record list.
+  unfoldable pub rulesAfter : List (Call P) → State P → State P
+  rulesAfter [] z = z
+  rulesAfter (c ∷ l) z = rulesAfter l (nextState P c z)
+
+  -- The plain record list after the calls, beside the run of the rules from z.
+  unfoldable pub plainAfter : List (Call P) → State P → PlainList P → PlainList P
+  plainAfter [] z q = q
+  plainAfter (c ∷ l) z q = plainAfter l (nextState P c z) (plainNext P (settleAccepted P z) c q)
+
+-- DEMAND 3, going on. After an accepted start on memory of any contents come any calls of before the paper, none of
+-- which stops the store, and then any calls under the paper: these the store answers as the plain record list does
+-- that was fed all of them.
+unfoldable pub GoesOn : (P : Parameters) → Growth P → Type 0
+GoesOn P G = (a : Parameters.StartArgument P) (before : State P) → answerOf P (start a) before ≡ ok
+    → (l : List (View P × Call P)) → NoStop P l (nextState P (start a) before)
+    → (m : List (View (grown P G) × Call (grown P G)))
+    → runStore (grown P G) m (grownState P G (stateAfter P l (nextState P (start a) before)))
+    ≡ runPlain (grown P G) (callsOf (grown P G) m) (grownState P G (rulesAfter P (callsOf P l) (zeroed P a)))
+    (grownPlain P G (plainAfter P (callsOf P l) (zeroed P a) (plainStart P a)))
