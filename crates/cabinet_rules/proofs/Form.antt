@@ -28,7 +28,8 @@ use Rattle.control.specs.ControlBytes.{Part, controlByte, countIn}
 use Rattle.control.specs.ControlForm.{countOk, formOk, fourthOk, homeOk, isSafe, membersOk, partOk, zeroFieldsOk}
 use Rattle.control.proofs.RoundTrip.{read-control, read-count}
 use Rattle.cabinet_rules.specs.Cabinet.{cabinet, mostPlaced, tranOk}
-use Rattle.cabinet_rules.proofs.Lawful.{lawful}
+use Rattle.cabinet_rules.specs.Delivery.{today}
+use Rattle.cabinet_rules.proofs.Lawful.{ControlLaws, DeliveryLaws, lawful, siteLaws}
 
 -- ---- the stop rule and the clause of the control form on it
 -- a placement is safe exactly where it is not lost
@@ -131,3 +132,17 @@ written-form k few opens homes part g wrote =
     let n : countIn (g 0) ≡ suc (length (k .older)) = read-count k few opens homes g wrote in
     and-in _ _ (and-in _ _ (le-leb 1 (countIn (g 0)) (omega arith)) (le-leb (countIn (g 0)) 4 (omega arith)))
     (rw (read-control k few opens homes g wrote) (and-in _ _ (all-below controlSize _ (λ i h. eq-eqb (g i) (controlByte k i) (wrote i h))) part))
+
+-- ---- the delivery in force
+pub controlLaws : ControlLaws today siteLaws
+controlLaws = record {
+  reads = λ k f u g w. read-control k (few-older k f u) (u .opens) (homes k u) g w;
+  formed = λ k f u g w. written-form k (few-older k f u) (u .opens) (homes k u) (running-ok k f u) g w;
+  same-failed = λ g. refl;
+}
+  where
+    homes : (k : Part) → ControlInv cabinet lawful k → (t h : ℕ) → k .home t ≡ some h → h < cardCount
+    homes k u t h e = has-card (k .working) h (u .homes t h e)
+
+abbrev pub todayLaws : DeliveryLaws today
+todayLaws = record { sites = siteLaws; control = controlLaws }

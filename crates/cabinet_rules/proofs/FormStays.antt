@@ -24,10 +24,12 @@ use Rattle.control.specs.ControlBytes.{Part, controlByte}
 use Rattle.control.specs.ControlForm.{controlForm, formRefusal, partOk}
 use Rattle.control.proofs.RoundTrip.{read-control}
 use Rattle.cabinet_rules.specs.Cabinet.{cabinet, mostPlaced, tranOk}
-use Rattle.cabinet_rules.specs.Claims.{ControlFormStays, NoisyCall, imageAfter, noisy}
-use Rattle.cabinet_rules.specs.Images.{Image, answer, controlIn, isStart, next, planOn, refusalOn, stateIn}
+use Rattle.cabinet_rules.specs.Claims.{ControlFormStays, NoisyCall, imageAfter, imageAfterBy, noisy}
+use Rattle.cabinet_rules.specs.Delivery.{today}
+use Rattle.cabinet_rules.specs.Images.{Image, answer, answerBy, controlIn, isStart, next, nextBy, planOn}
+use Rattle.cabinet_rules.specs.Images.{refusalBy, refusalOn, stateBy, stateIn}
 use Rattle.cabinet_rules.proofs.After.{after-control, length-after}
-use Rattle.cabinet_rules.proofs.Form.{few-older, halted-ok, written-form}
+use Rattle.cabinet_rules.proofs.Form.{few-older, halted-ok, todayLaws, written-form}
 use Rattle.cabinet_rules.proofs.Lawful.{lawful}
 use Rattle.cabinet_rules.proofs.Sound.{Sound, control-form, control-noisy, length-noisy, noise-sound}
 use Rattle.cabinet_rules.proofs.Sound.{refusal-sound, start-sound, step-sound}
@@ -67,13 +69,13 @@ module _ (g : Image) (s : Stopped g) where
   }
 
 -- ---- a fail that stops the store leaves such an image
-module _ (g : Image) (z : State cabinet) (q : PlainList cabinet) (s : Sound g z q) (c : ℕ)
+module _ (g : Image) (z : State cabinet) (q : PlainList cabinet) (s : Sound today todayLaws g z q) (c : ℕ)
     (on : hasCard (q .control .working) c ≡ true) (yes-stops : stopsNow cabinet (q .control) c ≡ true) where
   k : Part
   k = controlIn g
 
   k-is : controlIn g ≡ q .control
-  unfolding stateIn
+  unfolding stateBy
   k-is = s .ready .store-beside .same-control
 
   in-range : ltb c cardCount ≡ true
@@ -81,14 +83,14 @@ module _ (g : Image) (z : State cabinet) (q : PlainList cabinet) (s : Sound g z 
 
   fail-accepted : refusalOn (fail c) g ≡ 0
   unfolding refusal
-  fail-accepted = refusal-sound (fail c) g z q s ∙ rw (k-is, in-range, on, s .ready .inv .form .base .running)
+  fail-accepted = refusal-sound today todayLaws (fail c) g z q s ∙ rw (k-is, in-range, on, s .ready .inv .form .base .running)
 
   fail-plan : planOn (fail c) g .after ≡ halted (marked cabinet (q .control) c)
   unfolding act
   fail-plan = rw (k-is, sym (stop-same cabinet lawful (q .control) c in-range) ∙ yes-stops)
 
   stop-leaves : Stopped (next (fail c) g)
-  unfolding next
+  unfolding nextBy
   stop-leaves = rw fail-accepted (record {
     part = halted (marked cabinet (q .control) c);
     long = length-after (controlByte (planOn (fail c) g .after)) (planOn (fail c) g .write) g;
@@ -123,17 +125,17 @@ refused-4 state l k v e = rw e (3, refl)
 refused-4 (load c) l k v e = rw e (later (not (ltb c cardCount)))
 
 next-same : (c : Call cabinet) (g : Image) (n : ℕ) → refusalOn c g ≡ suc n → next c g ≡ g
-unfolding next
+unfolding nextBy
 next-same c g n e = rw e
 
 -- ---- either way
 pub data Started (g : Image) : Type 0 where
-  runs : (z : State cabinet) (q : PlainList cabinet) → Sound g z q → Started g
+  runs : (z : State cabinet) (q : PlainList cabinet) → Sound today todayLaws g z q → Started g
   stands : Stopped g → Started g
 
 started-form : (g : Image) → Started g → formRefusal g ≡ 0
 unfolding formRefusal
-started-form g (runs z q s) = rw (eq-eqb (length g) imageSize (s .long), control-form (q .control) (s .ready .inv .form) (s .ready .full) g (s .wrote))
+started-form g (runs z q s) = rw (eq-eqb (length g) imageSize (s .long), control-form today todayLaws (q .control) (s .ready .inv .form) (s .ready .full) g (s .wrote))
 started-form g (stands s) = rw (eq-eqb (length g) imageSize (s .long), stopped-form g s)
 
 -- an accepted start begins anew; a refused one leaves the image
@@ -141,23 +143,23 @@ start-either : (m : Byte) (g : Image) → Started g → Started (next (start m) 
 start-either m g s = go (refusalOn (start m) g) refl
   where
     go : (n : ℕ) → refusalOn (start m) g ≡ n → Started (next (start m) g)
-    go zero e = runs (zeroed cabinet m) (plainStart cabinet m) (start-sound m g (accepted-answer e))
+    go zero e = runs (zeroed cabinet m) (plainStart cabinet m) (start-sound today todayLaws m g (accepted-answer e))
       where
         accepted-answer : refusalOn (start m) g ≡ 0 → answer (start m) g ≡ ok
-        accepted-answer e = unfold answer act in (rw e)
+        accepted-answer e = unfold answerBy act in (rw e)
     go (suc n) e = rw (next-same (start m) g n e) s
 
 stopped-next : (c : Call cabinet) → isStart c ≡ false → (g : Image) → Stopped g → next c g ≡ g
 stopped-next c l g s = let r = refused-4 c l (controlIn g) (look cabinet (stateIn g)) (stopped-bit g s) in next-same c g (r .0) (rows (r .0) (r .1))
   where
     rows : (n : ℕ) → refusal cabinet c (controlIn g) (look cabinet (stateIn g)) ≡ suc n → refusalOn c g ≡ suc n
-    rows n e = unfold refusalOn in (rw (eq-eqb (length g) imageSize (s .long), stopped-form g s, l) e)
+    rows n e = unfold refusalBy in (rw (eq-eqb (length g) imageSize (s .long), stopped-form g s, l) e)
 
 -- a call that is observed and does not end the observations keeps a sound image sound
-going-on : (c : Call cabinet) (g : Image) (z : State cabinet) (q : PlainList cabinet) → Sound g z q → isLast cabinet (plainObserve cabinet c q) ≡ false → Started (next c g)
-going-on c g z q s e = runs (nextState cabinet c z) (plainNext cabinet (settleAccepted cabinet z) c q) (step-sound g z q s c .goes-on e)
+going-on : (c : Call cabinet) (g : Image) (z : State cabinet) (q : PlainList cabinet) → Sound today todayLaws g z q → isLast cabinet (plainObserve cabinet c q) ≡ false → Started (next c g)
+going-on c g z q s e = runs (nextState cabinet c z) (plainNext cabinet (settleAccepted cabinet z) c q) (step-sound today todayLaws g z q s c .goes-on e)
 
-fail-either : (c : ℕ) (g : Image) (z : State cabinet) (q : PlainList cabinet) → Sound g z q → Started (next (fail c) g)
+fail-either : (c : ℕ) (g : Image) (z : State cabinet) (q : PlainList cabinet) → Sound today todayLaws g z q → Started (next (fail c) g)
 unfolding plainObserve
 fail-either c g z q s = go (split (hasCard (q .control .working) c && stopsNow cabinet (q .control) c))
   where
@@ -166,7 +168,7 @@ fail-either c g z q s = go (split (hasCard (q .control .working) c && stopsNow c
     go (inr e) = going-on (fail c) g z q s e
 
 -- a running store, call by call: only a fail can stop it
-runs-next : (c : Call cabinet) (g : Image) (z : State cabinet) (q : PlainList cabinet) → Sound g z q → Started (next c g)
+runs-next : (c : Call cabinet) (g : Image) (z : State cabinet) (q : PlainList cabinet) → Sound today todayLaws g z q → Started (next c g)
 unfolding plainObserve
 runs-next (start m) g z q s = start-either m g (runs z q s)
 runs-next (begin t h) g z q s = going-on (begin t h) g z q s refl
@@ -214,16 +216,16 @@ started-next c g (runs z q s) = runs-next c g z q s
 started-next c g (stands s) = stands-next c g s
 
 started-noise : (noise : ℕ → ℕ) (g : Image) → Started g → Started (noisy noise g)
-started-noise noise g (runs z q s) = runs z q (noise-sound noise g z q s)
+started-noise noise g (runs z q s) = runs z q (noise-sound today todayLaws noise g z q s)
 started-noise noise g (stands s) = stands (noise-stopped g s noise)
 
 -- ---- the whole list
 pub started-after : (l : List NoisyCall) (g : Image) → Started g → Started (imageAfter l g)
-unfolding imageAfter
+unfolding imageAfterBy
 started-after [] g s = s
 started-after (e ∷ l) g s = started-after l (next (e .1) (noisy (e .0) g)) (started-next (e .1) (noisy (e .0) g) (started-noise (e .0) g s))
 
 pub control-form-stays : ControlFormStays
 unfolding ControlFormStays
 control-form-stays m before e l =
-    started-form (imageAfter l (next (start m) before)) (started-after l (next (start m) before) (runs (zeroed cabinet m) (plainStart cabinet m) (start-sound m before e)))
+    started-form (imageAfter l (next (start m) before)) (started-after l (next (start m) before) (runs (zeroed cabinet m) (plainStart cabinet m) (start-sound today todayLaws m before e)))

@@ -6,26 +6,30 @@ use lib.ListN.{length, length-append, take}
 use mathlib.Core.Bool.{Bool, _||_, cond, false, not, true}
 use mathlib.Core.List.{[], _++_, _∷_}
 use mathlib.Core.Option.{Option, none, some}
-use mathlib.Core.Path.{_∙_, _≡_, ap, refl}
+use mathlib.Core.Path.{_∙_, _≡_, ap, refl, sym}
 use native.Mathlib.Omega.{arith}
+use Rattle.lists.specs.Tests.{distinct, elem}
 use Rattle.lists.proofs.Bools.{and-r, imp-out, nor-l, nor-r, not-not-is}
 use Rattle.lists.proofs.Counts.{below-all}
-use Rattle.image.specs.Layout.{blockCount, cardCount, copyCount, recordCount, slotCount, tranBound, valueBound}
-use Rattle.mask.specs.Masks.{Byte, hasCard, isWithin, size}
+use Rattle.image.specs.Layout.{blockCount, cardCount, controlSize, copyCount, recordCount, slotCount, tranBound}
+use Rattle.image.specs.Layout.{valueBound}
+use Rattle.mask.specs.Masks.{Byte, hasCard, isWithin, size, withoutCard}
 use Rattle.mask.specs.Placements.{leastMembers}
 use Rattle.mask.proofs.Masks.{has-card, has-none, has-with, has-without}
 use Rattle.mask.proofs.Sites.{site-count, site-distinct, site-member}
 use Rattle.slot.specs.Blocks.{BlockBytes, endSlots, freshBlock, lockSlot, slotAt}
 use Rattle.slot.specs.Words.{entryOf, freedSlot, lockedSlot, slotOf, stateOf}
+use Rattle.slot.specs.declared.Slot.{Slot as Fields}
 use Rattle.slot.proofs.Blocks.{held-empty, held-end, held-fresh, held-lock, slot-end, slot-fresh, slot-lock}
 use Rattle.method.specs.ControlPart.{active}
 use Rattle.method.specs.Rules.{row}
 use Rattle.method.specs.Slots.{Slot, blank, ended, freed, locked}
+use Rattle.method.proofs.Capacity.{ControlInv}
+use Rattle.method.proofs.Invariant.{Form}
 use Rattle.method.proofs.Laws.{Laws}
 use Rattle.method.proofs.Refusals.{row-clear}
-use Rattle.control.specs.ControlBytes.{Part}
-use Rattle.cabinet_rules.specs.Cabinet.{cabinet, mostPlaced, placeRows, slotSeen, startRow, tranOk}
-use Rattle.slot.specs.declared.Slot.{Slot as Fields}
+use Rattle.cabinet_rules.specs.Cabinet.{cabinet, mostPlaced, placeRows, rulesOf, slotSeen, startRow, tranOk}
+use Rattle.cabinet_rules.specs.Delivery.{Delivery, PartOf, today}
 
 -- ---- slots, as the rules see them
 -- what the rules see of a slot's fields
@@ -77,61 +81,97 @@ start-members : (m : Byte) → startRow m ≡ 0 → copyCount ≤ size m
 unfolding startRow
 start-members m e = ltb-false (size m) leastMembers (row-clear (ltb (size m) leastMembers) 8 e .0)
 
-module _ (k : Part) (m : Byte) (e : placeRows k m ≡ 0) where
-  bad : Bool
-  bad = not (isWithin m (k .working)) || eqb (m .0) (k .newest .mask .0)
+-- ---- what is asked of a delivery
+-- Sites are two different members, and the cards of the placement made of a mask are the mask's.
+pub record SiteLaws (D : Delivery) : Type 0 where
+  pub site-count : (p : D .Placement) (b : ℕ) → length (D .sites p b) ≡ copyCount
+  pub site-member : (p : D .Placement) (b c : ℕ) → copyCount ≤ size (D .mask p) → ltb b blockCount ≡ true → elem c (D .sites p b) ≡ true → hasCard (D .mask p) c ≡ true
+  pub site-distinct : (p : D .Placement) (b : ℕ) → copyCount ≤ size (D .mask p) → ltb b blockCount ≡ true → distinct (D .sites p b) ≡ true
+  pub mask-back : (m : Byte) → D .mask (D .fromMask m) ≡ m
 
-  rows : ((ltb (size m) leastMembers || bad) ≡ false) × (row 10 (leb mostPlaced (length (active k))) 0 ≡ 0)
-  unfolding placeRows bad
-  rows = row-clear (ltb (size m) leastMembers || (not (isWithin m (k .working)) || eqb (m .0) (k .newest .mask .0))) 8 e
+module _ (D : Delivery) (S : SiteLaws D) where
+  module _ (k : PartOf D) (m : Byte) (e : placeRows D k m ≡ 0) where
+    bad : Bool
+    bad = not (isWithin m (k .working)) || D .isAgain (k .newest) m
 
-  place-members : copyCount ≤ size m
-  place-members = ltb-false (size m) leastMembers (nor-l (ltb (size m) leastMembers) bad (rows .0))
+    rows : ((ltb (size m) leastMembers || bad) ≡ false) × (row 10 (leb mostPlaced (length (active k))) 0 ≡ 0)
+    unfolding placeRows bad
+    rows = row-clear (ltb (size m) leastMembers || (not (isWithin m (k .working)) || D .isAgain (k .newest) m)) 8 e
 
-  place-working : (c : ℕ) → hasCard m c ≡ true → hasCard (k .working) c ≡ true
-  unfolding isWithin bad
-  place-working c h = imp-out (hasCard m c) (hasCard (k .working) c)
-      (below-all cardCount (λ x. not (hasCard m x) || hasCard (k .working) x) c
-      (not-not-is (isWithin m (k .working)) (nor-l (not (isWithin m (k .working))) (eqb (m .0) (k .newest .mask .0)) (nor-r (ltb (size m) leastMembers) bad (rows .0))))
-      (has-card m c h)) h
+    place-members : copyCount ≤ size m
+    place-members = ltb-false (size m) leastMembers (nor-l (ltb (size m) leastMembers) bad (rows .0))
 
-  place-few : suc (suc (length (k .older))) ≤ mostPlaced
-  place-few =
-      let h : length (k .older ++ (k .newest ∷ [])) < mostPlaced = leb-false mostPlaced (length (active k)) (row-clear (leb mostPlaced (length (active k))) 9 (rows .1) .0) in
-      omega (arith, h, length-append (k .older) (k .newest ∷ []))
+    place-working : (c : ℕ) → hasCard m c ≡ true → hasCard (k .working) c ≡ true
+    unfolding isWithin bad
+    place-working c h = imp-out (hasCard m c) (hasCard (k .working) c)
+        (below-all cardCount (λ x. not (hasCard m x) || hasCard (k .working) x) c
+        (not-not-is (isWithin m (k .working)) (nor-l (not (isWithin m (k .working))) (D .isAgain (k .newest) m) (nor-r (ltb (size m) leastMembers) bad (rows .0))))
+        (has-card m c h)) h
 
--- ---- all laws
-pub lawful : Laws cabinet
-unfolding size
-lawful = record {
-  tran-some = refl;
-  tran-below = λ t e. ltb-true t tranBound (and-r (ltb 0 t) (ltb t tranBound) e);
-  rec-block = λ σ r e. let h : r < recordCount = ltb-true r recordCount e in lt-ltb (r / slotCount) blockCount (omega arith);
-  rec-inj = λ r q d e. omega arith;
-  rec-at = λ b p l. (b * slotCount + p, omega arith, omega arith);
-  has-card = has-card;
-  has-none = has-none;
-  has-insert = has-with;
-  has-remove = has-without;
-  site-count = λ σ p b u h. site-count p b;
-  site-member = λ σ p b c u h e. site-member p b c u h e;
-  site-distinct = λ σ p b u h. site-distinct p b u h;
-  has-without = λ p c x. has-without (p .mask) c x;
-  usable-without = λ σ p c h. h;
-  start-usable = start-members;
-  start-many = start-members;
-  start-some = λ m e. omega arith;
-  place-usable = place-members;
-  place-many = place-members;
-  place-works = λ k m c e h. place-working k m e c h;
-  limit-some = λ σ. omega arith;
-  place-room = place-few;
-  held-empty = held-empty;
-  held-fresh = held-fresh;
-  slot-fresh = fresh-seen;
-  held-lock = held-lock;
-  slot-store = λ x r t n q ht hn. lock-seen x r t q (some n) ht (ltb-true n valueBound hn);
-  slot-delete = λ x r t q ht. lock-seen x r t q none ht (omega arith);
-  held-end = held-end;
-  slot-end = end-seen;
-}
+    place-few : suc (suc (length (k .older))) ≤ mostPlaced
+    place-few =
+        let h : length (k .older ++ (k .newest ∷ [])) < mostPlaced = leb-false mostPlaced (length (active k)) (row-clear (leb mostPlaced (length (active k))) 9 (rows .1) .0) in
+        omega (arith, h, length-append (k .older) (k .newest ∷ []))
+
+  -- the placement made of a mask with members enough
+  made : (m : Byte) → copyCount ≤ size m → copyCount ≤ size (D .mask (D .fromMask m))
+  made m h = rw (S .mask-back m) h
+
+  made-has : (m : Byte) (c : ℕ) → hasCard (D .mask (D .fromMask m)) c ≡ hasCard m c
+  made-has m c = ap (λ (x : Byte). hasCard x c) (S .mask-back m)
+
+  -- ---- all laws
+  pub lawfulBy : Laws (rulesOf D)
+  unfolding size
+  lawfulBy = record {
+    tran-some = refl;
+    tran-below = λ t e. ltb-true t tranBound (and-r (ltb 0 t) (ltb t tranBound) e);
+    rec-block = λ σ r e. let h : r < recordCount = ltb-true r recordCount e in lt-ltb (r / slotCount) blockCount (omega arith);
+    rec-inj = λ r q d e. omega arith;
+    rec-at = λ b p l. (b * slotCount + p, omega arith, omega arith);
+    has-card = has-card;
+    has-none = has-none;
+    has-insert = has-with;
+    has-remove = has-without;
+    site-count = λ σ p b u h. S .site-count p b;
+    site-member = λ σ p b c u h e. S .site-member p b c u h e;
+    site-distinct = λ σ p b u h. S .site-distinct p b u h;
+    has-without = λ p c x. made-has (withoutCard (D .mask p) c) x ∙ has-without (D .mask p) c x;
+    usable-without = λ σ p c h. h;
+    start-usable = λ m e. made m (start-members m e);
+    start-many = λ m e. made m (start-members m e);
+    start-some = λ m e. omega arith;
+    place-usable = λ k m e. made m (place-members k m e);
+    place-many = λ k m e. made m (place-members k m e);
+    place-works = λ k m c e h. place-working k m e c (sym (made-has m c) ∙ h);
+    limit-some = λ σ. omega arith;
+    place-room = place-few;
+    held-empty = held-empty;
+    held-fresh = held-fresh;
+    slot-fresh = fresh-seen;
+    held-lock = held-lock;
+    slot-store = λ x r t n q ht hn. lock-seen x r t q (some n) ht (ltb-true n valueBound hn);
+    slot-delete = λ x r t q ht. lock-seen x r t q none ht (omega arith);
+    held-end = held-end;
+    slot-end = end-seen;
+  }
+
+-- Control bytes: those written from the control part of a running store show it and have the form, and the failed cards stand where
+-- noise looks for them.
+pub record ControlLaws (D : Delivery) (S : SiteLaws D) : Type 0 where
+  pub reads : (k : PartOf D) → Form (rulesOf D) k → ControlInv (rulesOf D) (lawfulBy D S) k → (g : ℕ → ℕ)
+      → ((n : ℕ) → n < controlSize → g n ≡ D .bytes k n) → D .part g ≡ k
+  pub formed : (k : PartOf D) → Form (rulesOf D) k → ControlInv (rulesOf D) (lawfulBy D S) k → (g : ℕ → ℕ)
+      → ((n : ℕ) → n < controlSize → g n ≡ D .bytes k n) → D .form g ≡ true
+  pub same-failed : (g : ℕ → ℕ) → D .part g .failed ≡ today .part g .failed
+
+pub record DeliveryLaws (D : Delivery) : Type 0 where
+  pub sites : SiteLaws D
+  pub control : ControlLaws D sites
+
+-- ---- the delivery in force
+pub siteLaws : SiteLaws today
+siteLaws = record { site-count = site-count; site-member = site-member; site-distinct = site-distinct; mask-back = λ m. refl }
+
+abbrev pub lawful : Laws cabinet
+lawful = lawfulBy today siteLaws

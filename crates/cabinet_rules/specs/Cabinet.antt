@@ -1,19 +1,20 @@
 -- This cabinet: the values that the rules of the method take. Eight cards, two copies, 64 blocks of eight records.
 -- Assumes nothing.
-use Prim.Native.Nat.{_%_, _/_, ℕ}
-use lib.Dec.{eqb, leb, ltb}
+use Prim.Native.Nat.{_%_, _/_, _≤_, ℕ}
+use lib.Dec.{leb, ltb}
 use lib.ListN.{length}
 use mathlib.Core.Bool.{Bool, _&&_, _||_, not, true}
 use Rattle.image.specs.Layout.{blockCount, cardCount, copyCount, recordCount, slotCount, tranBound, valueBound}
 use Rattle.mask.specs.Masks.{Byte, hasCard, isWithin, noCards, size, withCard, withoutCard}
-use Rattle.mask.specs.Placements.{Placement, Usable, fromMask, leastMembers, placementWithout, sitesOf}
+use Rattle.mask.specs.Placements.{leastMembers}
 use Rattle.slot.specs.Blocks.{BlockBytes, emptyBlock, endSlots, freshBlock, isHeld, lockSlot, slotAt}
 use Rattle.slot.specs.Words.{stateOf}
 use Rattle.method.specs.ControlPart.{active}
 use Rattle.method.specs.Parameters.{Parameters}
 use Rattle.method.specs.Rules.{row}
 use Rattle.method.specs.Slots.{Slot}
-use Rattle.control.specs.ControlBytes.{Part, Setting}
+use Rattle.control.specs.ControlBytes.{Setting}
+use Rattle.cabinet_rules.specs.Delivery.{Delivery, PartOf, today}
 
 -- A slot as the rules see it: an absence shows no value, and the unnamed bits are ignored.
 abbrev pub slotSeen : BlockBytes → ℕ → Slot
@@ -35,50 +36,56 @@ startRow m = row 9 (ltb (size m) leastMembers) 0
 abbrev pub mostPlaced : ℕ
 mostPlaced = 3
 
--- place: also a member not working, or the newest mask again, is 9; with three or more active it is 10.
-unfoldable pub placeRows : Part → Byte → ℕ
-placeRows k m =
-    row 9 (ltb (size m) leastMembers || (not (isWithin m (k .working)) || eqb (m .0) (k .newest .mask .0))) (
-    row 10 (leb mostPlaced (length (active k))) 0)
+module _ (D : Delivery) where
+  -- place: also a member not working, or the newest mask again, is 9; with three or more active it is 10.
+  unfoldable pub placeRows : PartOf D → Byte → ℕ
+  placeRows k m =
+      row 9 (ltb (size m) leastMembers || (not (isWithin m (k .working)) || D .isAgain (k .newest) m)) (
+      row 10 (leb mostPlaced (length (active k))) 0)
 
+  -- The rules by a delivery.
+  abbrev pub rulesOf : Parameters
+  rulesOf = record {
+    Mask = Byte;
+    Placement = D .Placement;
+    Setting = Setting;
+    Block = BlockBytes;
+    StartArgument = Byte;
+    PlaceArgument = Byte;
+    cards = cardCount;
+    transactions = tranBound;
+    slots = slotCount;
+    copies = λ σ. copyCount;
+    blocks = λ σ. blockCount;
+    tranInRange = tranOk;
+    recInRange = λ σ r. ltb r recordCount;
+    valueInRange = λ n. ltb n valueBound;
+    -- record r lies in block r/8 (whole part), at place r mod 8
+    blockOf = λ r. r / slotCount;
+    placeOf = λ r. r % slotCount;
+    has = hasCard;
+    noCards = noCards;
+    insert = withCard;
+    remove = withoutCard;
+    mask = D .mask;
+    sites = λ σ p b. D .sites p b;
+    without = λ p c. D .fromMask (withoutCard (D .mask p) c);
+    usable = λ σ p. copyCount ≤ size (D .mask p);
+    starts = D .fromMask;
+    startSetting = λ m. tt;
+    startRefusal = startRow;
+    places = λ newest m. D .fromMask m;
+    placeInRange = λ m. true;
+    placeRefusal = placeRows;
+    placeLimit = λ σ. mostPlaced;
+    empty = emptyBlock;
+    fresh = freshBlock;
+    held = isHeld;
+    slot = slotSeen;
+    lockSlot = lockSlot;
+    endSlots = endSlots;
+  }
+
+-- The rules in force.
 abbrev pub cabinet : Parameters
-cabinet = record {
-  Mask = Byte;
-  Placement = Placement;
-  Setting = Setting;
-  Block = BlockBytes;
-  StartArgument = Byte;
-  PlaceArgument = Byte;
-  cards = cardCount;
-  transactions = tranBound;
-  slots = slotCount;
-  copies = λ σ. copyCount;
-  blocks = λ σ. blockCount;
-  tranInRange = tranOk;
-  recInRange = λ σ r. ltb r recordCount;
-  valueInRange = λ n. ltb n valueBound;
-  -- record r lies in block r/8 (whole part), at place r mod 8
-  blockOf = λ r. r / slotCount;
-  placeOf = λ r. r % slotCount;
-  has = hasCard;
-  noCards = noCards;
-  insert = withCard;
-  remove = withoutCard;
-  mask = λ p. p .mask;
-  sites = λ σ p b. sitesOf p b;
-  without = placementWithout;
-  usable = λ σ p. Usable p;
-  starts = fromMask;
-  startSetting = λ m. tt;
-  startRefusal = startRow;
-  places = λ newest m. fromMask m;
-  placeInRange = λ m. true;
-  placeRefusal = placeRows;
-  placeLimit = λ σ. mostPlaced;
-  empty = emptyBlock;
-  fresh = freshBlock;
-  held = isHeld;
-  slot = slotSeen;
-  lockSlot = lockSlot;
-  endSlots = endSlots;
-}
+cabinet = rulesOf today

@@ -2,7 +2,7 @@
 use Prim.Native.Nat.{ℕ}
 use lib.Dec.{leb}
 use lib.ListN.{getD, length}
-use mathlib.Core.Bool.{_&&_, cond}
+use mathlib.Core.Bool.{_&&_, cond, false}
 use mathlib.Core.List.{List, [], _∷_}
 use mathlib.Core.Path.{_≡_}
 use Rattle.lists.specs.Tabulate.{tabulate}
@@ -12,8 +12,9 @@ use Rattle.method.specs.OneRecordList.{Observation, isLast, observe, runPlain, 
 use Rattle.method.specs.PlainList.{plainStart}
 use Rattle.method.specs.Rules.{Call, ok, start}
 use Rattle.control.specs.ControlForm.{formRefusal}
-use Rattle.cabinet_rules.specs.Cabinet.{cabinet}
-use Rattle.cabinet_rules.specs.Images.{Image, answer, cardAt, controlIn, next}
+use Rattle.cabinet_rules.specs.Cabinet.{cabinet, rulesOf}
+use Rattle.cabinet_rules.specs.Delivery.{Delivery, today}
+use Rattle.cabinet_rules.specs.Images.{Image, answer, answerBy, cardAt, controlIn, next, nextBy}
 
 -- ---- noise
 -- Before each call the tables of failed cards hold any bytes: those that noise gives.
@@ -23,26 +24,47 @@ noisyByte noise g n = cond (leb controlSize n && hasCard (controlIn g .failed) (
 unfoldable pub noisy : (ℕ → ℕ) → Image → Image
 noisy noise g = tabulate (length g) (noisyByte noise g)
 
--- ---- a list of calls, each with the noise before it
-abbrev pub NoisyCall : Type 0
-NoisyCall = (ℕ → ℕ) × Call cabinet
+-- ---- a list of calls by a delivery, each with the noise before it
+module _ (D : Delivery) where
+  abbrev pub NoisyCallBy : Type 0
+  NoisyCallBy = (ℕ → ℕ) × Call (rulesOf D)
 
--- What is observed up to the first stop, each call getting the memory as the last left it.
-unfoldable pub runImage : List NoisyCall → Image → List (Observation cabinet)
-runImage [] g = []
-runImage (e ∷ l) g =
-    observe cabinet (e .1) (answer (e .1) (noisy (e .0) g))
-    ∷ cond (isLast cabinet (observe cabinet (e .1) (answer (e .1) (noisy (e .0) g)))) []
-    (runImage l (next (e .1) (noisy (e .0) g)))
+  -- What is observed up to the first stop, each call getting the memory as the last left it.
+  unfoldable pub runImageBy : List NoisyCallBy → Image → List (Observation (rulesOf D))
+  runImageBy [] g = []
+  runImageBy (e ∷ l) g =
+      observe (rulesOf D) (e .1) (answerBy D (e .1) (noisy (e .0) g))
+      ∷ cond (isLast (rulesOf D) (observe (rulesOf D) (e .1) (answerBy D (e .1) (noisy (e .0) g)))) []
+      (runImageBy l (nextBy D (e .1) (noisy (e .0) g)))
+
+  abbrev pub imageCallsBy : List NoisyCallBy → List (Call (rulesOf D))
+  imageCallsBy [] = []
+  imageCallsBy (e ∷ l) = e .1 ∷ imageCallsBy l
+
+  -- The image after all of them, stops included.
+  unfoldable pub imageAfterBy : List NoisyCallBy → Image → Image
+  imageAfterBy [] g = g
+  imageAfterBy (e ∷ l) g = imageAfterBy l (nextBy D (e .1) (noisy (e .0) g))
+
+  -- None of them stopped the store.
+  unfoldable pub NoStopBy : List NoisyCallBy → Image → Type 0
+  NoStopBy [] g = Unit {0}
+  NoStopBy (e ∷ l) g =
+      (isLast (rulesOf D) (observe (rulesOf D) (e .1) (answerBy D (e .1) (noisy (e .0) g))) ≡ false)
+      × NoStopBy l (nextBy D (e .1) (noisy (e .0) g))
+
+-- ---- by the delivery in force
+abbrev pub NoisyCall : Type 0
+NoisyCall = NoisyCallBy today
+
+abbrev pub runImage : List NoisyCall → Image → List (Observation cabinet)
+runImage = runImageBy today
 
 abbrev pub imageCalls : List NoisyCall → List (Call cabinet)
-imageCalls [] = []
-imageCalls (e ∷ l) = e .1 ∷ imageCalls l
+imageCalls = imageCallsBy today
 
--- The image after all of them, stops included.
-unfoldable pub imageAfter : List NoisyCall → Image → Image
-imageAfter [] g = g
-imageAfter (e ∷ l) g = imageAfter l (next (e .1) (noisy (e .0) g))
+abbrev pub imageAfter : List NoisyCall → Image → Image
+imageAfter = imageAfterBy today
 
 -- DEMAND 3. After an accepted start on memory of any contents, until the store stops, every get, store, delete,
 -- commit and rollback answers exactly what the plain record list answers; and it stops exactly when the stop rule

@@ -8,25 +8,21 @@ use mathlib.Core.Option.{Option}
 use Rattle.lists.specs.Tabulate.{tabulate}
 use Rattle.image.specs.Layout.{blockAddress, blockCount, blockSize, cardCount, controlSize, imageSize, tableSize}
 use Rattle.slot.specs.Blocks.{BlockBytes, blockOfBytes, byteIn}
+use Rattle.method.specs.Parameters.{Parameters}
 use Rattle.method.specs.PlainList.{orRefused}
 use Rattle.method.specs.Rules.{Answer, Call, Plan, State, act, begin, commit, delete, fail, fit, get, load, look, move}
 use Rattle.method.specs.Rules.{place, refusal, rollback, settle, start, state, store, updated, withdraw}
-use Rattle.control.specs.ControlBytes.{Part, controlByte, controlOf}
+use Rattle.control.specs.ControlBytes.{Part}
 use Rattle.control.specs.ControlForm.{formRows}
-use Rattle.cabinet_rules.specs.Cabinet.{cabinet}
+use Rattle.cabinet_rules.specs.Cabinet.{cabinet, rulesOf}
+use Rattle.cabinet_rules.specs.Delivery.{Delivery, PartOf, today}
 
 abbrev pub Image : Type 0
 Image = List ℕ
 
--- ---- reading: the control part and the blocks that an image shows
-abbrev pub controlIn : Image → Part
-controlIn g = controlOf (λ n. getD g n 0)
-
+-- ---- reading: the blocks that an image shows
 abbrev pub blockIn : Image → ℕ → ℕ → BlockBytes
 blockIn g c b = blockOfBytes (λ j. getD g (blockAddress c b + j) 0)
-
-unfoldable pub stateIn : Image → State cabinet
-stateIn g = record { control = controlIn g; block = blockIn g }
 
 -- ---- writing: g with other control bytes, and for each card and block what w writes there
 abbrev pub Writes : Type 0
@@ -55,9 +51,14 @@ afterByte control w g n =
 unfoldable pub after : (ℕ → ℕ) → Writes → Image → Image
 after control w g = tabulate imageSize (afterByte control w g)
 
+-- What a call leaves: a refused one leaves the image as found.
+abbrev pub unlessRefusedImage : ℕ → Image → Image → Image
+unlessRefusedImage zero found changed = changed
+unlessRefusedImage (suc n) found changed = found
+
 -- ---- the whole refusal table
 -- start examines only the length: older contents are not examined.
-abbrev pub isStart : Call cabinet → Bool
+abbrev pub isStart : {P : Parameters} → Call P → Bool
 isStart (start m) = true
 isStart (begin t h) = false
 isStart (get t r) = false
@@ -74,21 +75,49 @@ isStart settle = false
 isStart state = false
 isStart (load c) = false
 
--- Rows 1 and 2, then the rows from 3 on.
-unfoldable pub refusalOn : Call cabinet → Image → ℕ
-refusalOn c g = formRows (isStart c) g (refusal cabinet c (controlIn g) (look cabinet (stateIn g)))
+-- ---- by a delivery
+module _ (D : Delivery) where
+  -- The control part that an image shows, and the whole state.
+  abbrev pub controlBy : Image → PartOf D
+  controlBy g = D .part (λ n. getD g n 0)
 
--- ---- answer and image after
+  unfoldable pub stateBy : Image → State (rulesOf D)
+  stateBy g = record { control = controlBy g; block = blockIn g }
+
+  -- Rows 1 and 2, then the rows from 3 on.
+  unfoldable pub refusalBy : Call (rulesOf D) → Image → ℕ
+  refusalBy c g =
+      formRows (isStart c) (D .form (λ n. getD g n 0)) g
+      (refusal (rulesOf D) c (controlBy g) (look (rulesOf D) (stateBy g)))
+
+  -- What an accepted call answers and writes.
+  abbrev pub planBy : Call (rulesOf D) → Image → Plan (rulesOf D)
+  planBy c g = act (rulesOf D) c (controlBy g) (look (rulesOf D) (stateBy g))
+
+  -- The lowest number that applies is returned, and the image is left as found.
+  unfoldable pub answerBy : Call (rulesOf D) → Image → Answer (rulesOf D)
+  answerBy c g = orRefused (rulesOf D) (refusalBy c g) (planBy c g .answer)
+
+  unfoldable pub nextBy : Call (rulesOf D) → Image → Image
+  nextBy c g = unlessRefusedImage (refusalBy c g) g (after (D .bytes (planBy c g .after)) (planBy c g .write) g)
+
+-- ---- by the delivery in force
+abbrev pub controlIn : Image → Part
+controlIn = controlBy today
+
+abbrev pub stateIn : Image → State cabinet
+stateIn = stateBy today
+
+abbrev pub refusalOn : Call cabinet → Image → ℕ
+refusalOn = refusalBy today
+
 abbrev pub planOn : Call cabinet → Image → Plan cabinet
-planOn c g = act cabinet c (controlIn g) (look cabinet (stateIn g))
+planOn = planBy today
 
--- The lowest number that applies is returned, and the image is left as found.
-unfoldable pub answer : Call cabinet → Image → Answer cabinet
-answer c g = orRefused cabinet (refusalOn c g) (planOn c g .answer)
+-- The answer of a call.
+abbrev pub answer : Call cabinet → Image → Answer cabinet
+answer = answerBy today
 
-abbrev pub unlessRefusedImage : ℕ → Image → Image → Image
-unlessRefusedImage zero found changed = changed
-unlessRefusedImage (suc n) found changed = found
-
-unfoldable pub next : Call cabinet → Image → Image
-next c g = unlessRefusedImage (refusalOn c g) g (after (controlByte (planOn c g .after)) (planOn c g .write) g)
+-- The image after it.
+abbrev pub next : Call cabinet → Image → Image
+next = nextBy today

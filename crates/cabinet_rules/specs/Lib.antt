@@ -1,3 +1,4 @@
+pub mod Delivery
 pub mod Cabinet
 pub mod Images
 pub mod Claims

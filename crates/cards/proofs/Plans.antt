@@ -13,7 +13,7 @@ use Rattle.method.specs.ControlPart.{added, withCards}
 use Rattle.method.specs.Rules.{act, clearCard, fit, ok, place, refusal, start, unwritten, withdraw, writing}
 use Rattle.control.specs.Meaning.{putControl}
 use Rattle.cabinet_rules.specs.Cabinet.{cabinet, startRow}
-use Rattle.cabinet_rules.specs.Images.{Image, answer, controlIn, next, planOn, refusalOn}
+use Rattle.cabinet_rules.specs.Images.{Image, answerBy, controlIn, nextBy, planOn, refusalBy}
 use Rattle.promise.specs.Promise.{Done}
 use Rattle.promise.proofs.Laid.{write-control}
 use Rattle.cards.specs.Clearing.{cleared}
@@ -34,15 +34,15 @@ module _ (g : Image) where
 
   -- ---- start: row 1, row 9, and done
   pub start-1 : (m : Byte) → (length g ≡ imageSize → ⊥) → Done (start m) g (Refused 1) g
-  unfolding answer next refusalOn
+  unfolding answerBy nextBy refusalBy
   start-1 m n = record { answers = rw (ne-eqb (length g) imageSize n); leaves = rw (ne-eqb (length g) imageSize n) }
 
   pub start-9 : (m : Byte) → Whole g → size m < leastMembers → Done (start m) g (Refused 9) g
-  unfolding answer next refusalOn refusal startRow
+  unfolding answerBy nextBy refusalBy refusal startRow
   start-9 m w h = record { answers = rw (eq-eqb (length g) imageSize w, lt-ltb (size m) leastMembers h); leaves = rw (eq-eqb (length g) imageSize w, lt-ltb (size m) leastMembers h) }
 
   pub start-done : (m : Byte) → Whole g → leastMembers ≤ size m → (behind : Image) → behind ≡ putControl (cleared g) (startedBy cabinet m) → Done (start m) g Ok behind
-  unfolding answer next refusalOn refusal startRow act cleared
+  unfolding answerBy nextBy refusalBy refusal startRow act cleared
   start-done m w h behind e = record {
     answers = rw (eq-eqb (length g) imageSize w, le-ltb (size m) leastMembers h);
     leaves = e ∙ rw (eq-eqb (length g) imageSize w, le-ltb (size m) leastMembers h) (write-control (λ c b. some emptyBlock) g (startedBy cabinet m));

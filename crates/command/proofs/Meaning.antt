@@ -4,7 +4,7 @@ use mathlib.Core.Path.{_∙_, _≡_, ap, ap₂, refl, subst, sym}
 use mathlib.Core.Logic.{⊎-elim}
 use mathlib.Core.Bool.{Bool, _&&_, cond, false, not, true}
 use mathlib.Core.List.{List}
-use Prim.Native.Nat.{_<_, _≤_, ℕ, suc}
+use Prim.Native.Nat.{_<_, _≤_, suc, ℕ}
 use native.Mathlib.Omega.{arith}
 use lib.Dec.{eqb}
 use lib.ListN.{length}
@@ -17,7 +17,8 @@ use Rattle.method.specs.Changes.{Control}
 use Rattle.method.specs.PlainList.{orRefused}
 use Rattle.method.specs.Rules.{View, move, refusal, refused, row}
 use Rattle.cabinet_rules.specs.Cabinet.{cabinet}
-use Rattle.cabinet_rules.specs.Images.{Image, after, answer, next, planOn, refusalOn, unlessRefusedImage}
+use Rattle.cabinet_rules.specs.Images.{Image, after, answer, answerBy, next, nextBy, planOn, refusalBy, refusalOn}
+use Rattle.cabinet_rules.specs.Images.{unlessRefusedImage}
 use Rattle.promise.specs.Promise.{Done, asked}
 use Rattle.promise.specs.declared.Answer.{Answer}
 use Rattle.promise.specs.declared.Answer.the-variants.{Refused}
@@ -46,24 +47,24 @@ some-row false false = (2, refl)
 
 -- a move of a block out of range is refused by the form of the image or with 3, whatever the block
 unfoldable pub formRow : Image → ℕ
-formRow g = formRows false g 3
+formRow g = formRows false (controlForm g) g 3
 
 move-row : (c b : ℕ) (g : Image) → blockCount ≤ b → refusalOn (move c b) g ≡ formRow g
-unfolding refusalOn formRow
-move-row c b g h = ap (λ (n : ℕ). formRows false g n) (move-refusal c b _ _ h)
+unfolding refusalBy formRow
+move-row c b g h = ap (λ (n : ℕ). formRows false (controlForm g) g n) (move-refusal c b _ _ h)
 
 refused-row : (g : Image) → (n : ℕ) × (formRow g ≡ suc n)
 unfolding formRow
 refused-row g = some-row (not (eqb (length g) imageSize)) (not (controlForm g))
 
 pub refused-answer : (c b : ℕ) (g : Image) → blockCount ≤ b → answer (move c b) g ≡ refused (formRow g)
-unfolding answer
+unfolding answerBy
 refused-answer c b g h =
     let r = refused-row g in
     ap (λ (n : ℕ). orRefused cabinet n (planOn (move c b) g .answer)) (move-row c b g h ∙ r .1) ∙ ap refused (sym (r .1))
 
 pub refused-next : (c b : ℕ) (g : Image) → blockCount ≤ b → next (move c b) g ≡ g
-unfolding next
+unfolding nextBy
 refused-next c b g h =
     ap (λ (n : ℕ). unlessRefusedImage n g (after (controlByte (planOn (move c b) g .after)) (planOn (move c b) g .write) g))
     (move-row c b g h ∙ refused-row g .1)

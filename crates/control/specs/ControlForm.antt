@@ -62,13 +62,13 @@ formOk g = countOk g && (zeroFieldsOk g && partOk (controlOf g))
 abbrev pub controlForm : List ℕ → Bool
 controlForm image = formOk (λ n. getD image n 0)
 
--- Rows 1 and 2 of the refusal table, and the rows below them: the length is wrong; the control form is broken, which a
--- start does not examine.
-abbrev pub formRows : Bool → List ℕ → ℕ → ℕ
-formRows isStart image below =
+-- Rows 1 and 2 of the refusal table, and the rows below them: the length is wrong; the control form is broken (formed
+-- says whether it holds), which a start does not examine.
+abbrev pub formRows : Bool → Bool → List ℕ → ℕ → ℕ
+formRows isStart formed image below =
     row 1 (not (eqb (length image) imageSize)) (
-    row 2 (not isStart && not (controlForm image)) below)
+    row 2 (not isStart && not formed) below)
 
 -- They alone.
 unfoldable pub formRefusal : List ℕ → ℕ
-formRefusal image = formRows false image 0
+formRefusal image = formRows false (controlForm image) image 0

@@ -19,8 +19,8 @@ use Rattle.control.specs.Meaning.{Reads, putControl}
 use Rattle.control.specs.declared.Control.{Control}
 use Rattle.control.specs.declared.Found.{Found}
 use Rattle.cabinet_rules.specs.Cabinet.{cabinet}
-use Rattle.cabinet_rules.specs.Images.{Image, Writes, after, answer, controlIn, isStart, next, planOn, refusalOn}
-use Rattle.cabinet_rules.specs.Images.{unlessRefusedImage}
+use Rattle.cabinet_rules.specs.Images.{Image, Writes, after, answer, answerBy, controlIn, isStart, nextBy, planOn}
+use Rattle.cabinet_rules.specs.Images.{refusalBy, refusalOn, unlessRefusedImage}
 use Rattle.promise.specs.Given.{Given, rowsOn}
 use Rattle.promise.specs.Promise.{Done, shown}
 use Rattle.promise.proofs.Laid.{kept-control, laid, laid-none, write-control}
@@ -45,14 +45,14 @@ given-whole {g = g} is = form-long g (is .formed)
 
 -- refused, by any row
 pub by-row : (c : Call cabinet) (g : Image) (n : ℕ) → n ≡ refusalOn c g → n ≢ 0 → Done c g (Refused n) g
-unfolding answer next
+unfolding answerBy nextBy
 by-row c g zero e d = absurd (d refl)
 by-row c g (suc n) e d = let r : refusalOn c g ≡ suc n = sym e in record { answers = rw r; leaves = rw r }
 
 module _ (c : Call cabinet) (late : isStart c ≡ false) (g : Image) where
   -- 1 and 2
   pub form-row : (n : ℕ) → n ≡ formRefusal g → n ≢ 0 → n ≡ refusalOn c g
-  unfolding refusalOn formRefusal
+  unfolding refusalBy formRefusal
   form-row n e d = rw late (go (not (eqb (length g) imageSize)) (not (controlForm g)) e)
     where
       go : (a b : Bool) → n ≡ row 1 a (row 2 b 0) → n ≡ row 1 a (row 2 b (rowsOn c g))
@@ -65,7 +65,7 @@ module _ (c : Call cabinet) (late : isStart c ≡ false) (g : Image) where
 
   module _ (clear : formRefusal g ≡ 0) where
     pub refusal-rules : refusalOn c g ≡ rowsOn c g
-    unfolding refusalOn
+    unfolding refusalBy
     refusal-rules = rw (eq-eqb (length g) imageSize (form-long g clear), form-good g clear, late)
 
     -- 3 and up
@@ -75,7 +75,7 @@ module _ (c : Call cabinet) (late : isStart c ≡ false) (g : Image) where
     -- accepted: the plan's answer, and the image after the plan
     pub by-plan : (a : AnswerValue) (p : Plan cabinet) (behind : Image) → 0 ≡ rowsOn c g → planOn c g ≡ p
         → shown a ≡ p .answer → behind ≡ after (controlByte (p .after)) (p .write) g → Done c g a behind
-    unfolding answer next
+    unfolding answerBy nextBy
     by-plan a p behind e q s l =
         let r : refusalOn c g ≡ 0 = refusal-rules ∙ sym e in
         record {

@@ -23,16 +23,16 @@ use Rattle.method.specs.Rules.{look}
 use Rattle.control.specs.ControlForm.{controlForm, membersOk}
 use Rattle.control.proofs.RoundTrip.{Clauses, form-part, part-clauses}
 use Rattle.cabinet_rules.specs.Cabinet.{cabinet}
-use Rattle.cabinet_rules.specs.Images.{Image, blockIn, controlIn, stateIn}
+use Rattle.cabinet_rules.specs.Images.{Image, blockIn, controlIn, stateBy, stateIn}
 
 module _ (g : Image) where
   -- ---- the tables: blocks of working cards
   pub look-on : (c b : ℕ) → hasCard (controlIn g .working) c ≡ true → b < blockCount → look cabinet (stateIn g) c b ≡ blockIn g c b
-  unfolding look stateIn
+  unfolding look stateBy
   look-on c b on h = rw (on, lt-ltb b blockCount h)
 
   pub look-off : (c b : ℕ) → hasCard (controlIn g .working) c ≡ false → look cabinet (stateIn g) c b ≡ emptyBlock
-  unfolding look stateIn
+  unfolding look stateBy
   look-off c b off = rw off
 
   pub look-is : (c b : ℕ) → b < blockCount → look cabinet (stateIn g) c b ≡ cond (hasCard (controlIn g .working) c) (blockIn g c b) emptyBlock

@@ -13,12 +13,13 @@ use Rattle.mask.specs.Masks.{byte}
 use Rattle.mask.specs.Placements.{Usable, fromMask}
 use Rattle.slot.specs.Words.{stateOf}
 use Rattle.slot.specs.declared.Entry.{Entry}
-use Rattle.method.specs.Rules.{Answer, Plan, absent, act, delete, get, layBlock, lockHolders, look, ok, refusal, reply, store, storeWrites, unwritten, writing}
+use Rattle.method.specs.Rules.{Answer, Plan, absent, act, delete, get, layBlock, lockHolders, look, ok, refusal, reply}
+use Rattle.method.specs.Rules.{store, storeWrites, unwritten, writing}
 use Rattle.method.specs.Slots.{isNone, readBy}
 use Rattle.method.proofs.Refusals.{row-3}
-use Rattle.control.specs.ControlForm.{formRows}
+use Rattle.control.specs.ControlForm.{controlForm, formRows}
 use Rattle.cabinet_rules.specs.Cabinet.{cabinet, tranOk}
-use Rattle.cabinet_rules.specs.Images.{Image, Writes, controlIn, refusalOn, stateIn}
+use Rattle.cabinet_rules.specs.Images.{Image, Writes, controlIn, refusalBy, refusalOn, stateIn}
 use Rattle.promise.specs.Promise.{Done, shown}
 use Rattle.promise.specs.declared.Answer.{Answer as AnswerValue}
 use Rattle.promise.specs.declared.Answer.the-variants.{Absent, Ok, Refused}
@@ -39,10 +40,10 @@ module _ (g : Image) (t r : ℕ) (m : ℕ) (e : m ≡ refusalOn (get t r) g) (d 
   get-refused = by-row (get t r) g m e d
 
   pub store-refused : (n : ℕ) → n < valueBound → Done (store t r n) g (Refused m) g
-  store-refused n h = by-row (store t r n) g m (e ∙ unfold refusalOn in (ap (formRows false g) (store-rows (controlIn g) (look cabinet (stateIn g)) t r n h))) d
+  store-refused n h = by-row (store t r n) g m (e ∙ unfold refusalBy in (ap (formRows false (controlForm g) g) (store-rows (controlIn g) (look cabinet (stateIn g)) t r n h))) d
 
   pub delete-refused : Done (delete t r) g (Refused m) g
-  delete-refused = by-row (delete t r) g m (e ∙ unfold refusalOn in (ap (formRows false g) (delete-rows (controlIn g) (look cabinet (stateIn g)) t r))) d
+  delete-refused = by-row (delete t r) g m (e ∙ unfold refusalBy in (ap (formRows false (controlForm g) g) (delete-rows (controlIn g) (look cabinet (stateIn g)) t r))) d
 
 -- ---- accepted
 module _ (g : Image) (t r : ℕ) (a : Access) (ready : Ready g t r a) where

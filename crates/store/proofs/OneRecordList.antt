@@ -1,13 +1,13 @@
 -- Demand 3 of the calls, the proof: calls that keep their promise run as the rules do on images. Assumes nothing.
 use mathlib.Core.Bool.{cond}
 use mathlib.Core.List.{List, [], _∷_}
-use mathlib.Core.Path.{_≡_, _∙_, ap, ap₂, refl, sym}
+use mathlib.Core.Path.{_∙_, _≡_, ap, ap₂, refl, sym}
 use Rattle.mask.specs.Masks.{byte}
 use Rattle.method.specs.OneRecordList.{Observation, isLast, observe, runPlain, zeroed}
 use Rattle.method.specs.PlainList.{plainStart}
 use Rattle.method.specs.Rules.{Answer, Call}
 use Rattle.cabinet_rules.specs.Cabinet.{cabinet}
-use Rattle.cabinet_rules.specs.Claims.{NoisyCall, OneRecordListOnImages, imageCalls, runImage}
+use Rattle.cabinet_rules.specs.Claims.{NoisyCall, OneRecordListOnImages, imageCalls, runImage, runImageBy}
 use Rattle.cabinet_rules.specs.Images.{Image}
 use Rattle.cabinet_rules.proofs.OneRecordList.{one-record-list-on-images}
 use Rattle.promise.specs.Promise.{asked}
@@ -25,7 +25,7 @@ calls-given (s ∷ l) = ap (λ (t : List (Call cabinet)). asked (s .call) ∷ t)
 
 -- Every answer and every image left is that of the rules, so what is observed is what they show.
 observed-is : (l : List Step) (g : Image) → Ran l g → observed l ≡ runImage (given l) g
-unfolding given observed Ran runImage
+unfolding given observed Ran runImageBy
 observed-is [] g r = refl
 observed-is (s ∷ l) g r =
     ap₂ shows (r .0 .answers) (observed-is l (s .left) (r .1) ∙ ap (runImage (given l)) (r .0 .leaves))
