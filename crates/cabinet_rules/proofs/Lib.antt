@@ -4,4 +4,5 @@ pub mod After
 pub mod Form
 pub mod Sound
 pub mod OneRecordList
+pub mod GoesOn
 pub mod FormStays

@@ -26,6 +26,7 @@ noisy noise g = tabulate (length g) (noisyByte noise g)
 
 -- ---- a list of calls by a delivery, each with the noise before it
 module _ (D : Delivery) where
+  -- The noise, as the bytes that it gives, and the call.
   abbrev pub NoisyCallBy : Type 0
   NoisyCallBy = (ℕ → ℕ) × Call (rulesOf D)
 
@@ -37,6 +38,7 @@ module _ (D : Delivery) where
       ∷ cond (isLast (rulesOf D) (observe (rulesOf D) (e .1) (answerBy D (e .1) (noisy (e .0) g)))) []
       (runImageBy l (nextBy D (e .1) (noisy (e .0) g)))
 
+  -- The calls alone.
   abbrev pub imageCallsBy : List NoisyCallBy → List (Call (rulesOf D))
   imageCallsBy [] = []
   imageCallsBy (e ∷ l) = e .1 ∷ imageCallsBy l

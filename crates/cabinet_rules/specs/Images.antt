@@ -51,13 +51,13 @@ afterByte control w g n =
 unfoldable pub after : (ℕ → ℕ) → Writes → Image → Image
 after control w g = tabulate imageSize (afterByte control w g)
 
--- What a call leaves: a refused one leaves the image as found.
+-- A refused call leaves the image as found.
 abbrev pub unlessRefusedImage : ℕ → Image → Image → Image
 unlessRefusedImage zero found changed = changed
 unlessRefusedImage (suc n) found changed = found
 
--- ---- the whole refusal table
--- start examines only the length: older contents are not examined.
+-- ---- start
+-- It examines only the length: older contents are not examined.
 abbrev pub isStart : {P : Parameters} → Call P → Bool
 isStart (start m) = true
 isStart (begin t h) = false
@@ -84,7 +84,7 @@ module _ (D : Delivery) where
   unfoldable pub stateBy : Image → State (rulesOf D)
   stateBy g = record { control = controlBy g; block = blockIn g }
 
-  -- Rows 1 and 2, then the rows from 3 on.
+  -- The whole refusal table: rows 1 and 2, then the rows from 3 on.
   unfoldable pub refusalBy : Call (rulesOf D) → Image → ℕ
   refusalBy c g =
       formRows (isStart c) (D .form (λ n. getD g n 0)) g
@@ -94,30 +94,32 @@ module _ (D : Delivery) where
   abbrev pub planBy : Call (rulesOf D) → Image → Plan (rulesOf D)
   planBy c g = act (rulesOf D) c (controlBy g) (look (rulesOf D) (stateBy g))
 
-  -- The lowest number that applies is returned, and the image is left as found.
+  -- The answer: the lowest number that applies is returned.
   unfoldable pub answerBy : Call (rulesOf D) → Image → Answer (rulesOf D)
   answerBy c g = orRefused (rulesOf D) (refusalBy c g) (planBy c g .answer)
 
+  -- The image after the call.
   unfoldable pub nextBy : Call (rulesOf D) → Image → Image
   nextBy c g = unlessRefusedImage (refusalBy c g) g (after (D .bytes (planBy c g .after)) (planBy c g .write) g)
 
 -- ---- by the delivery in force
+-- What an image shows.
 abbrev pub controlIn : Image → Part
 controlIn = controlBy today
 
 abbrev pub stateIn : Image → State cabinet
 stateIn = stateBy today
 
+-- What a call is refused with, or what it does.
 abbrev pub refusalOn : Call cabinet → Image → ℕ
 refusalOn = refusalBy today
 
 abbrev pub planOn : Call cabinet → Image → Plan cabinet
 planOn = planBy today
 
--- The answer of a call.
+-- What it answers, and the image after it.
 abbrev pub answer : Call cabinet → Image → Answer cabinet
 answer = answerBy today
 
--- The image after it.
 abbrev pub next : Call cabinet → Image → Image
 next = nextBy today

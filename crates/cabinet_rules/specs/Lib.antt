@@ -2,3 +2,4 @@ pub mod Delivery
 pub mod Cabinet
 pub mod Images
 pub mod Claims
+pub mod GoesOn
