@@ -131,7 +131,8 @@ uint32_t nolpigat_fit(uint8_t *image, size_t length, uint8_t card);
 uint32_t nolpigat_withdraw(uint8_t *image, size_t length, uint8_t card);
 
 /* place: the mask becomes the newest placement.
- * mask: two members at least, all working, not the newest mask again.
+ * mask: two members at least, all working, not the newest mask again; the newest mask again is taken
+ * where that placement is older than the choice of sites on two supply rails.
  * Answer: ok. Refused: 9 the mask is not such; 10 three or more placements are active. */
 uint32_t nolpigat_place(uint8_t *image, size_t length, uint8_t mask);
 

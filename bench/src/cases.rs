@@ -85,7 +85,7 @@ fn pending(image: &[u8]) -> Vec<u8> {
 }
 
 fn begins(image: &[u8]) -> Vec<Call> {
-    let cards = members(Control::read(image).expect("the form is whole").newest());
+    let cards = members(Control::read(image).expect("the form is whole").newest().mask);
     let home = |transaction: u8| cards[transaction as usize % cards.len()] as u8;
     (1..=TRANSACTIONS).map(|transaction| Call::Begin { transaction, home: home(transaction) }).collect()
 }
@@ -126,7 +126,8 @@ pub fn cases() -> Vec<Case> {
     all.push(on_full("fit", (0..CARDS as u8).map(|card| Call::Fit { card }).collect()));
     all.push(on_full("withdraw", (0..CARDS as u8).map(|card| Call::Withdraw { card }).collect()));
     all.push(on_full("place", vec![Call::Place { mask: 0xFE }, Call::Place { mask: 0x7E }]));
-    let at_sites = |block: usize| sites(0xFF, block).map(|card| Call::Move { card: card as u8, block: block as u16 });
+    let newest = Control::read(&full).expect("the form is whole").newest();
+    let at_sites = |block: usize| sites(newest, block).map(|card| Call::Move { card: card as u8, block: block as u16 });
     all.push(on_full("move", (0..BLOCKS).flat_map(at_sites).collect()));
     all.push(on_full("settle", vec![Call::Settle; 4]));
     all.extend(common(REORGANISING, &half));

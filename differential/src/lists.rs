@@ -1,21 +1,20 @@
 //! Long lists of calls with any bytes in the tables of failed cards, compared with the plain record list too.
+//! Some go on from an image that calls of the base left.
 
 use crate::archive::code;
 use crate::pair::{Outcome, Pair, Request, ALIGNMENTS};
 use crate::run::Run;
 use model::commands::read_command;
-use model::image::{table_at, LENGTH};
+use model::control::Control;
+use model::image::table_at;
 use model::images::disturb;
-use model::kinds::{Kind, Maker, KINDS};
+use model::kinds::KINDS;
+use model::lists::{List, Lists};
 use model::plain::{Expected, Plain};
+use model::rail_situations::{rail_situations, OVER_OLD};
 use model::sites::members;
 use model::tally::OPERATIONS;
 use model::{Answer, Call};
-
-const CALLS_IN_A_LIST: usize = 4_000;
-
-/// The maker of refusals tries many calls for each that it takes.
-const CALLS_AIMED_AT_REFUSALS: usize = 500;
 
 const NOISE: &str = "list call with bytes put into a failed card's table";
 const STOP: &str = "stop, as the plain list says";
@@ -24,8 +23,12 @@ const NO_STOP: &str = "fail of a working card, no stop as the plain list says";
 /// Operations whose answers are the plain list's: get, store, delete, commit and rollback.
 const PLAIN_OPERATIONS: std::ops::RangeInclusive<usize> = 2..=6;
 
-fn list_name(kind: &str) -> String {
-    format!("call of a list of kind {kind}")
+fn list_name(kind: &str, from_older: bool) -> String {
+    format!("call of a list of kind {kind}{}", if from_older { ", from an older image" } else { "" })
+}
+
+fn beginning_name(active: usize) -> String {
+    format!("list from an older image with {active} active")
 }
 
 fn plain_name(operation: usize, refused: bool) -> String {
@@ -35,45 +38,47 @@ fn plain_name(operation: usize, refused: bool) -> String {
 
 /// Classes of calls in lists that a run must meet.
 pub fn classes() -> Vec<String> {
-    let mut all: Vec<String> = KINDS.map(|(name, _)| list_name(name)).to_vec();
+    let mut all: Vec<String> = KINDS.iter().flat_map(|(name, _)| [false, true].map(|o| list_name(name, o))).collect();
+    all.extend((1..=4).map(beginning_name));
     all.extend(PLAIN_OPERATIONS.flat_map(|operation| [plain_name(operation, false), plain_name(operation, true)]));
     all.extend([NOISE, STOP, NO_STOP].map(String::from));
+    all.extend(OVER_OLD.iter().map(|name| name.to_string()));
     all
 }
 
-/// This many calls, in lists of each kind by turns.
+/// This many calls, in the lists of the run's seed.
 pub fn run(run: &mut Run, calls: usize) {
     let end = run.calls + calls;
-    for (name, kind) in KINDS.iter().cycle() {
+    for list in Lists::new(run.seed) {
         let left = end - run.calls;
         if left == 0 {
             break;
         }
-        let most = if *kind == Kind::Refusals { CALLS_AIMED_AT_REFUSALS } else { CALLS_IN_A_LIST };
-        List::new(run, *kind).run(run, most.min(left), &list_name(name));
+        ListRun::new(run, list).run(run, left);
     }
 }
 
-struct List {
+struct ListRun {
     pair: Pair,
-    maker: Maker,
-    /// None before an accepted start and after a stop.
-    plain: Option<Plain>,
+    list: List,
 }
 
-impl List {
-    fn new(run: &mut Run, kind: Kind) -> List {
+impl ListRun {
+    fn new(run: &mut Run, list: List) -> ListRun {
         let mut pair = Pair::default();
-        pair.load(&[0; LENGTH], run.random.below(ALIGNMENTS));
-        let seed = run.random.below(1 << 48) as u64;
-        List { pair, maker: Maker::new(kind, seed), plain: None }
+        pair.load(list.image(), run.random.below(ALIGNMENTS));
+        if let Some(plain) = &list.plain {
+            run.cases.add(&beginning_name(plain.active.len()));
+        }
+        ListRun { pair, list }
     }
 
-    fn run(&mut self, run: &mut Run, calls: usize, name: &str) {
-        for _ in 0..calls {
-            let bytes = self.maker.next_command();
+    fn run(&mut self, run: &mut Run, most: usize) {
+        let name = list_name(self.list.name, self.list.from_older);
+        for _ in 0..self.list.calls.min(most) {
+            let bytes = self.list.next_command();
             self.disturb(run);
-            run.cases.add(name);
+            run.cases.add(&name);
             let Some(call) = read_command(&bytes) else {
                 run.perform(&mut self.pair, &Request::Command(&bytes));
                 continue;
@@ -81,7 +86,9 @@ impl List {
             let wide = matches!(call, Call::Move { block: 256.., .. });
             let by_bytes = wide || run.random.chance(300);
             let request = if by_bytes { Request::Command(&bytes) } else { Request::Call(call) };
+            let before = Control::read(self.pair.image());
             let outcome = run.perform(&mut self.pair, &request);
+            count_over_old(run, before, &call, &outcome);
             self.compare_with_plain(run, &request, &call, &outcome);
         }
     }
@@ -98,43 +105,51 @@ impl List {
 
     /// The archive's answer and control part against the plain list.
     fn compare_with_plain(&mut self, run: &mut Run, request: &Request, call: &Call, outcome: &Outcome) {
-        let Some(plain) = &mut self.plain else {
-            if let (Call::Start { mask }, Answer::Ok) = (call, outcome.answer) {
-                self.plain = Some(Plain::start(*mask));
-            }
-            return;
-        };
-        let before = plain.working;
-        let expected = plain.step(call);
+        let Some(expected) = self.list.expect(call) else { return };
         let stopped = outcome.code == code(Answer::Stopped);
         let agrees = match expected {
             Expected::Exactly(answer) => outcome.code == code(answer),
             Expected::Stops => stopped,
             Expected::Free => !stopped,
         };
-        let operation = request.operation();
-        if let (true, Expected::Exactly(answer)) = (PLAIN_OPERATIONS.contains(&operation), expected) {
-            run.cases.add(&plain_name(operation, matches!(answer, Answer::Refused(_))));
-        }
-        match expected {
-            Expected::Stops => run.cases.add(STOP),
-            Expected::Free if plain.working != before => run.cases.add(NO_STOP),
-            _ => {}
-        }
-        let same_cards = expected == Expected::Stops || same_cards(plain, self.pair.archive_image());
+        count_plain(run, request.operation(), call, outcome, expected);
+        let image = self.pair.archive_image();
+        let same_cards = self.list.plain.as_ref().is_none_or(|plain| same_cards(plain, image));
         if !agrees || !same_cards {
             run.report(request, &format!("the plain list expects {expected:?}; same cards: {same_cards}; {outcome}"));
-        }
-        if expected == Expected::Stops {
-            self.plain = None;
         }
     }
 }
 
-/// Working, failed and active are there as the plain list has them.
+/// What is special in a store with old placements.
+fn count_over_old(run: &mut Run, before: Option<Control>, call: &Call, outcome: &Outcome) {
+    let Some(control) = before.filter(|control| !control.stopped && call.in_range()) else { return };
+    for name in rail_situations(&control, call, &outcome.answer) {
+        run.cases.add(&name);
+    }
+}
+
+fn count_plain(run: &mut Run, operation: usize, call: &Call, outcome: &Outcome, expected: Expected) {
+    match (expected, outcome.answer) {
+        (Expected::Exactly(answer), _) if PLAIN_OPERATIONS.contains(&operation) => {
+            run.cases.add(&plain_name(operation, matches!(answer, Answer::Refused(_))));
+        }
+        (Expected::Stops, _) => run.cases.add(STOP),
+        (Expected::Free, Answer::Placed(_) | Answer::Unplaced) if matches!(call, Call::Fail { .. }) => {
+            run.cases.add(NO_STOP)
+        }
+        _ => {}
+    }
+}
+
+/// Working, failed and active, with the marks, are there as the plain list has them.
 fn same_cards(plain: &Plain, image: &[u8]) -> bool {
-    let mut wanted = plain.active.clone();
-    wanted.resize(4, 0);
-    wanted.extend([plain.working, plain.failed]);
-    image[0] == (plain.active.len() as u8) << 4 && image[1..7] == wanted[..]
+    let mut wanted = [0; 8];
+    wanted[0] = (plain.active.len() as u8) << 4;
+    for (place, placement) in plain.active.iter().enumerate() {
+        wanted[1 + place] = placement.mask;
+        wanted[7] |= if placement.marked { 0x80 >> place } else { 0 };
+    }
+    (wanted[5], wanted[6]) = (plain.working, plain.failed);
+    image[..8] == wanted
 }

@@ -27,6 +27,9 @@ enum Making {
 
 const RUNNING_WITH_FAILED: &str = "running, a placement with a failed card";
 const RUNNING_WITH_OPEN: &str = "running, open transactions";
+const RUNNING_OLD: &str = "running, all active marked 0";
+const RUNNING_MARKED: &str = "running, all active marked 1";
+const RUNNING_BOTH: &str = "running, active of both marks";
 const ANOTHER_LENGTH: &str = "another length";
 const ALL_RANDOM: &str = "all contents random";
 const MALFORMED_BEFORE_1: &str = "malformed command on a wrong length";
@@ -49,6 +52,7 @@ fn active_name(number: usize, stopped: bool) -> String {
 pub fn image_classes() -> Vec<String> {
     let mut all: Vec<String> = (1..=4).flat_map(|n| [active_name(n, false), active_name(n, true)]).collect();
     all.extend([RUNNING_WITH_FAILED, RUNNING_WITH_OPEN, ANOTHER_LENGTH, ALL_RANDOM].map(String::from));
+    all.extend([RUNNING_OLD, RUNNING_MARKED, RUNNING_BOTH].map(String::from));
     all.extend(CLAUSES.map(|clause| format!("{clause:?} broken alone")));
     all.extend(LENGTHS.map(|length| format!("length {length}")));
     all
@@ -60,6 +64,15 @@ pub fn argument_classes() -> Vec<String> {
     all.extend(RECORD_ENDS.map(|(_, name)| name.to_string()));
     all.extend([MALFORMED_BEFORE_1, MALFORMED_BEFORE_2].map(String::from));
     all
+}
+
+fn kind_name(control: &Control) -> &'static str {
+    let marked = control.placements.iter().filter(|placement| placement.marked).count();
+    match marked {
+        0 => RUNNING_OLD,
+        _ if marked == control.placements.len() => RUNNING_MARKED,
+        _ => RUNNING_BOTH,
+    }
 }
 
 /// The classes of an image, told from its bytes where they can be.
@@ -77,8 +90,11 @@ fn classes(image: &[u8], making: Making) -> Vec<String> {
     }
     let Some(control) = Control::read(image) else { return found };
     found.push(active_name(control.placements.len(), control.stopped));
-    if !control.stopped && control.placements.iter().any(|mask| mask & control.failed != 0) {
-        found.push(RUNNING_WITH_FAILED.into());
+    if !control.stopped {
+        found.push(kind_name(&control).into());
+        if control.placements.iter().any(|placement| placement.mask & control.failed != 0) {
+            found.push(RUNNING_WITH_FAILED.into());
+        }
     }
     if !control.open().is_empty() {
         found.push(RUNNING_WITH_OPEN.into());

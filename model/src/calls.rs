@@ -1,6 +1,7 @@
 //! The fifteen calls.
 
 use crate::control::{bit, count, has, Control};
+use crate::edition::{Edition, TODAY};
 use crate::image::*;
 use crate::sites::{holders, members, sites};
 
@@ -118,15 +119,20 @@ pub fn started(mask: u8) -> Vec<u8> {
     image
 }
 
-/// Runs one call. A refused call changes no byte.
+/// Runs one call by today's rules. A refused call changes no byte.
 pub fn perform(image: &mut [u8], call: &Call) -> Answer {
+    perform_by(TODAY, image, call)
+}
+
+/// Runs one call by the rules of the edition.
+pub fn perform_by(edition: Edition, image: &mut [u8], call: &Call) -> Answer {
     if image.len() != LENGTH {
         return Answer::Refused(1);
     }
     if let Call::Start { mask } = *call {
-        return start(image, mask);
+        return start(edition, image, mask);
     }
-    let control = match admit(image, call) {
+    let control = match admit(edition, image, call) {
         Err(refused) => return refused,
         Ok(control) => control,
     };
@@ -142,8 +148,8 @@ pub fn perform(image: &mut [u8], call: &Call) -> Answer {
         Call::Rollback { transaction } => close(image, control, transaction, Slot::drop_pending),
         Call::Fit { card } => fit(image, control, card as usize),
         Call::Withdraw { card } => withdraw(image, control, card as usize),
-        Call::Place { mask } => place(image, control, mask),
-        Call::Fail { card } => fail(image, control, card as usize),
+        Call::Place { mask } => place(edition, image, control, mask),
+        Call::Fail { card } => fail(edition, image, control, card as usize),
         Call::Move { card, block } => move_block(image, &control, card as usize, block as usize),
         Call::Settle => settle(image, control),
         Call::State if control.placements.len() == 1 => Answer::Protected,
@@ -153,8 +159,8 @@ pub fn perform(image: &mut [u8], call: &Call) -> Answer {
 }
 
 /// The lowest that applies of refusals 2 to 5, else the control part.
-fn admit(image: &[u8], call: &Call) -> Result<Control, Answer> {
-    let control = Control::read(image).ok_or(Answer::Refused(2))?;
+fn admit(edition: Edition, image: &[u8], call: &Call) -> Result<Control, Answer> {
+    let control = Control::read_by(edition, image).ok_or(Answer::Refused(2))?;
     if !call.in_range() {
         return Err(Answer::Refused(3));
     }
@@ -167,12 +173,12 @@ fn admit(image: &[u8], call: &Call) -> Result<Control, Answer> {
     Ok(control)
 }
 
-fn start(image: &mut [u8], mask: u8) -> Answer {
+fn start(edition: Edition, image: &mut [u8], mask: u8) -> Answer {
     if count(mask) < 2 {
         return Answer::Refused(9);
     }
     image.fill(0);
-    Control::fresh(mask).write(image);
+    Control::fresh(edition.placement(mask)).write(image);
     Answer::Ok
 }
 
@@ -180,7 +186,7 @@ fn begin(image: &mut [u8], mut control: Control, transaction: u8, home: u8) -> A
     if control.is_open(transaction) {
         return Answer::Refused(6);
     }
-    if !has(control.newest(), home as usize) {
+    if !has(control.newest().mask, home as usize) {
         return Answer::Refused(8);
     }
     control.homes[transaction as usize] = Some(home);
@@ -301,19 +307,21 @@ fn withdraw(image: &mut [u8], mut control: Control, card: usize) -> Answer {
     Answer::Ok
 }
 
-fn place(image: &mut [u8], mut control: Control, mask: u8) -> Answer {
-    if count(mask) < 2 || mask & !control.working != 0 || mask == control.newest() {
+fn place(edition: Edition, image: &mut [u8], mut control: Control, mask: u8) -> Answer {
+    let newest = control.newest();
+    let again = mask == newest.mask && edition.refuses_again(newest);
+    if count(mask) < 2 || mask & !control.working != 0 || again {
         return Answer::Refused(9);
     }
     if control.placements.len() >= 3 {
         return Answer::Refused(10);
     }
-    control.placements.push(mask);
+    control.placements.push(edition.placement(mask));
     control.write(image);
     Answer::Ok
 }
 
-fn fail(image: &mut [u8], mut control: Control, card: usize) -> Answer {
+fn fail(edition: Edition, image: &mut [u8], mut control: Control, card: usize) -> Answer {
     if !has(control.working, card) {
         return Answer::Refused(8);
     }
@@ -323,9 +331,9 @@ fn fail(image: &mut [u8], mut control: Control, card: usize) -> Answer {
     unlock(image, &mut control, &closing, Slot::drop_pending);
     let answer = if control.stopped {
         Answer::Stopped
-    } else if has(control.newest(), card) {
-        let mask = control.newest() & !bit(card);
-        control.placements.push(mask);
+    } else if has(control.newest().mask, card) {
+        let mask = control.newest().mask & !bit(card);
+        control.placements.push(edition.placement(mask));
         Answer::Placed(mask)
     } else {
         Answer::Unplaced

@@ -13,7 +13,8 @@ pub enum Clause {
     CountOverFour,
     FirstByteZeros,
     UnusedMask,
-    SeventhByte,
+    MarkBeyondCount,
+    SeventhByteZeros,
     OpenTransactionZeros,
     ClosedTransaction,
     LastBytes,
@@ -31,10 +32,11 @@ pub enum Clause {
     StoppedAndOpen,
 }
 
-pub const CLAUSES: [Clause; 20] = [
-    CountZero, CountOverFour, FirstByteZeros, UnusedMask, SeventhByte, OpenTransactionZeros, ClosedTransaction,
-    LastBytes, WorkingAndFailed, FewMembers, MemberUnknown, ThirdLacksMember, ThirdIsFourth, ThirdHasSeveralMore,
-    ThirdHasWorkingMore, NewestMemberIdle, TwoFailed, FewWorking, HomeNotWorking, StoppedAndOpen,
+pub const CLAUSES: [Clause; 21] = [
+    CountZero, CountOverFour, FirstByteZeros, UnusedMask, MarkBeyondCount, SeventhByteZeros, OpenTransactionZeros,
+    ClosedTransaction, LastBytes, WorkingAndFailed, FewMembers, MemberUnknown, ThirdLacksMember, ThirdIsFourth,
+    ThirdHasSeveralMore, ThirdHasWorkingMore, NewestMemberIdle, TwoFailed, FewWorking, HomeNotWorking,
+    StoppedAndOpen,
 ];
 
 /// The clauses that a control part breaks. Clauses on placements speak of those that there are.
@@ -47,7 +49,8 @@ pub fn broken(bytes: &[u8]) -> Vec<Clause> {
     add(CountOverFour, number > 4);
     add(FirstByteZeros, bytes[0] & 0x0F != 0);
     add(UnusedMask, unused.iter().any(|mask| *mask != 0));
-    add(SeventhByte, bytes[7] != 0);
+    add(MarkBeyondCount, (active.len()..4).any(|place| has(bytes[7], place)));
+    add(SeventhByteZeros, bytes[7] & 0x0F != 0);
     let transactions = &bytes[8..23];
     add(OpenTransactionZeros, transactions.iter().any(|byte| byte & 0x80 != 0 && byte & 0x0F != 0));
     add(ClosedTransaction, transactions.iter().any(|byte| byte & 0x80 == 0 && *byte != 0));
@@ -96,7 +99,7 @@ fn bytes_of(clause: Clause) -> Range<usize> {
     match clause {
         CountZero | CountOverFour | FirstByteZeros => 0..1,
         UnusedMask => 1..5,
-        SeventhByte => 7..8,
+        MarkBeyondCount | SeventhByteZeros => 7..8,
         OpenTransactionZeros | ClosedTransaction | HomeNotWorking | StoppedAndOpen => 8..23,
         LastBytes => 23..CONTROL,
         _ => 1..7,
@@ -115,6 +118,7 @@ pub fn broken_control(random: &mut Random, clause: Clause) -> [u8; CONTROL] {
         }
         if clause == CountZero {
             bytes[1..5].fill(0);
+            bytes[7] = 0;
         }
         if broken(&bytes) == [clause] {
             return bytes;

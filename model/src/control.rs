@@ -1,6 +1,8 @@
 //! The control part: bytes 0 to 31, and its form.
 
+use crate::edition::{Edition, TODAY};
 use crate::image::{CARDS, CONTROL};
+use crate::sites::Placement;
 
 pub const TRANSACTIONS: usize = 15;
 
@@ -13,7 +15,7 @@ pub const NO_HOMES: Homes = [None; TRANSACTIONS + 1];
 pub struct Control {
     pub stopped: bool,
     /// Active placements, oldest first.
-    pub placements: Vec<u8>,
+    pub placements: Vec<Placement>,
     pub working: u8,
     pub failed: u8,
     pub homes: Homes,
@@ -32,18 +34,46 @@ pub fn count(mask: u8) -> usize {
     (0..CARDS).filter(|card| has(mask, *card)).count()
 }
 
+/// The mark of the active placement at this place, oldest first.
+fn mark_bit(place: usize) -> u8 {
+    0x80 >> place
+}
+
+/// None when a field is not zero that is to be.
+fn read_homes(bytes: &[u8]) -> Option<Homes> {
+    let mut homes = NO_HOMES;
+    for transaction in 1..=TRANSACTIONS {
+        let byte = bytes[7 + transaction];
+        if byte & 0x0F != 0 {
+            return None;
+        }
+        if byte & 0x80 != 0 {
+            homes[transaction] = Some(byte >> 4 & 7);
+        } else if byte != 0 {
+            return None;
+        }
+    }
+    Some(homes)
+}
+
 impl Control {
-    pub fn fresh(mask: u8) -> Control {
-        Control { stopped: false, placements: vec![mask], working: mask, failed: 0, homes: NO_HOMES }
+    /// The control part that a start leaves.
+    pub fn fresh(newest: Placement) -> Control {
+        let working = newest.mask;
+        Control { stopped: false, placements: vec![newest], working, failed: 0, homes: NO_HOMES }
     }
 
-    /// None when the form is broken.
+    /// By today's form; None when it is broken.
     pub fn read(bytes: &[u8]) -> Option<Control> {
+        Control::read_by(TODAY, bytes)
+    }
+
+    pub fn read_by(edition: Edition, bytes: &[u8]) -> Option<Control> {
         let number = (bytes[0] >> 4 & 7) as usize;
         if !(1..=4).contains(&number) {
             return None;
         }
-        if bytes[0] & 0x0F != 0 || bytes[7] != 0 {
+        if bytes[0] & 0x0F != 0 || bytes[7] & !edition.marks(number) != 0 {
             return None;
         }
         if bytes[23..CONTROL].iter().any(|b| *b != 0) {
@@ -52,24 +82,13 @@ impl Control {
         if bytes[1 + number..5].iter().any(|b| *b != 0) {
             return None;
         }
-        let mut homes = NO_HOMES;
-        for transaction in 1..=TRANSACTIONS {
-            let byte = bytes[7 + transaction];
-            if byte & 0x0F != 0 {
-                return None;
-            }
-            if byte & 0x80 != 0 {
-                homes[transaction] = Some(byte >> 4 & 7);
-            } else if byte != 0 {
-                return None;
-            }
-        }
+        let placement = |place: usize| Placement { mask: bytes[1 + place], marked: bytes[7] & mark_bit(place) != 0 };
         let control = Control {
             stopped: bytes[0] & 0x80 != 0,
-            placements: bytes[1..1 + number].to_vec(),
+            placements: (0..number).map(placement).collect(),
             working: bytes[5],
             failed: bytes[6],
-            homes,
+            homes: read_homes(bytes)?,
         };
         control.sound().then_some(control)
     }
@@ -79,21 +98,21 @@ impl Control {
         if self.working & self.failed != 0 {
             return false;
         }
-        for mask in &self.placements {
+        for Placement { mask, .. } in &self.placements {
             if count(*mask) < 2 || mask & !(self.working | self.failed) != 0 {
                 return false;
             }
         }
         if let [_, _, third, fourth] = self.placements[..] {
-            let extra = third & !fourth;
-            if fourth & !third != 0 || count(extra) != 1 || extra & self.failed == 0 {
+            let extra = third.mask & !fourth.mask;
+            if fourth.mask & !third.mask != 0 || count(extra) != 1 || extra & self.failed == 0 {
                 return false;
             }
         }
         if self.stopped {
             return self.homes.iter().all(|home| home.is_none());
         }
-        self.newest() & !self.working == 0
+        self.newest().mask & !self.working == 0
             && !self.must_stop()
             && self.homes.iter().flatten().all(|home| has(self.working, *home as usize))
     }
@@ -102,14 +121,17 @@ impl Control {
     pub fn must_stop(&self) -> bool {
         self.placements
             .iter()
-            .any(|mask| count(mask & self.failed) >= 2 || count(mask & self.working) < 2)
+            .any(|Placement { mask, .. }| count(mask & self.failed) >= 2 || count(mask & self.working) < 2)
     }
 
     pub fn write(&self, bytes: &mut [u8]) {
         bytes[..CONTROL].fill(0);
         bytes[0] = (self.stopped as u8) << 7 | (self.placements.len() as u8) << 4;
-        for (at, mask) in self.placements.iter().enumerate() {
-            bytes[1 + at] = *mask;
+        for (place, placement) in self.placements.iter().enumerate() {
+            bytes[1 + place] = placement.mask;
+            if placement.marked {
+                bytes[7] |= mark_bit(place);
+            }
         }
         bytes[5] = self.working;
         bytes[6] = self.failed;
@@ -126,13 +148,13 @@ impl Control {
         self.failed |= bit(card);
     }
 
-    pub fn newest(&self) -> u8 {
+    pub fn newest(&self) -> Placement {
         *self.placements.last().expect("a placement is active")
     }
 
     /// The card is a member of some active placement.
     pub fn placed(&self, card: usize) -> bool {
-        self.placements.iter().any(|mask| has(*mask, card))
+        self.placements.iter().any(|placement| has(placement.mask, card))
     }
 
     pub fn is_open(&self, transaction: u8) -> bool {

@@ -4,7 +4,7 @@ use crate::calls::{Call, Numbers};
 use crate::control::{bit, Control, NO_HOMES};
 use crate::image::*;
 use crate::random::Random;
-use crate::sites::{members, sites};
+use crate::sites::{members, sites, Placement};
 
 /// An image of the right length; its control form is often whole.
 pub fn random_image(random: &mut Random) -> Vec<u8> {
@@ -19,22 +19,22 @@ fn random_mask(random: &mut Random, from: u8) -> u8 {
 }
 
 /// Masks of which few break the form. Those of a stopped store have failed cards more often.
-fn random_placements(random: &mut Random, number: usize, stopped: bool, working: u8, failed: u8) -> Vec<u8> {
+fn random_masks(random: &mut Random, number: usize, stopped: bool, working: u8, failed: u8) -> Vec<u8> {
     let from = if stopped { working | failed } else { working };
-    let mut placements = Vec::new();
+    let mut masks = Vec::new();
     for _ in 0..number {
         let mut mask = random_mask(random, from);
         if random.chance(500) {
             mask |= failed & bit(random.below(CARDS));
         }
-        placements.push(mask);
+        masks.push(mask);
     }
-    let newest = placements[number - 1] & from;
-    placements[number - 1] = newest;
+    let newest = masks[number - 1] & from;
+    masks[number - 1] = newest;
     if let (4, Some(card)) = (number, random.any_of(&members(failed & !newest))) {
-        placements[2] = newest | bit(card);
+        masks[2] = newest | bit(card);
     }
-    placements
+    masks
 }
 
 /// A control part whose form is often whole.
@@ -44,7 +44,9 @@ fn random_parts(random: &mut Random, number: usize, stopped: bool) -> Control {
         failed |= bit(random.below(CARDS));
     }
     let working = (random.byte() | random.byte() | random.byte()) & !failed;
-    let placements = random_placements(random, number, stopped, working, failed);
+    let masks = random_masks(random, number, stopped, working, failed);
+    // Both kinds occur, in any order, as no list of calls leaves them.
+    let placements = masks.into_iter().map(|mask| Placement { mask, marked: random.chance(500) }).collect();
     let mut homes = NO_HOMES;
     for home in &mut homes[1..] {
         if !stopped && working != 0 && random.chance(300) {
@@ -117,7 +119,7 @@ pub fn random_tables(random: &mut Random, image: &mut [u8]) {
 }
 
 /// Each block is held by both sites of the placement or by no card.
-fn tidy(random: &mut Random, image: &mut [u8], placement: u8) {
+fn tidy(random: &mut Random, image: &mut [u8], placement: Placement) {
     for block in 0..BLOCKS {
         let pair = sites(placement, block);
         let held = random.chance(500);

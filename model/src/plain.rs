@@ -1,8 +1,10 @@
 //! The plain record list, fed the calls with their arguments alone.
 
-use crate::calls::{perform, started, Answer, Call};
+use crate::calls::{perform_by, Answer, Call};
 use crate::control::{bit, count, has, Homes, NO_HOMES};
-use crate::image::RECORDS;
+use crate::edition::Edition;
+use crate::image::{LENGTH, RECORDS};
+use crate::sites::Placement;
 
 #[derive(Clone, Copy)]
 struct Record {
@@ -14,11 +16,14 @@ struct Record {
 const BLANK: Record = Record { committed: None, lock: 0, pending: None };
 
 pub struct Plain {
+    /// The rules that the calls follow from here on.
+    edition: Edition,
     records: [Record; RECORDS],
     homes: Homes,
     pub working: u8,
     pub failed: u8,
-    pub active: Vec<u8>,
+    /// Oldest first.
+    pub active: Vec<Placement>,
     /// A run of the rules over the same calls, for settle's condition alone.
     rules: Vec<u8>,
 }
@@ -41,18 +46,26 @@ fn lowest(conditions: &[(u8, bool)]) -> Option<u8> {
 
 impl Plain {
     /// The list after an accepted start.
-    pub fn start(mask: u8) -> Plain {
+    pub fn start(edition: Edition, mask: u8) -> Plain {
+        let mut rules = vec![0; LENGTH];
+        perform_by(edition, &mut rules, &Call::Start { mask });
         Plain {
+            edition,
             records: [BLANK; RECORDS],
             homes: NO_HOMES,
             working: mask,
             failed: 0,
-            active: vec![mask],
-            rules: started(mask),
+            active: vec![edition.placement(mask)],
+            rules,
         }
     }
 
-    fn newest(&self) -> u8 {
+    /// The calls from here on follow these rules; what is there stays.
+    pub fn go_on_by(&mut self, edition: Edition) {
+        self.edition = edition;
+    }
+
+    fn newest(&self) -> Placement {
         self.active[self.active.len() - 1]
     }
 
@@ -61,13 +74,13 @@ impl Plain {
     fn refusal(&self, call: &Call) -> Option<u8> {
         let is_open = |transaction: u8| self.homes[transaction as usize].is_some();
         let works = |card: u8| has(self.working, card as usize);
-        let placed = |card: u8| self.active.iter().any(|mask| has(*mask, card as usize));
+        let placed = |card: u8| self.active.iter().any(|placement| has(placement.mask, card as usize));
         match *call {
             Call::Settle | Call::Fail { .. } | Call::Move { .. } | Call::State | Call::Load { .. } => None,
             _ if !call.in_range() => Some(3),
             Call::Start { mask } => lowest(&[(9, count(mask) < 2)]),
             Call::Begin { transaction, home } => {
-                lowest(&[(6, is_open(transaction)), (8, !has(self.newest(), home as usize))])
+                lowest(&[(6, is_open(transaction)), (8, !has(self.newest().mask, home as usize))])
             }
             Call::Get { transaction, record }
             | Call::Store { transaction, record, .. }
@@ -81,7 +94,8 @@ impl Plain {
                 lowest(&[(8, !works(card) || placed(card)), (14, self.homes.contains(&Some(card)))])
             }
             Call::Place { mask } => {
-                let unfit = count(mask) < 2 || mask & !self.working != 0 || mask == self.newest();
+                let again = mask == self.newest().mask && self.edition.refuses_again(self.newest());
+                let unfit = count(mask) < 2 || mask & !self.working != 0 || again;
                 lowest(&[(9, unfit), (10, self.active.len() >= 3)])
             }
         }
@@ -89,7 +103,7 @@ impl Plain {
 
     /// Steps the list.
     pub fn step(&mut self, call: &Call) -> Expected {
-        let by_the_rules = perform(&mut self.rules, call);
+        let by_the_rules = perform_by(self.edition, &mut self.rules, call);
         if let Some(number) = self.refusal(call) {
             return Expected::Exactly(Answer::Refused(number));
         }
@@ -109,7 +123,7 @@ impl Plain {
     /// Steps the list by a call of those that it can refuse, and does not.
     fn accept(&mut self, call: &Call) -> Answer {
         match *call {
-            Call::Start { mask } => *self = Plain::start(mask),
+            Call::Start { mask } => *self = Plain::start(self.edition, mask),
             Call::Begin { transaction, home } => self.homes[transaction as usize] = Some(home),
             Call::Get { transaction, record } => {
                 return self.seen(transaction, record).map_or(Answer::Absent, Answer::Value);
@@ -128,7 +142,7 @@ impl Plain {
                 self.failed &= !bit(card as usize);
             }
             Call::Withdraw { card } => self.working &= !bit(card as usize),
-            Call::Place { mask } => self.active.push(mask),
+            Call::Place { mask } => self.active.push(self.edition.placement(mask)),
             _ => unreachable!("{call:?}"),
         }
         Answer::Ok
@@ -167,11 +181,11 @@ impl Plain {
                 self.end(transaction, false);
             }
         }
-        let stops = self.active.iter().any(|mask| {
+        let stops = self.active.iter().any(|Placement { mask, .. }| {
             count(mask & self.failed) >= 2 || count(mask & self.working) < 2
         });
-        if self.newest() & gone != 0 {
-            self.active.push(self.newest() & !gone);
+        if self.newest().mask & gone != 0 {
+            self.active.push(self.edition.placement(self.newest().mask & !gone));
         }
         if stops { Expected::Stops } else { Expected::Free }
     }

@@ -3,6 +3,7 @@
 use crate::calls::{Answer, Call};
 use crate::control::{bit, has, Control};
 use crate::image::*;
+use crate::rail_situations::rail_situations;
 use crate::sites::{holders, members, sites};
 
 /// The situations that are easily got wrong.
@@ -35,7 +36,7 @@ pub fn situations(before: &[u8], call: &Call, answer: &Answer) -> Vec<String> {
     let Some(control) = Control::read(before).filter(|control| !control.stopped && call.in_range()) else {
         return Vec::new();
     };
-    match *call {
+    let mut found = match *call {
         Call::Get { transaction, record } => of_get(before, &control, transaction, record, answer),
         Call::Store { .. } | Call::Delete { .. } | Call::Commit { .. } | Call::Rollback { .. } => {
             of_writes(before, &control, call, answer)
@@ -43,7 +44,9 @@ pub fn situations(before: &[u8], call: &Call, answer: &Answer) -> Vec<String> {
         Call::Move { .. } | Call::Settle | Call::Load { .. } => of_blocks(before, &control, call, answer),
         Call::Fail { card } => of_fail(before, &control, card as usize, answer),
         _ => of_cards(before, &control, call, answer),
-    }
+    };
+    found.extend(rail_situations(&control, call, answer));
+    found
 }
 
 fn of_get(before: &[u8], control: &Control, transaction: u8, record: u16, answer: &Answer) -> Vec<String> {
@@ -123,7 +126,7 @@ fn of_fail(before: &[u8], control: &Control, card: usize, answer: &Answer) -> Ve
         if locks(before, others, &control.open()) {
             found.push("stopped with locks".into());
         }
-        if !has(control.newest(), card) {
+        if !has(control.newest().mask, card) {
             found.push("stopped by a card outside the newest".into());
         }
         return found;
@@ -158,7 +161,7 @@ fn of_cards(before: &[u8], control: &Control, call: &Call, answer: &Answer) -> V
         (Call::Withdraw { card }, Answer::Refused(8)) if placed(card) => {
             vec!["withdraw refused, in a placement".into()]
         }
-        (Call::Place { mask }, Answer::Ok) if control.placements.contains(&mask) => {
+        (Call::Place { mask }, Answer::Ok) if control.placements.iter().any(|older| older.mask == mask) => {
             vec!["place of an older mask again".into()]
         }
         (Call::Place { .. }, Answer::Refused(10)) => {

@@ -4,6 +4,7 @@ use crate::calls::Answer;
 use crate::commands::{read_command, COMMAND_BYTES};
 use crate::image::LENGTH;
 use crate::listing::answer;
+use crate::rail_situations::{ANY_BY_RAILS, ON_RAILS, OVER_OLD};
 use crate::situations::{situations, SITUATIONS};
 use std::collections::{BTreeMap, BTreeSet};
 
@@ -44,11 +45,12 @@ pub fn possible() -> BTreeSet<String> {
 }
 
 /// Answers and situations that are counted by a word of their own.
-pub const SPECIAL_CASES: [(&str, &str); 4] = [
+pub const SPECIAL_CASES: [(&str, &str); 5] = [
     ("four active", "placed with 3 active"),
     ("stops", "stopped"),
     ("conflicts", "refused 7"),
     ("stale fits", "fit of a failed card with old contents"),
+    ("by rails", ANY_BY_RAILS),
 ];
 
 /// The answer's word, or 'refused' with its number.
@@ -92,7 +94,8 @@ impl Tally {
     /// Answers of the operations, and situations, that do not occur.
     pub fn missing(&self) -> Vec<String> {
         let pairs = possible().into_iter().filter(|pair| !self.pairs.contains_key(pair));
-        let situations = SITUATIONS.iter().filter(|name| self.count(name) == 0).map(|name| name.to_string());
+        let situations = SITUATIONS.iter().chain(ON_RAILS);
+        let situations = situations.filter(|name| self.count(name) == 0).map(|name| name.to_string());
         pairs.chain(situations).collect()
     }
 
@@ -100,8 +103,9 @@ impl Tally {
     pub fn impossible(&self) -> Vec<String> {
         let possible = possible();
         let pairs = self.pairs.keys().filter(|pair| !possible.contains(*pair)).cloned();
-        // A fail in the newest of four always stops.
-        let fifth = "placed with 4 active".to_string();
-        pairs.chain((self.count(&fifth) > 0).then_some(fifth)).collect()
+        // A fail in the newest of four always stops, and a file leaves no placement unmarked.
+        let never = ["placed with 4 active"].iter().chain(OVER_OLD);
+        let situations = never.filter(|name| self.count(name) > 0).map(|name| name.to_string());
+        pairs.chain(situations).collect()
     }
 }

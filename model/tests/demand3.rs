@@ -1,67 +1,97 @@
 //! Demand 3: the store answers as the plain record list does, and stops exactly
-//! when the rule says, with any bytes in the tables of failed cards.
+//! when the rule says, with any bytes in the tables of failed cards. The lists are
+//! those of the differential run, also from images that the base's calls left.
 
 use model::calls::{perform, Answer, Call};
 use model::commands::read_command;
 use model::control::Control;
-use model::image::LENGTH;
 use model::images::disturb;
-use model::kinds::{Maker, KINDS};
-use model::plain::{Expected, Plain};
+use model::lists::{List, Lists};
+use model::plain::Expected;
+use model::rail_situations::{rail_situations, OVER_OLD};
 use model::random::Random;
+use std::collections::BTreeMap;
 
 #[derive(Debug, Default)]
 struct Seen {
     calls: usize,
+    compared: usize,
     stops: usize,
     noisy: usize,
+    from_older: usize,
+    situations: BTreeMap<String, usize>,
 }
 
-fn run(maker: &mut Maker, random: &mut Random, commands: usize, name: &str, seen: &mut Seen) {
-    let mut image = vec![0; LENGTH];
-    // None before an accepted start and after a stop.
-    let mut plain: Option<Plain> = None;
-    for _ in 0..commands {
-        let Some(call) = read_command(&maker.next_command()) else { continue };
-        if Control::read(&image).is_some() {
+impl Seen {
+    fn add_situations(&mut self, control: &Option<Control>, call: &Call, answer: &Answer) {
+        let Some(control) = control.as_ref().filter(|control| !control.stopped && call.in_range()) else { return };
+        for name in rail_situations(control, call, answer) {
+            *self.situations.entry(name).or_insert(0) += 1;
+        }
+    }
+}
+
+fn run(list: &mut List, random: &mut Random, calls: usize, seen: &mut Seen) {
+    let mut image = list.image().to_vec();
+    for _ in 0..calls {
+        seen.calls += 1;
+        let Some(call) = read_command(&list.next_command()) else { continue };
+        let before = Control::read(&image);
+        if before.is_some() {
             disturb(random, &mut image);
             seen.noisy += (image[6] != 0) as usize;
         }
         let answer = perform(&mut image, &call);
-        let Some(list) = &mut plain else {
-            if let (Call::Start { mask }, Answer::Ok) = (call, answer) {
-                plain = Some(Plain::start(mask));
-            }
-            continue;
-        };
-        seen.calls += 1;
-        let expected = list.step(&call);
-        match expected {
-            Expected::Exactly(wanted) => assert_eq!(answer, wanted, "{name}: {call:?}"),
-            Expected::Stops => assert_eq!(answer, Answer::Stopped, "{name}: {call:?}"),
-            Expected::Free => assert_ne!(answer, Answer::Stopped, "{name}: {call:?}"),
+        seen.add_situations(&before, &call, &answer);
+        if let Some(expected) = list.expect(&call) {
+            seen.compared += 1;
+            seen.stops += (expected == Expected::Stops) as usize;
+            compare(list, &call, answer, expected, &image);
         }
-        if expected == Expected::Stops {
-            seen.stops += 1;
-            plain = None;
-            continue;
-        }
-        let control = Control::read(&image).expect("the form is whole");
-        assert_eq!(control.working, list.working, "{name}: {call:?}");
-        assert_eq!(control.failed, list.failed, "{name}: {call:?}");
-        assert_eq!(control.placements, list.active, "{name}: {call:?}");
     }
+}
+
+fn compare(list: &List, call: &Call, answer: Answer, expected: Expected, image: &[u8]) {
+    let name = list.name;
+    match expected {
+        Expected::Exactly(wanted) => assert_eq!(answer, wanted, "{name}: {call:?}"),
+        Expected::Stops => assert_eq!(answer, Answer::Stopped, "{name}: {call:?}"),
+        Expected::Free => assert_ne!(answer, Answer::Stopped, "{name}: {call:?}"),
+    }
+    let Some(plain) = &list.plain else { return };
+    let control = Control::read(image).expect("the form is whole");
+    assert_eq!(control.working, plain.working, "{name}: {call:?}");
+    assert_eq!(control.failed, plain.failed, "{name}: {call:?}");
+    assert_eq!(control.placements, plain.active, "{name}: {call:?}");
+}
+
+/// The lists of a seed up to this many calls.
+fn run_lists(seed: u64, calls: usize) -> Seen {
+    let mut seen = Seen::default();
+    let mut random = Random::new(!seed);
+    for mut list in Lists::new(seed) {
+        let left = calls - seen.calls;
+        if left == 0 {
+            break;
+        }
+        let calls = list.calls.min(left);
+        seen.from_older += if list.from_older { calls } else { 0 };
+        run(&mut list, &mut random, calls, &mut seen);
+    }
+    seen
+}
+
+/// Half of the 200,000 calls at which a differential run must have met every class are in lists.
+#[test]
+fn every_situation_over_old_placements() {
+    let seen = run_lists(1, 100_000);
+    let missing: Vec<_> = OVER_OLD.iter().filter(|name| !seen.situations.contains_key(**name)).collect();
+    assert!(missing.is_empty(), "{missing:?}");
 }
 
 #[test]
 fn store_equals_plain_list() {
-    let mut seen = Seen::default();
-    for (name, kind) in KINDS {
-        for seed in 0..12 {
-            let mut maker = Maker::new(kind, 1000 + seed);
-            let mut random = Random::new(seed);
-            run(&mut maker, &mut random, 3_000, name, &mut seen);
-        }
-    }
-    assert!(seen.calls > 200_000 && seen.stops > 100 && seen.noisy > 50_000, "{seen:?}");
+    let seen = run_lists(1000, 450_000);
+    assert!(seen.compared > 200_000 && seen.stops > 100 && seen.noisy > 50_000, "{seen:?}");
+    assert!(seen.from_older * 4 > seen.calls && seen.from_older * 2 < seen.calls, "{seen:?}");
 }

@@ -3,20 +3,39 @@
 use model::calls::{perform, started, Answer, Call};
 use model::control::Control;
 use model::image::*;
-use model::sites::{holders, sites, trail};
+use model::sites::{holders, sites, trail, Placement};
 
 fn ok(image: &mut [u8], call: Call) {
     assert_eq!(perform(image, &call), Answer::Ok, "{call:?}");
 }
 
+fn old(mask: u8) -> Placement {
+    Placement { mask, marked: false }
+}
+
+fn by_rails(mask: u8) -> Placement {
+    Placement { mask, marked: true }
+}
+
 #[test]
 fn site_order_and_trail() {
-    assert_eq!(sites(0xE0, 0), [0, 1]);
-    assert_eq!(sites(0xFF, 63), [7, 0]);
-    assert_eq!(sites(0x29, 4), [4, 7]);
-    let control = Control { failed: 0x10, placements: vec![0xF0, 0x90, 0xE0], ..Control::fresh(0xE0) };
+    assert_eq!(sites(old(0xE0), 0), [0, 1]);
+    assert_eq!(sites(old(0xFF), 63), [7, 0]);
+    assert_eq!(sites(old(0x29), 4), [4, 7]);
+    let placements = [0xF0, 0x90, 0xE0].map(old).to_vec();
+    let control = Control { failed: 0x10, placements, ..Control::fresh(old(0xE0)) };
     assert_eq!(trail(&control, 0), [0, 1, 0, 0, 1]);
     assert_eq!(trail(&control, 2), [2, 0, 2, 0]);
+}
+
+#[test]
+fn trail_of_both_kinds() {
+    let placements = vec![old(0xFC), by_rails(0xFC), by_rails(0xCC)];
+    let control = Control { failed: 0x20, placements, ..Control::fresh(by_rails(0xFC)) };
+    // Cards 0 to 5, by the old choice and by rails; then 0, 1, 4 and 5.
+    assert_eq!(trail(&control, 0), [0, 1, 0, 4, 0, 4]);
+    assert_eq!(trail(&control, 1), [1, 1, 4, 1, 4]);
+    assert_eq!(trail(&control, 4), [4, 5, 4, 0, 0, 4]);
 }
 
 #[test]
@@ -54,13 +73,13 @@ fn marks_of_failed_cards() {
     let mut image = started(0xF0);
     assert_eq!(perform(&mut image, &Call::Fail { card: 3 }), Answer::Placed(0xE0));
     assert_eq!(perform(&mut image, &Call::Settle), Answer::Retired(1));
-    assert_eq!(image[..8], [0x10, 0xE0, 0, 0, 0, 0xE0, 0x10, 0]);
+    assert_eq!(image[..8], [0x10, 0xE0, 0, 0, 0, 0xE0, 0x10, 0x80]);
     ok(&mut image, Call::Fit { card: 7 });
     ok(&mut image, Call::Withdraw { card: 7 });
-    assert_eq!(image[..8], [0x10, 0xE0, 0, 0, 0, 0xE0, 0x10, 0]);
+    assert_eq!(image[..8], [0x10, 0xE0, 0, 0, 0, 0xE0, 0x10, 0x80]);
     image[table_at(3)].fill(0xEE);
     ok(&mut image, Call::Fit { card: 3 });
-    assert_eq!(image[..8], [0x10, 0xE0, 0, 0, 0, 0xF0, 0, 0]);
+    assert_eq!(image[..8], [0x10, 0xE0, 0, 0, 0, 0xF0, 0, 0x80]);
     assert!(image[table_at(3)].iter().all(|byte| *byte == 0));
 }
 
@@ -115,7 +134,7 @@ fn stop_rolls_back_on_working_cards_only() {
     change_slot(&mut image, 0, 0, 3, |slot| slot.set_pending(7, Some(1)));
     let left = image[table_at(1)].to_vec();
     assert_eq!(perform(&mut image, &Call::Fail { card: 1 }), Answer::Stopped);
-    assert_eq!(image[..23], [0x90, 0xC0, 0, 0, 0, 0x80, 0x40, 0, 0, 0, 0, 0, 0, 0, 0, 0, 0, 0, 0, 0, 0, 0, 0]);
+    assert_eq!(image[..23], [0x90, 0xC0, 0, 0, 0, 0x80, 0x40, 0x80, 0, 0, 0, 0, 0, 0, 0, 0, 0, 0, 0, 0, 0, 0, 0]);
     assert!(image[table_at(1)] == left[..]);
     assert_eq!(read_slot(&image, 0, 0, 0).lock, 0);
     assert_eq!(read_slot(&image, 0, 1, 0).lock, 0);

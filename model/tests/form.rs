@@ -70,7 +70,7 @@ fn zero_fields() {
     let good = part([0x10, 0xE0, 0, 0, 0], 0xE0, 0);
     kept(good.clone());
     let mut bits: Vec<usize> = (4..8).collect();
-    bits.extend(7 * 8..8 * 8);
+    bits.extend(7 * 8 + 1..8 * 8);
     bits.extend(23 * 8..32 * 8);
     for transaction in 1..=15 {
         // Home and zero bits of a closed transaction.
@@ -99,6 +99,23 @@ fn zero_fields() {
             kept(image.clone());
             image[at] = 0xC0;
             broken(image);
+        }
+    }
+}
+
+#[test]
+fn marks() {
+    for number in 1u8..=4 {
+        let masks = if number == 4 { [0xE0, 0xE0, 0xF0, 0xE0] } else { [0xE0; 4] };
+        let mut image = part([number << 4, 0, 0, 0, 0], 0xE0, 0x10);
+        image[1..1 + number as usize].copy_from_slice(&masks[..number as usize]);
+        for stopped in [0, 0x80] {
+            image[0] = stopped | number << 4;
+            for marks in 0..=0xFF {
+                image[7] = marks;
+                let beyond = 0xFFu8 >> number;
+                if marks & beyond == 0 { kept(image.clone()) } else { broken(image.clone()) }
+            }
         }
     }
 }

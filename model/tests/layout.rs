@@ -5,6 +5,7 @@ use model::commands::{read_command, write_command};
 use model::control::Control;
 use model::image::*;
 use model::random::Random;
+use model::sites::Placement;
 
 #[test]
 fn lengths() {
@@ -37,11 +38,12 @@ fn control_part() {
     let mut homes = [None; 16];
     homes[1] = Some(2);
     homes[15] = Some(0);
-    let control = Control { stopped: false, placements: vec![0xF0, 0xE0], working: 0xE1, failed: 0x10, homes };
+    let placements = vec![Placement { mask: 0xF0, marked: false }, Placement { mask: 0xE0, marked: true }];
+    let control = Control { stopped: false, placements, working: 0xE1, failed: 0x10, homes };
     let mut bytes = [0xFF; 32];
     control.write(&mut bytes);
     let mut wanted = [0; 32];
-    wanted[..7].copy_from_slice(&[0x20, 0xF0, 0xE0, 0, 0, 0xE1, 0x10]);
+    wanted[..8].copy_from_slice(&[0x20, 0xF0, 0xE0, 0, 0, 0xE1, 0x10, 0x40]);
     wanted[8] = 0xA0;
     wanted[22] = 0x80;
     assert_eq!(bytes, wanted);

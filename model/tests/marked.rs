@@ -3,7 +3,7 @@
 use model::calls::{perform, started, Answer, Call};
 use model::image::{held, slot_at, LENGTH};
 use model::listing::listing;
-use model::sites::sites;
+use model::sites::{sites, Placement};
 
 fn begin(image: &mut [u8], transaction: u8, home: u8) {
     assert_eq!(perform(image, &Call::Begin { transaction, home }), Answer::Ok);
@@ -11,13 +11,17 @@ fn begin(image: &mut [u8], transaction: u8, home: u8) {
 
 #[test]
 fn m1_sites_under_e0() {
-    assert_eq!(sites(0xE0, 1), [1, 2]);
-    assert_eq!(sites(0xE0, 2), [2, 0]);
+    for marked in [false, true] {
+        assert_eq!(sites(Placement { mask: 0xE0, marked }, 1), [1, 2]);
+        assert_eq!(sites(Placement { mask: 0xE0, marked }, 2), [2, 0]);
+    }
 }
 
 #[test]
 fn m2_sites_under_81() {
-    assert_eq!(sites(0x81, 63), [7, 0]);
+    for marked in [false, true] {
+        assert_eq!(sites(Placement { mask: 0x81, marked }, 63), [7, 0]);
+    }
 }
 
 #[test]

@@ -6,13 +6,13 @@ use model::control::{count, has, Control};
 use model::images::{random_call, random_image};
 use model::image::*;
 use model::random::Random;
-use model::sites::sites;
+use model::sites::{sites, Placement};
 
 /// Refusal 7.
 fn locked_by_other(image: &[u8], control: &Control, transaction: u8, record: u16) -> bool {
     let (block, place) = (record as usize / 8, record as usize % 8);
-    control.placements.iter().any(|mask| {
-        sites(*mask, block).iter().any(|card| {
+    control.placements.iter().any(|placement| {
+        sites(*placement, block).iter().any(|card| {
             let lock = read_slot(image, *card, block, place).lock;
             !has(control.failed, *card) && held(image, *card, block) && lock != 0 && lock != transaction
         })
@@ -32,7 +32,7 @@ fn unsettled(image: &[u8], control: &Control) -> bool {
 /// Lines 4 to 14 of the table, each on its own, for numbers in their ranges.
 fn applies(number: u8, image: &[u8], control: &Control, call: &Call) -> bool {
     let open = |t: u8| control.homes[t as usize].is_some();
-    let in_some = |card: u8| control.placements.iter().any(|mask| has(*mask, card as usize));
+    let in_some = |card: u8| control.placements.iter().any(|placement| has(placement.mask, card as usize));
     let works = |card: u8| has(control.working, card as usize);
     match (number, *call) {
         (4, _) => control.stopped,
@@ -53,10 +53,11 @@ fn applies(number: u8, image: &[u8], control: &Control, call: &Call) -> bool {
         ) => locked_by_other(image, control, transaction, record),
         (8, Call::Fit { card }) => works(card) || in_some(card),
         (8, Call::Withdraw { card }) => !works(card) || in_some(card),
-        (8, Call::Begin { home, .. }) => !has(control.newest(), home as usize),
+        (8, Call::Begin { home, .. }) => !has(control.newest().mask, home as usize),
         (8, Call::Fail { card } | Call::Move { card, .. } | Call::Load { card }) => !works(card),
         (9, Call::Place { mask }) => {
-            count(mask) < 2 || mask & control.working != mask || mask == control.newest()
+            let again = Placement { mask, marked: true } == control.newest();
+            count(mask) < 2 || mask & control.working != mask || again
         }
         (10, Call::Place { .. }) => control.placements.len() > 2,
         (11, Call::Move { card, block }) => !held(image, card as usize, block as usize),

@@ -16,6 +16,10 @@
 //! assert_eq!(get(&image, 2, 9), Answer::Value(4660));
 //! ```
 //!
+//! Cards 0 to 3 hang on one supply rail and 4 to 7 on the other. A block's two cards are on both rails if the placement
+//! has cards on both. The placements in an image that was written before this rule keep their sites; a [`place`] of
+//! the same mask puts them on two rails.
+//!
 //! Cards are 0 to 7, blocks 0 to 63, records 0 to 511, transactions 1 to 15; record r lies in block r / 8. A mask is
 //! a set of cards in a byte, card 0 its highest bit. No call panics: what cannot be done is
 //! [refused](Answer::Refused), and the lowest number that applies is returned. Refusals 1, 2 and 4 come from every
@@ -117,7 +121,7 @@ pub fn withdraw(image: &mut [u8], card: u8) -> Answer {
 /// The mask becomes the newest placement.
 ///
 /// Answer: [`Ok`](Answer::Ok). Refused: 9 if the mask has under two members or one that does not work, or is the
-/// newest again; 10 if three or more placements are active.
+/// newest again and that one is on two rails; 10 if three or more placements are active.
 pub fn place(image: &mut [u8], mask: u8) -> Answer {
     ask!(nolpigat_place(image.as_mut_ptr(), image.len(), mask))
 }

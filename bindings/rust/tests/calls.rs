@@ -41,8 +41,8 @@ fn slot(image: &[u8], card: usize) -> &[u8] {
 fn start_zeroes_the_image() {
     let mut image = vec![0xFF; IMAGE_SIZE];
     assert_eq!(start(&mut image, 0xE0), Answer::Ok);
-    assert_eq!(image[..7], [0x10, 0xE0, 0, 0, 0, 0xE0, 0]);
-    assert!(image[7..].iter().all(|byte| *byte == 0));
+    assert_eq!(image[..8], [0x10, 0xE0, 0, 0, 0, 0xE0, 0, 0x80]);
+    assert!(image[8..].iter().all(|byte| *byte == 0));
 }
 
 #[test]
@@ -110,7 +110,43 @@ fn fit_and_withdraw_a_card() {
 fn place_adds_the_newest() {
     let mut image = started();
     assert_eq!(place(&mut image, 0xC0), Answer::Ok);
-    assert_eq!(image[..5], [0x20, 0xE0, 0xC0, 0, 0]);
+    assert_eq!(image[..8], [0x20, 0xE0, 0xC0, 0, 0, 0xE0, 0, 0xC0]);
+}
+
+/// An image that was started before placements were marked, with cards 0 to 7.
+fn older() -> Vec<u8> {
+    let mut image = vec![0; IMAGE_SIZE];
+    image[..6].copy_from_slice(&[0x10, 0xFF, 0, 0, 0, 0xFF]);
+    image
+}
+
+#[test]
+fn sites_on_two_rails() {
+    let mut image = vec![0; IMAGE_SIZE];
+    assert_eq!(start(&mut image, 0xFF), Answer::Ok);
+    // Record 9 is in block 1: cards 1 and 4, and by the old choice cards 1 and 2.
+    for (mut image, cards) in [(image, [1, 4]), (older(), [1, 2])] {
+        assert_eq!(begin(&mut image, 1, 0), Answer::Ok);
+        assert_eq!(store(&mut image, 1, 9, 4660), Answer::Ok);
+        for card in 0..8 {
+            assert_eq!(slot(&image, card) != [0; 5], cards.contains(&card), "card {card}");
+        }
+    }
+}
+
+#[test]
+fn place_takes_an_older_mask_to_two_rails() {
+    let mut image = older();
+    assert_eq!(begin(&mut image, 1, 0), Answer::Ok);
+    assert_eq!(store(&mut image, 1, 9, 4660), Answer::Ok);
+    assert_eq!(commit(&mut image, 1), Answer::Ok);
+    assert_eq!(place(&mut image, 0xFF), Answer::Ok);
+    assert_eq!(place(&mut image, 0xFF), Answer::Refused(9));
+    assert_eq!(move_block(&mut image, 1, 1), Answer::Copies(1));
+    assert_eq!(move_block(&mut image, 2, 1), Answer::Copies(0));
+    assert_eq!(settle(&mut image), Answer::Retired(1));
+    assert_eq!(image[..8], [0x10, 0xFF, 0, 0, 0, 0xFF, 0, 0x80]);
+    assert_eq!(slot(&image, 4), [0x89, 0x1A, 0x00, 0x00, 0x00]);
 }
 
 #[test]

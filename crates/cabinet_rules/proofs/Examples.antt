@@ -5,7 +5,7 @@ use mathlib.Core.Path.{_≡_, refl}
 use Rattle.lists.specs.Tabulate.{tabulate}
 use Rattle.image.specs.Layout.{slotStart}
 use Rattle.mask.specs.Masks.{byte, hasCard, isWithin, members, noCards, size, withCard, withoutCard}
-use Rattle.mask.specs.Placements.{fromMask, memberAt, sitesOf}
+use Rattle.mask.specs.Placements.{acrossRails, chainedSites, fromMask, memberAt, membersAfter, railSites, sitesOf}
 use Rattle.slot.specs.Blocks.{byteIn, endSlots, endedByte, isHeld, lockSlot, putSlot, wordAt}
 use Rattle.slot.specs.Words.{slotOf, wordOf}
 use Rattle.method.specs.OneRecordList.{zeroed}
@@ -18,7 +18,7 @@ use Rattle.method.specs.Rules.{store, trail, unplaced, unprotected, value}
 use Rattle.cabinet_rules.specs.Cabinet.{cabinet, placeRows, startRow}
 
 -- An answer as numbers: its kind, then its number.
-abbrev answerNumbers : Answer cabinet → List ℕ
+abbrev pub answerNumbers : Answer cabinet → List ℕ
 answerNumbers ok = 0 ∷ []
 answerNumbers (value n) = 1 ∷ n ∷ []
 answerNumbers absent = 2 ∷ []
@@ -37,7 +37,7 @@ afterAll : List (Call cabinet) → State cabinet → State cabinet
 afterAll [] s = s
 afterAll (c ∷ l) s = afterAll l (nextState cabinet c s)
 
-answers : List (Call cabinet) → State cabinet → List (List ℕ)
+unfoldable pub answers : List (Call cabinet) → State cabinet → List (List ℕ)
 answers [] s = []
 answers (c ∷ l) s = answerNumbers (answerOf cabinet c s) ∷ answers l (nextState cabinet c s)
 
@@ -45,7 +45,7 @@ answers (c ∷ l) s = answerNumbers (answerOf cabinet c s) ∷ answers l (nextSt
 abbrev nothing : State cabinet
 nothing = zeroed cabinet noCards
 
-abbrev lastOf : List (List ℕ) → List ℕ
+abbrev pub lastOf : List (List ℕ) → List ℕ
 lastOf [] = []
 lastOf (x ∷ []) = x
 lastOf (x ∷ (y ∷ l)) = lastOf (y ∷ l)
@@ -100,12 +100,12 @@ marked-examples :
     ∷ (9 ∷ 0 ∷ [])
     ∷ (10 ∷ 7 ∷ 0 ∷ [])
     ∷ []
-unfolding final slotBytes afterAll answers answerOf nextState apply plan refusal act look trail holders lostOf stopping settled settledAt isProtected lockHolders layBlock endHeld dropHeld clearCard moveWrites anyLocked hasCard withCard withoutCard isWithin memberAt sitesOf startRow placeRows isHeld wordAt slotOf wordOf putSlot lockSlot endedByte endSlots tabulate members size
+unfolding final slotBytes afterAll answers answerOf nextState apply plan refusal act look trail holders lostOf stopping settled settledAt isProtected lockHolders layBlock endHeld dropHeld clearCard moveWrites anyLocked hasCard withCard withoutCard isWithin memberAt chainedSites membersAfter acrossRails railSites sitesOf startRow placeRows isHeld wordAt slotOf wordOf putSlot lockSlot endedByte endSlots tabulate members size
 marked-examples = refl
 
 -- The ten answers of document 01's listing.
 listing :
     answers (start (byte 0xE0) ∷ begin 1 0 ∷ store 1 9 4660 ∷ commit 1 ∷ fail 1 ∷ move 2 1 ∷ settle ∷ begin 1 0 ∷ get 1 9 ∷ fail 2 ∷ []) nothing
     ≡ (0 ∷ []) ∷ (0 ∷ []) ∷ (0 ∷ []) ∷ (0 ∷ []) ∷ (3 ∷ 0xA0 ∷ []) ∷ (6 ∷ 1 ∷ []) ∷ (7 ∷ 1 ∷ []) ∷ (0 ∷ []) ∷ (1 ∷ 4660 ∷ []) ∷ (5 ∷ []) ∷ []
-unfolding answers answerOf nextState apply plan refusal act look trail holders lostOf stopping settled settledAt isProtected lockHolders layBlock endHeld dropHeld clearCard moveWrites anyLocked hasCard withCard withoutCard isWithin memberAt sitesOf startRow placeRows isHeld wordAt slotOf wordOf putSlot lockSlot endedByte endSlots tabulate members size
+unfolding answers answerOf nextState apply plan refusal act look trail holders lostOf stopping settled settledAt isProtected lockHolders layBlock endHeld dropHeld clearCard moveWrites anyLocked hasCard withCard withoutCard isWithin memberAt chainedSites membersAfter acrossRails railSites sitesOf startRow placeRows isHeld wordAt slotOf wordOf putSlot lockSlot endedByte endSlots tabulate members size
 listing = refl

@@ -8,10 +8,10 @@ use mathlib.Core.Bool.{Bool, _&&_, _||_, false, not, true}
 use mathlib.Core.List.{List, [], _∷_, reverse}
 use mathlib.Core.Logic.{_⊎_, inl, inr}
 use mathlib.Core.Option.{Option, none, some}
-use mathlib.Core.Path.{_∙_, _≡_, refl, sym}
+use mathlib.Core.Path.{_∙_, _≡_, ap, refl, sym}
 use native.Mathlib.Omega.{arith}
 use Rattle.lists.specs.Tests.{In, anyBelow, count}
-use Rattle.lists.proofs.Bools.{and-in, and-l, and-r, imp, is-not, nand, not-is, or-l, or-r, split}
+use Rattle.lists.proofs.Bools.{and-in, and-l, and-r, imp, is-not, nand, not-is, or-l, or-r, split, tf}
 use Rattle.lists.proofs.Counts.{all-below, any-below}
 use Rattle.lists.proofs.Lists.{all-in}
 use Rattle.image.specs.Layout.{cardCount, controlSize, copyCount, tranBound}
@@ -28,7 +28,7 @@ use Rattle.control.specs.ControlBytes.{Part, controlByte, countIn}
 use Rattle.control.specs.ControlForm.{countOk, formOk, fourthOk, homeOk, isSafe, membersOk, partOk, zeroFieldsOk}
 use Rattle.control.proofs.RoundTrip.{read-control, read-count}
 use Rattle.cabinet_rules.specs.Cabinet.{cabinet, mostPlaced, tranOk}
-use Rattle.cabinet_rules.specs.Delivery.{today}
+use Rattle.cabinet_rules.specs.Delivery.{current}
 use Rattle.cabinet_rules.proofs.Lawful.{ControlLaws, DeliveryLaws, lawful, siteLaws}
 
 -- ---- the stop rule and the clause of the control form on it
@@ -133,16 +133,28 @@ written-form k few opens homes part g wrote =
     and-in _ _ (and-in _ _ (le-leb 1 (countIn (g 0)) (omega arith)) (le-leb (countIn (g 0)) 4 (omega arith)))
     (rw (read-control k few opens homes g wrote) (and-in _ _ (all-below controlSize _ (λ i h. eq-eqb (g i) (controlByte k i) (wrote i h))) part))
 
+-- ---- the same of a control part in which no transaction is open
+module _ (k : Part) (shut : (t : ℕ) → k .home t ≡ none) where
+  none-opens : (t : ℕ) → isOpen k t ≡ true → tranOk t ≡ true
+  none-opens t e = tf (isOpen k t) e (rw (shut t))
+
+  none-homes : (t h : ℕ) → k .home t ≡ some h → h < cardCount
+  none-homes t h e = let z : _≡_ {A = Option ℕ} none (some h) = sym (shut t) ∙ e in let y : _≡_ {A = ℕ} 0 1 = cc in absurd (omega arith)
+
 -- ---- the delivery in force
-pub controlLaws : ControlLaws today siteLaws
+pub controlLaws : ControlLaws current siteLaws
 controlLaws = record {
   reads = λ k f u g w. read-control k (few-older k f u) (u .opens) (homes k u) g w;
   formed = λ k f u g w. written-form k (few-older k f u) (u .opens) (homes k u) (running-ok k f u) g w;
+  stop-read = λ k f u c r g w. ap (λ (p : Part). p .stopped)
+      (read-control (halted (marked cabinet k c)) (few-older k f u) (none-opens (halted (marked cabinet k c)) (λ t. refl)) (none-homes (halted (marked cabinet k c)) (λ t. refl)) g w);
+  stop-formed = λ k f u c r g w. written-form (halted (marked cabinet k c)) (few-older k f u) (none-opens (halted (marked cabinet k c)) (λ t. refl))
+      (none-homes (halted (marked cabinet k c)) (λ t. refl)) (halted-ok k f u c r) g w;
   same-failed = λ g. refl;
 }
   where
     homes : (k : Part) → ControlInv cabinet lawful k → (t h : ℕ) → k .home t ≡ some h → h < cardCount
     homes k u t h e = has-card (k .working) h (u .homes t h e)
 
-abbrev pub todayLaws : DeliveryLaws today
-todayLaws = record { sites = siteLaws; control = controlLaws }
+abbrev pub currentLaws : DeliveryLaws current
+currentLaws = record { sites = siteLaws; control = controlLaws }

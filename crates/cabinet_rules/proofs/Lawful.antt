@@ -16,12 +16,13 @@ use Rattle.image.specs.Layout.{valueBound}
 use Rattle.mask.specs.Masks.{Byte, hasCard, isWithin, size, withoutCard}
 use Rattle.mask.specs.Placements.{leastMembers}
 use Rattle.mask.proofs.Masks.{has-card, has-none, has-with, has-without}
-use Rattle.mask.proofs.Sites.{site-count, site-distinct, site-member}
+use Rattle.mask.proofs.SiteLaws.{site-count, site-distinct, site-member}
 use Rattle.slot.specs.Blocks.{BlockBytes, endSlots, freshBlock, lockSlot, slotAt}
 use Rattle.slot.specs.Words.{entryOf, freedSlot, lockedSlot, slotOf, stateOf}
 use Rattle.slot.specs.declared.Slot.{Slot as Fields}
 use Rattle.slot.proofs.Blocks.{held-empty, held-end, held-fresh, held-lock, slot-end, slot-fresh, slot-lock}
-use Rattle.method.specs.ControlPart.{active}
+use Rattle.method.specs.Changes.{marked}
+use Rattle.method.specs.ControlPart.{active, halted}
 use Rattle.method.specs.Rules.{row}
 use Rattle.method.specs.Slots.{Slot, blank, ended, freed, locked}
 use Rattle.method.proofs.Capacity.{ControlInv}
@@ -29,7 +30,7 @@ use Rattle.method.proofs.Invariant.{Form}
 use Rattle.method.proofs.Laws.{Laws}
 use Rattle.method.proofs.Refusals.{row-clear}
 use Rattle.cabinet_rules.specs.Cabinet.{cabinet, mostPlaced, placeRows, rulesOf, slotSeen, startRow, tranOk}
-use Rattle.cabinet_rules.specs.Delivery.{Delivery, PartOf, today}
+use Rattle.cabinet_rules.specs.Delivery.{Delivery, PartOf, current}
 
 -- ---- slots, as the rules see them
 -- what the rules see of a slot's fields
@@ -85,8 +86,8 @@ start-members m e = ltb-false (size m) leastMembers (row-clear (ltb (size m) lea
 -- Sites are two different members, and the cards of the placement made of a mask are the mask's.
 pub record SiteLaws (D : Delivery) : Type 0 where
   pub site-count : (p : D .Placement) (b : ℕ) → length (D .sites p b) ≡ copyCount
-  pub site-member : (p : D .Placement) (b c : ℕ) → copyCount ≤ size (D .mask p) → ltb b blockCount ≡ true → elem c (D .sites p b) ≡ true → hasCard (D .mask p) c ≡ true
-  pub site-distinct : (p : D .Placement) (b : ℕ) → copyCount ≤ size (D .mask p) → ltb b blockCount ≡ true → distinct (D .sites p b) ≡ true
+  pub site-member : (p : D .Placement) (b c : ℕ) → copyCount ≤ size (D .mask p) → elem c (D .sites p b) ≡ true → hasCard (D .mask p) c ≡ true
+  pub site-distinct : (p : D .Placement) (b : ℕ) → copyCount ≤ size (D .mask p) → distinct (D .sites p b) ≡ true
   pub mask-back : (m : Byte) → D .mask (D .fromMask m) ≡ m
 
 module _ (D : Delivery) (S : SiteLaws D) where
@@ -134,8 +135,8 @@ module _ (D : Delivery) (S : SiteLaws D) where
     has-insert = has-with;
     has-remove = has-without;
     site-count = λ σ p b u h. S .site-count p b;
-    site-member = λ σ p b c u h e. S .site-member p b c u h e;
-    site-distinct = λ σ p b u h. S .site-distinct p b u h;
+    site-member = λ σ p b c u h e. S .site-member p b c u e;
+    site-distinct = λ σ p b u h. S .site-distinct p b u;
     has-without = λ p c x. made-has (withoutCard (D .mask p) c) x ∙ has-without (D .mask p) c x;
     usable-without = λ σ p c h. h;
     start-usable = λ m e. made m (start-members m e);
@@ -156,22 +157,26 @@ module _ (D : Delivery) (S : SiteLaws D) where
     slot-end = end-seen;
   }
 
--- Control bytes: those written from the control part of a running store show it and have the form, and the failed cards stand where
--- noise looks for them.
+-- Control bytes: those written from the control part of a running store show it and have the form, those that a stopping fail of a card
+-- writes show a stopped store and have the form, and the failed cards stand where noise looks for them.
 pub record ControlLaws (D : Delivery) (S : SiteLaws D) : Type 0 where
   pub reads : (k : PartOf D) → Form (rulesOf D) k → ControlInv (rulesOf D) (lawfulBy D S) k → (g : ℕ → ℕ)
       → ((n : ℕ) → n < controlSize → g n ≡ D .bytes k n) → D .part g ≡ k
   pub formed : (k : PartOf D) → Form (rulesOf D) k → ControlInv (rulesOf D) (lawfulBy D S) k → (g : ℕ → ℕ)
       → ((n : ℕ) → n < controlSize → g n ≡ D .bytes k n) → D .form g ≡ true
-  pub same-failed : (g : ℕ → ℕ) → D .part g .failed ≡ today .part g .failed
+  pub stop-read : (k : PartOf D) → Form (rulesOf D) k → ControlInv (rulesOf D) (lawfulBy D S) k → (c : ℕ) → ltb c cardCount ≡ true → (g : ℕ → ℕ)
+      → ((n : ℕ) → n < controlSize → g n ≡ D .bytes (halted (marked (rulesOf D) k c)) n) → D .part g .stopped ≡ true
+  pub stop-formed : (k : PartOf D) → Form (rulesOf D) k → ControlInv (rulesOf D) (lawfulBy D S) k → (c : ℕ) → ltb c cardCount ≡ true → (g : ℕ → ℕ)
+      → ((n : ℕ) → n < controlSize → g n ≡ D .bytes (halted (marked (rulesOf D) k c)) n) → D .form g ≡ true
+  pub same-failed : (g : ℕ → ℕ) → D .part g .failed ≡ current .part g .failed
 
 pub record DeliveryLaws (D : Delivery) : Type 0 where
   pub sites : SiteLaws D
   pub control : ControlLaws D sites
 
 -- ---- the delivery in force
-pub siteLaws : SiteLaws today
+pub siteLaws : SiteLaws current
 siteLaws = record { site-count = site-count; site-member = site-member; site-distinct = site-distinct; mask-back = λ m. refl }
 
 abbrev pub lawful : Laws cabinet
-lawful = lawfulBy today siteLaws
+lawful = lawfulBy current siteLaws

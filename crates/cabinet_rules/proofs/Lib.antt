@@ -1,8 +1,11 @@
 pub mod Examples
+pub mod RailExamples
 pub mod Lawful
 pub mod After
 pub mod Form
 pub mod Sound
 pub mod OneRecordList
-pub mod GoesOn
 pub mod FormStays
+pub mod GoesOn
+pub mod Base
+pub mod Rails

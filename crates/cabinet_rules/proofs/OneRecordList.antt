@@ -8,9 +8,9 @@ use Rattle.method.specs.PlainList.{PlainList, plainNext, plainStart}
 use Rattle.method.specs.Rules.{State, nextState, start}
 use Rattle.cabinet_rules.specs.Cabinet.{cabinet, rulesOf}
 use Rattle.cabinet_rules.specs.Claims.{NoisyCallBy, OneRecordListOnImages, imageCallsBy, noisy, runImageBy}
-use Rattle.cabinet_rules.specs.Delivery.{Delivery, today}
+use Rattle.cabinet_rules.specs.Delivery.{Delivery, current}
 use Rattle.cabinet_rules.specs.Images.{Image, next, nextBy}
-use Rattle.cabinet_rules.proofs.Form.{todayLaws}
+use Rattle.cabinet_rules.proofs.Form.{currentLaws}
 use Rattle.cabinet_rules.proofs.Lawful.{DeliveryLaws}
 use Rattle.cabinet_rules.proofs.Sound.{Sound, Steps, noise-sound, start-sound, step-sound}
 
@@ -37,4 +37,4 @@ module _ (D : Delivery) (W : DeliveryLaws D) where
 -- DEMAND 3
 pub one-record-list-on-images : OneRecordListOnImages
 unfolding OneRecordListOnImages
-one-record-list-on-images m before e l = run-image today todayLaws l (next (start m) before) (zeroed cabinet m) (plainStart cabinet m) (start-sound today todayLaws m before e)
+one-record-list-on-images m before e l = run-image current currentLaws l (next (start m) before) (zeroed cabinet m) (plainStart cabinet m) (start-sound current currentLaws m before e)

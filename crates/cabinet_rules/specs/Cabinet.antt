@@ -14,7 +14,7 @@ use Rattle.method.specs.Parameters.{Parameters}
 use Rattle.method.specs.Rules.{row}
 use Rattle.method.specs.Slots.{Slot}
 use Rattle.control.specs.ControlBytes.{Setting}
-use Rattle.cabinet_rules.specs.Delivery.{Delivery, PartOf, today}
+use Rattle.cabinet_rules.specs.Delivery.{Delivery, PartOf, current}
 
 -- A slot as the rules see it: an absence shows no value, and the unnamed bits are ignored.
 abbrev pub slotSeen : BlockBytes → ℕ → Slot
@@ -88,4 +88,4 @@ module _ (D : Delivery) where
 
 -- The rules in force.
 abbrev pub cabinet : Parameters
-cabinet = rulesOf today
+cabinet = rulesOf current

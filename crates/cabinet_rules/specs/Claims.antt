@@ -13,7 +13,7 @@ use Rattle.method.specs.PlainList.{plainStart}
 use Rattle.method.specs.Rules.{Call, ok, start}
 use Rattle.control.specs.ControlForm.{formRefusal}
 use Rattle.cabinet_rules.specs.Cabinet.{cabinet, rulesOf}
-use Rattle.cabinet_rules.specs.Delivery.{Delivery, today}
+use Rattle.cabinet_rules.specs.Delivery.{Delivery, current}
 use Rattle.cabinet_rules.specs.Images.{Image, answer, answerBy, cardAt, controlIn, next, nextBy}
 
 -- ---- noise
@@ -57,16 +57,16 @@ module _ (D : Delivery) where
 
 -- ---- by the delivery in force
 abbrev pub NoisyCall : Type 0
-NoisyCall = NoisyCallBy today
+NoisyCall = NoisyCallBy current
 
 abbrev pub runImage : List NoisyCall → Image → List (Observation cabinet)
-runImage = runImageBy today
+runImage = runImageBy current
 
 abbrev pub imageCalls : List NoisyCall → List (Call cabinet)
-imageCalls = imageCallsBy today
+imageCalls = imageCallsBy current
 
 abbrev pub imageAfter : List NoisyCall → Image → Image
-imageAfter = imageAfterBy today
+imageAfter = imageAfterBy current
 
 -- DEMAND 3. After an accepted start on memory of any contents, until the store stops, every get, store, delete,
 -- commit and rollback answers exactly what the plain record list answers; and it stops exactly when the stop rule

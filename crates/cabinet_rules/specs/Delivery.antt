@@ -1,12 +1,12 @@
 -- What the deliveries of this cabinet differ in, and the delivery in force. Assumes nothing.
 use Prim.Native.Nat.{ℕ}
 use lib.Dec.{eqb}
-use mathlib.Core.Bool.{Bool}
-use mathlib.Core.List.{List}
+use mathlib.Core.Bool.{Bool, _&&_}
+use mathlib.Core.List.{List, map}
 use Rattle.mask.specs.Masks.{Byte}
-use Rattle.mask.specs.Placements.{Placement, fromMask, sitesOf}
-use Rattle.method.specs.ControlPart.{ControlPart}
-use Rattle.control.specs.ControlBytes.{Setting, controlByte, controlOf}
+use Rattle.mask.specs.Placements.{Placement, chainedSites, fromMask, olderFromMask, sitesOf}
+use Rattle.method.specs.ControlPart.{ControlPart, part}
+use Rattle.control.specs.ControlBytes.{Part, Setting, controlByte, controlOf}
 use Rattle.control.specs.ControlForm.{formOk}
 
 pub record Delivery : Type 1 where
@@ -27,14 +27,44 @@ pub record Delivery : Type 1 where
 abbrev pub PartOf : Delivery → Type 0
 PartOf D = ControlPart Byte (D .Placement) Setting
 
--- The delivery in force: place refuses the newest mask again.
-abbrev pub today : Delivery
-today = record {
+-- ---- the base: document 01 without the later papers
+-- A control part whose placements are masks alone; as bytes keep it, they stay marked 0.
+abbrev pub olderPart : ControlPart Byte Byte Setting → Part
+olderPart k =
+    part (k .stopped) (map olderFromMask (k .older)) (olderFromMask (k .newest)) (k .working) (k .failed) (k .home)
+    (k .setting)
+
+-- The masks alone of a control part.
+abbrev pub masksAlone : Part → ControlPart Byte Byte Setting
+masksAlone k =
+    part (k .stopped) (map (λ p. p .mask) (k .older)) (k .newest .mask) (k .working) (k .failed) (k .home) (k .setting)
+
+-- A placement comes from its mask alone, its sites are chained, and byte 7 is zero.
+abbrev pub base : Delivery
+base = record {
+  Placement = Byte;
+  mask = λ m. m;
+  sites = chainedSites;
+  fromMask = λ m. m;
+  isAgain = λ newest m. eqb (m .0) (newest .0);
+  bytes = λ k. controlByte (olderPart k);
+  part = λ g. masksAlone (controlOf g);
+  form = λ g. formOk g && eqb (g 7) 0;
+}
+
+-- ---- the delivery in force: A.1
+-- Place refuses the newest mask again where that one is marked 1: it may be placed anew by rails.
+abbrev pub againByRails : Placement → Byte → Bool
+againByRails newest m = newest .byRails && eqb (m .0) (newest .mask .0)
+
+-- Sites are by the placement's mark, and start, place and fail write 1.
+abbrev pub current : Delivery
+current = record {
   Placement = Placement;
   mask = λ p. p .mask;
   sites = sitesOf;
   fromMask = fromMask;
-  isAgain = λ newest m. eqb (m .0) (newest .mask .0);
+  isAgain = againByRails;
   bytes = controlByte;
   part = controlOf;
   form = formOk;

@@ -15,7 +15,7 @@ use Rattle.method.specs.Rules.{place, refusal, rollback, settle, start, state, 
 use Rattle.control.specs.ControlBytes.{Part}
 use Rattle.control.specs.ControlForm.{formRows}
 use Rattle.cabinet_rules.specs.Cabinet.{cabinet, rulesOf}
-use Rattle.cabinet_rules.specs.Delivery.{Delivery, PartOf, today}
+use Rattle.cabinet_rules.specs.Delivery.{Delivery, PartOf, current}
 
 abbrev pub Image : Type 0
 Image = List ℕ
@@ -105,21 +105,21 @@ module _ (D : Delivery) where
 -- ---- by the delivery in force
 -- What an image shows.
 abbrev pub controlIn : Image → Part
-controlIn = controlBy today
+controlIn = controlBy current
 
 abbrev pub stateIn : Image → State cabinet
-stateIn = stateBy today
+stateIn = stateBy current
 
 -- What a call is refused with, or what it does.
 abbrev pub refusalOn : Call cabinet → Image → ℕ
-refusalOn = refusalBy today
+refusalOn = refusalBy current
 
 abbrev pub planOn : Call cabinet → Image → Plan cabinet
-planOn = planBy today
+planOn = planBy current
 
 -- What it answers, and the image after it.
 abbrev pub answer : Call cabinet → Image → Answer cabinet
-answer = answerBy today
+answer = answerBy current
 
 abbrev pub next : Call cabinet → Image → Image
-next = nextBy today
+next = nextBy current

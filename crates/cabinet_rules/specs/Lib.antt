@@ -2,4 +2,5 @@ pub mod Delivery
 pub mod Cabinet
 pub mod Images
 pub mod Claims
+pub mod Rails
 pub mod GoesOn

@@ -24,9 +24,9 @@ use Rattle.method.specs.Rules.{act, dropHeld, fail, look, lost, lostOf, placed,
 use Rattle.method.specs.Rules.{unplaced, writing}
 use Rattle.control.specs.ControlBytes.{Part}
 use Rattle.control.specs.ControlForm.{formRefusal, fourthOk, isSafe}
-use Rattle.control.specs.Meaning.{Is, maskIn, meaning, newestMask}
+use Rattle.control.specs.Meaning.{Is, meaning, newestMask, placementIn}
 use Rattle.control.proofs.RoundTrip.{form-part, part-clauses}
-use Rattle.control.proofs.Struct.{length-placements, newest-by}
+use Rattle.control.proofs.Struct.{length-placements, newest-mask-is}
 use Rattle.cabinet_rules.specs.Cabinet.{cabinet, mostPlaced}
 use Rattle.cabinet_rules.specs.Images.{Image, controlIn, planOn, stateIn}
 use Rattle.cabinet_rules.proofs.Form.{safe-is}
@@ -108,7 +108,7 @@ room-for k c (a ∷ b ∷ p ∷ q ∷ l) e f n s h = absurd (omega arith)
 
 older-count : (k : Struct) → length (meaning k .older) ≡ k .count - 1
 unfolding meaning
-older-count k = length-placements (maskIn k) (k .count - 1)
+older-count k = length-placements (placementIn k) (k .count - 1)
 
 module _ (g : Image) (clear : formRefusal g ≡ 0) (k : Struct) (i : Is k (controlIn g)) (c : ℕ) (m : Struct)
     (im : Is m (withCards (meaning k) (withoutCard (meaning k .working) c) (withCard (meaning k .failed) c))) where
@@ -172,4 +172,4 @@ module _ (g : Image) (clear : formRefusal g ≡ 0) (k : Struct) (i : Is k (contr
 
   -- the newest mask in the struct
   pub newest-is : {n : ℕ} → n ≡ newestMask k → byte n ≡ controlIn g .newest .mask
-  newest-is {n} e = ap (λ (p : Placement). p .mask) (newest-by k n e) ∙ ap (λ (p : Part). p .newest .mask) (i .means)
+  newest-is {n} e = newest-mask-is k n e ∙ ap (λ (p : Part). p .newest .mask) (i .means)

@@ -7,20 +7,20 @@ use mathlib.Core.Bool.{Bool, _||_, false, not, true}
 use mathlib.Core.Logic.{_≢_}
 use mathlib.Core.List.{[], _++_, _∷_}
 use mathlib.Core.Path.{_∙_, _≡_, ap, ap₂, refl, sym}
-use native.Mathlib.Nat.{mod-eq-of-lt}
 use native.Mathlib.Omega.{arith}
 use Rattle.lists.specs.Tests.{anyBelow}
 use Rattle.image.specs.Layout.{cardCount, tranBound}
 use Rattle.mask.specs.Masks.{Byte, byte, hasCard, isWithin, size}
-use Rattle.mask.specs.Placements.{fromMask, leastMembers}
+use Rattle.mask.specs.Placements.{leastMembers}
 use Rattle.method.specs.ControlPart.{begunAt}
 use Rattle.method.specs.PlainList.{noBlocks}
 use Rattle.method.specs.Rules.{Call, View, fit, inActive, place, refusal, row, withdraw}
 use Rattle.method.proofs.Refusals.{row-3, row-clear}
 use Rattle.control.specs.ControlBytes.{Part, placementsIn}
-use Rattle.control.specs.Meaning.{Counted, maskIn, newestMask, meaning}
+use Rattle.control.specs.Meaning.{Counted, meaning, placementIn}
 use Rattle.control.proofs.Struct.{active-is, length-placements}
 use Rattle.cabinet_rules.specs.Cabinet.{cabinet, mostPlaced, placeRows}
+use Rattle.cabinet_rules.specs.Delivery.{againByRails}
 use Rattle.promise.specs.Rows.{cardRows}
 use Rattle.promise.proofs.SharedRows.{card-accepted}
 use Rattle.tables.specs.Tables.{setOf}
@@ -73,16 +73,15 @@ module _ (k : Part) (c n : ℕ) (e : n ≡ cardRows k c) where
       go : (a s w o : Bool) (below : ℕ) → a ≡ true → s ≡ false → w ≡ true → row 8 o below ≡ row 3 (not a) (row 4 s (row 8 (not w || o) below))
       go a s w o below p q r = rw (p, q, r)
 
-pub place-by : (k : Struct) → Counted k → (m : ℕ) → m < 256 → newestMask k < 256 → (n : ℕ) (w : Bool) → n ≡ size (byte m) → w ≡ isWithin (byte m) (byte (k .working))
-    → row 4 (k .stopped) (row 9 (ltb n leastMembers || (not w || eqb m (newestMask k))) (row 10 (leb mostPlaced (k .count)) 0)) ≡ rowsOf (place (byte m)) (meaning k)
+pub place-by : (k : Struct) → Counted k → (m n : ℕ) (w again : Bool) → n ≡ size (byte m) → w ≡ isWithin (byte m) (byte (k .working))
+    → again ≡ againByRails (meaning k .newest) (byte m)
+    → row 4 (k .stopped) (row 9 (ltb n leastMembers || (not w || again)) (row 10 (leb mostPlaced (k .count)) 0)) ≡ rowsOf (place (byte m)) (meaning k)
 unfolding refusal placeRows meaning
-place-by k c m hm hk n w en ew =
-    ap₂ (λ (a : ℕ) (x : Bool). row 4 (k .stopped) (row 9 (ltb a leastMembers || (not x || eqb m (newestMask k))) (row 10 (leb mostPlaced (k .count)) 0))) en ew
-    ∙ ap₂ (λ (x y : ℕ). row 4 (k .stopped) (row 9 (ltb (size (byte m)) leastMembers || (not (isWithin (byte m) (byte (k .working))) || eqb x y)) (row 10 (leb mostPlaced (k .count)) 0))) (sym (mod-eq-of-lt hm)) (sym (mod-eq-of-lt hk))
-    ∙ ap (λ (x : ℕ). row 4 (k .stopped) (row 9 (ltb (size (byte m)) leastMembers || (not (isWithin (byte m) (byte (k .working))) || eqb (byte m .0) (byte (newestMask k) .0))) (row 10 (leb mostPlaced x) 0))) (sym count-is)
+place-by k c m n w again en ew ea = rw (en, ew, ea)
+    (ap (λ (x : ℕ). row 4 (k .stopped) (row 9 (ltb (size (byte m)) leastMembers || (not (isWithin (byte m) (byte (k .working))) || againByRails (placementIn k (k .count - 1)) (byte m))) (row 10 (leb mostPlaced x) 0))) (sym count-is))
   where
-    count-is : length (placementsIn (maskIn k) (k .count - 1) ++ (fromMask (byte (newestMask k)) ∷ [])) ≡ k .count
-    count-is = ap length (active-is k c) ∙ length-placements (maskIn k) (k .count)
+    count-is : length (placementsIn (placementIn k) (k .count - 1) ++ (placementIn k (k .count - 1) ∷ [])) ≡ k .count
+    count-is = ap length (active-is k c) ∙ length-placements (placementIn k) (k .count)
 
 -- ---- what an accepted call has shown
 pub fit-range : (k : Part) (c : ℕ) → 0 ≡ rowsOf (fit c) k → c < cardCount
@@ -96,8 +95,8 @@ withdraw-range k c e = ltb-true c cardCount (row-3 (ltb c cardCount) (sym e) .0)
 pub place-few : (k : Struct) → Counted k → (m : Byte) → 0 ≡ rowsOf (place m) (meaning k) → k .count < 4
 unfolding refusal placeRows meaning
 place-few k c m e =
-    let bad : Bool = ltb (size m) leastMembers || (not (isWithin m (byte (k .working))) || eqb (m .0) (byte (newestMask k) .0)) in
-    let full : Bool = leb mostPlaced (length (placementsIn (maskIn k) (k .count - 1) ++ (fromMask (byte (newestMask k)) ∷ []))) in
-    let h : length (placementsIn (maskIn k) (k .count - 1) ++ (fromMask (byte (newestMask k)) ∷ [])) < mostPlaced =
+    let bad : Bool = ltb (size m) leastMembers || (not (isWithin m (byte (k .working))) || againByRails (placementIn k (k .count - 1)) m) in
+    let full : Bool = leb mostPlaced (length (placementsIn (placementIn k) (k .count - 1) ++ (placementIn k (k .count - 1) ∷ []))) in
+    let h : length (placementsIn (placementIn k) (k .count - 1) ++ (placementIn k (k .count - 1) ∷ [])) < mostPlaced =
     leb-false mostPlaced _ (row-clear full 9 (row-clear bad 8 (row-clear (k .stopped) 3 (sym e) .1) .1) .0) in
-    omega (arith, h, ap length (active-is k c) ∙ length-placements (maskIn k) (k .count))
+    omega (arith, h, ap length (active-is k c) ∙ length-placements (placementIn k) (k .count))

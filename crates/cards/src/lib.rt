@@ -4,8 +4,10 @@ ghost use Rattle.image.specs.Layout.{Whole};
 ghost use Rattle.method.specs.Rules.{inActive, refusal, fit, withdraw, place};
 ghost use Rattle.method.specs.PlainList.{noBlocks};
 ghost use Rattle.mask.specs.Masks.{byte};
+ghost use Rattle.mask.specs.Placements.{meant};
 ghost use Rattle.control.specs.Meaning.{Counted, meaning};
 ghost use Rattle.cabinet_rules.specs.Cabinet.{cabinet};
+ghost use Rattle.cabinet_rules.specs.Delivery.{againByRails};
 ghost use Rattle.promise.specs.Promise.{Done, asked};
 ghost use Rattle.promise.specs.declared.Call.{Call};
 ghost use Rattle.cards.specs.Clearing.{cleared};
@@ -136,6 +138,16 @@ pub fn withdraw(image: &mut [u8], card: Card) -> Answer
     Answer::Ok
 }
 
+// Whether the placement is the one that a place of this mask makes.
+fn is_again(newest: Placement, mask: u8) -> bool
+    ensures { λ r. ⌜ r ≡ againByRails (meant newest) (byte mask) ⌝ }
+{
+    if newest.rails {
+        return mask == newest.mask;
+    }
+    false
+}
+
 // The rows of place from 4 on.
 fn place_refusal(k: Control, mask: u8) -> u8
     requires { ⌜ Counted k ⌝ }
@@ -150,7 +162,7 @@ fn place_refusal(k: Control, mask: u8) -> u8
     if !mask::within(mask, k.working) {
         return 9;
     }
-    if mask == k.newest_mask() {
+    if is_again(k.newest(), mask) {
         return 9;
     }
     if k.count >= MOST_PLACED {

@@ -1,23 +1,26 @@
 -- The changes of the struct are the rules' changes of the control part. Assumes nothing.
 use mathlib.Core.Path.{_≡_, refl, sym, ap, ap₂, _∙_, fun-ext}
 use mathlib.Core.Logic.{_⊎_, inl, inr}
-use mathlib.Core.Bool.{Bool, true, false, _&&_, cond}
+use mathlib.Core.Bool.{Bool, true, false, _&&_, _||_, cond}
 use mathlib.Core.Option.{Option, some, none}
 use mathlib.Core.List.{List, [], _∷_}
 use Prim.Native.Nat.{ℕ, zero, suc, _+_, _-_, _*_, _/_, _%_, _<_}
 use native.Mathlib.Omega.{arith}
+use lib.Bits.{bitOr}
 use lib.Dec.{ltb, eqb}
 use lib.ListN.{getD, length, set, replicate}
 use lib.Seq.{getD-set-same, getD-set-other}
-use borrow.Author.Tests.{eqb-true, eqb-false, ltb-true, lt-ltb, le-leb}
-use Rattle.lists.proofs.Bools.{tf, split, and-l, and-r, and-in}
+use borrow.Author.Tests.{eqb-true, eqb-false, eq-eqb, ne-eqb, ltb-true, lt-ltb, le-leb}
+use Rattle.lists.proofs.Bools.{tf, split, and-l, and-r, and-in, or-r}
 use Rattle.image.specs.Layout.{cardCount, tranBound}
-use Rattle.mask.specs.Masks.{Byte, byte, noCards}
-use Rattle.mask.specs.Placements.{fromMask}
+use Rattle.mask.specs.Masks.{Byte, bitOf, byte, noCards}
+use Rattle.mask.specs.Placements.{fromMask, meant}
+use Rattle.mask.specs.declared.Placement.{Placement as Struct}
 use Rattle.method.specs.ControlPart.{active, isCard, begunAt, started, withHome, withCards, withPlacements, opened, closed, added, onlyNewest, halted}
-use Rattle.control.specs.ControlBytes.{homeIn, homeOf, placementsIn}
-use Rattle.control.specs.Meaning.{maskIn, newestMask, meaning, keptHome, Counted, Is}
+use Rattle.control.specs.ControlBytes.{homeIn, homeOf, keptAs, markIn, placementsIn}
+use Rattle.control.specs.Meaning.{placementIn, meaning, mostActive, keptHome, Counted, Is}
 use Rattle.control.specs.declared.Control.{Control}
+use Rattle.control.proofs.Marks.{mark-first, mark-set}
 use Rattle.control.proofs.Struct.{placements-same, active-is}
 
 -- The homes after a store at transaction t's place.
@@ -48,9 +51,14 @@ kept-home c b = go (isCard (homeIn b) c)
     go true = refl
     go false = refl
 
+-- A test that passes already needs no more.
+no-more : (b : Bool) → (b || false) ≡ b
+no-more true = refl
+no-more false = refl
+
 -- Other homes; other working and failed cards: all else as it was.
 abbrev pub withHomes : Control → List ℕ → Control
-withHomes k l = record { stopped = k .stopped; count = k .count; masks = k .masks; working = k .working; failed = k .failed; homes = l }
+withHomes k l = record { stopped = k .stopped; count = k .count; masks = k .masks; working = k .working; failed = k .failed; marks = k .marks; homes = l }
 
 module _ (k : Control) (w : Counted k) where
   homes-are : (l : List ℕ) (f : ℕ → Option ℕ) → ((t : ℕ) → homeOf t (getD l (t - 1) 0) ≡ f t) → Is (withHomes k l) (withHome (meaning k) f)
@@ -87,36 +95,53 @@ module _ (k : Control) (w : Counted k) where
           let b : t < tranBound = ltb-true t tranBound (and-r (ltb 0 t) (ltb t tranBound) e) in
           rw e (ap homeIn (same (t - 1) (omega arith)) ∙ kept-home c (getD (k .homes) (t - 1) 0))
 
-  pub add-is : (m : ℕ) → length (k .masks) ≡ 4 → k .count < 4
-      → Is (record { stopped = k .stopped; count = k .count + 1; masks = set (k .masks) (k .count) m; working = k .working; failed = k .failed; homes = k .homes })
+  pub add-is : (m : ℕ) → length (k .masks) ≡ 4 → k .count < mostActive
+      → Is (record {
+        stopped = k .stopped;
+        count = k .count + 1;
+        masks = set (k .masks) (k .count) m;
+        working = k .working;
+        failed = k .failed;
+        marks = bitOr (k .marks) (bitOf (k .count));
+        homes = k .homes;
+      })
       (added (meaning k) (fromMask (byte m)))
   unfolding meaning
-  add-is m n h = record {
-    counted = record { some = omega arith; few = omega arith };
-    means = ap₂ (withPlacements (meaning k)) old (ap (λ (x : ℕ). fromMask (byte x)) new);
-  }
+  add-is m n h = record { counted = record { some = omega arith; few = omega arith }; means = ap₂ (withPlacements (meaning k)) old new }
     where
       masks : List ℕ
       masks = set (k .masks) (k .count) m
 
+      marks : ℕ
+      marks = bitOr (k .marks) (bitOf (k .count))
+
       c : k .count + 1 - 1 ≡ k .count
       c = omega arith
 
-      old : placementsIn (λ i. getD masks i 0) (k .count + 1 - 1) ≡ active (meaning k)
-      old = ap (placementsIn (λ i. getD masks i 0)) c
-          ∙ placements-same (λ i. getD masks i 0) (maskIn k) (k .count) (λ i b. getD-set-other (k .masks) (k .count) i m 0 (λ e. omega arith))
-          ∙ sym (active-is k w)
+      kept : (i : ℕ) → i < k .count → keptAs i (getD masks i 0) marks ≡ placementIn k i
+      kept i b = ap₂ (λ (x : ℕ) (r : Bool). record { mask = byte x; byRails = r }) (getD-set-other (k .masks) (k .count) i m 0 (λ e. omega arith))
+          (mark-set (k .marks) (k .count) i h (omega arith) ∙ rw (ne-eqb i (k .count) (λ e. omega arith)) (no-more (markIn (k .marks) i)))
 
-      new : getD masks (k .count + 1 - 1) 0 ≡ m
-      new = ap (λ (i : ℕ). getD masks i 0) c ∙ getD-set-same (k .masks) (k .count) m 0 (omega arith)
+      old : placementsIn (λ i. keptAs i (getD masks i 0) marks) (k .count + 1 - 1) ≡ active (meaning k)
+      old = ap (placementsIn (λ i. keptAs i (getD masks i 0) marks)) c
+          ∙ placements-same (λ i. keptAs i (getD masks i 0) marks) (placementIn k) (k .count) kept ∙ sym (active-is k w)
 
-  pub retire-is : (m : ℕ) → m ≡ newestMask k
-      → Is (record { stopped = k .stopped; count = 1; masks = m ∷ 0 ∷ 0 ∷ 0 ∷ []; working = k .working; failed = k .failed; homes = k .homes }) (onlyNewest (meaning k))
+      new : keptAs (k .count + 1 - 1) (getD masks (k .count + 1 - 1) 0) marks ≡ fromMask (byte m)
+      new = ap (λ (i : ℕ). keptAs i (getD masks i 0) marks) c
+          ∙ ap₂ (λ (x : ℕ) (r : Bool). record { mask = byte x; byRails = r }) (getD-set-same (k .masks) (k .count) m 0 (omega arith))
+          (mark-set (k .marks) (k .count) (k .count) h h ∙ rw (eq-eqb (k .count) (k .count) refl) (or-r (markIn (k .marks) (k .count)) true refl))
+
+  pub retire-is : (p : Struct) (marks : ℕ) → meant p ≡ meaning k .newest → marks ≡ cond (p .rails) (bitOf 0) 0
+      → Is (record { stopped = k .stopped; count = 1; masks = p .mask ∷ 0 ∷ 0 ∷ 0 ∷ []; working = k .working; failed = k .failed; marks = marks; homes = k .homes })
+      (onlyNewest (meaning k))
   unfolding meaning
-  retire-is m e = record { counted = record { some = omega arith; few = omega arith }; means = ap (λ (n : ℕ). withPlacements (meaning k) [] (fromMask (byte n))) e }
+  retire-is p marks e d = record {
+    counted = record { some = omega arith; few = omega arith };
+    means = ap (withPlacements (meaning k) []) (ap (λ (r : Bool). record { mask = byte (p .mask); byRails = r }) (ap (λ (n : ℕ). markIn n 0) d ∙ mark-first (p .rails)) ∙ e);
+  }
 
   pub cards-are : (x y : ℕ) (p q : Byte) → byte x ≡ p → byte y ≡ q
-      → Is (record { stopped = k .stopped; count = k .count; masks = k .masks; working = x; failed = y; homes = k .homes }) (withCards (meaning k) p q)
+      → Is (record { stopped = k .stopped; count = k .count; masks = k .masks; working = x; failed = y; marks = k .marks; homes = k .homes }) (withCards (meaning k) p q)
   unfolding meaning
   cards-are x y p q ep eq = record { counted = record { some = w .some; few = w .few }; means = ap₂ (withCards (meaning k)) ep eq }
 
@@ -134,12 +159,12 @@ none-open t = rw (at-zeros 15 (t - 1)) (go (ltb 0 t && ltb t tranBound))
     go false = refl
 
 pub halt-is : (k : Control) → Counted k
-    → Is (record { stopped = true; count = k .count; masks = k .masks; working = k .working; failed = k .failed; homes = replicate 15 0 }) (halted (meaning k))
+    → Is (record { stopped = true; count = k .count; masks = k .masks; working = k .working; failed = k .failed; marks = k .marks; homes = replicate 15 0 }) (halted (meaning k))
 unfolding meaning
 halt-is k w = record { counted = record { some = w .some; few = w .few }; means = ap (withHome (halted (meaning k))) (fun-ext none-open) }
 
 pub start-is : (m : ℕ)
-    → Is (record { stopped = false; count = 1; masks = m ∷ 0 ∷ 0 ∷ 0 ∷ []; working = m; failed = 0; homes = replicate 15 0 })
+    → Is (record { stopped = false; count = 1; masks = m ∷ 0 ∷ 0 ∷ 0 ∷ []; working = m; failed = 0; marks = 128; homes = replicate 15 0 })
     (started (fromMask (byte m)) (byte m) noCards tt)
 unfolding meaning
 start-is m = record {

@@ -12,11 +12,11 @@ use Rattle.lists.proofs.Bools.{and-l, and-r}
 use Rattle.lists.proofs.Counts.{all-fails}
 use Rattle.image.specs.Layout.{tranBound}
 use Rattle.mask.specs.Masks.{Byte, byte, isOneMore}
-use Rattle.mask.specs.Placements.{Placement, fromMask}
+use Rattle.mask.specs.Placements.{Placement}
 use Rattle.method.specs.ControlPart.{active}
 use Rattle.control.specs.ControlBytes.{countIn, homeIn, homeOf, placementsIn, controlOf}
 use Rattle.control.specs.ControlForm.{countOk, fourthOk, homeOk, controlForm}
-use Rattle.control.specs.Meaning.{structOf, maskIn, meaning, Counted, Is}
+use Rattle.control.specs.Meaning.{structOf, maskIn, placementIn, meaning, Counted, Is}
 use Rattle.control.specs.declared.Control.{Control}
 use Rattle.control.proofs.RoundTrip.{form-count}
 use Rattle.control.proofs.Struct.{read-means, active-is}
@@ -40,18 +40,18 @@ front : (n : ℕ) (f : ℕ → Bool) → (f 0 && allBelow n (λ i. f (suc i))) �
 front zero f = refl
 front (suc n) f = and-swap (f 0) (f (suc n)) (allBelow n (λ i. f (suc i))) ∙ ap (λ (b : Bool). f (suc n) && b) (front n f)
 
-all-placements : (p : Placement → Bool) (f : ℕ → ℕ) (n : ℕ) → all p (placementsIn f n) ≡ allBelow n (λ i. p (fromMask (byte (f i))))
+all-placements : (p : Placement → Bool) (f : ℕ → Placement) (n : ℕ) → all p (placementsIn f n) ≡ allBelow n (λ i. p (f i))
 all-placements p f zero = refl
-all-placements p f (suc n) = ap (λ (b : Bool). p (fromMask (byte (f 0))) && b) (all-placements p (λ i. f (suc i)) n) ∙ front n (λ i. p (fromMask (byte (f i))))
+all-placements p f (suc n) = ap (λ (b : Bool). p (f 0) && b) (all-placements p (λ i. f (suc i)) n) ∙ front n (λ i. p (f i))
 
--- A clause on the working and the failed cards and a placement, of the placement of mask i.
+-- A clause on the working and the failed cards and a placement, of placement i.
 unfoldable pub placementTest : (Byte → Byte → Placement → Bool) → Control → ℕ → Bool
-placementTest f k i = f (byte (k .working)) (byte (k .failed)) (fromMask (byte (maskIn k i)))
+placementTest f k i = f (byte (k .working)) (byte (k .failed)) (placementIn k i)
 
 module _ (f : Byte → Byte → Placement → Bool) (k : Control) (w : Counted k) where
   pub every-is : all (f (meaning k .working) (meaning k .failed)) (active (meaning k)) ≡ allBelow (k .count) (placementTest f k)
   unfolding meaning placementTest
-  every-is = ap (all (f (byte (k .working)) (byte (k .failed)))) (active-is k w) ∙ all-placements (f (byte (k .working)) (byte (k .failed))) (maskIn k) (k .count)
+  every-is = ap (all (f (byte (k .working)) (byte (k .failed)))) (active-is k w) ∙ all-placements (f (byte (k .working)) (byte (k .failed))) (placementIn k) (k .count)
 
   -- The loop: a placement that fails, and all that passed.
   pub one-fails : (i : ℕ) → i < k .count → placementTest f k i ≡ false → false ≡ all (f (meaning k .working) (meaning k .failed)) (active (meaning k))
@@ -61,8 +61,8 @@ module _ (f : Byte → Byte → Placement → Bool) (k : Control) (w : Counted k
   every-passed i e h = sym (every-is ∙ ap (λ (n : ℕ). allBelow n (placementTest f k)) e ∙ h)
 
 -- ---- the fourth mask
-fourth-by : (d : Byte) (f : ℕ → ℕ) (n : ℕ) → 1 ≤ n → n ≤ 4
-    → cond (eqb n 4) (isOneMore d (byte (f 3)) (byte (f 2))) true ≡ fourthOk d (fromMask (byte (f (n - 1)))) (placementsIn f (n - 1))
+fourth-by : (d : Byte) (f : ℕ → Placement) (n : ℕ) → 1 ≤ n → n ≤ 4
+    → cond (eqb n 4) (isOneMore d (f 3 .mask) (f 2 .mask)) true ≡ fourthOk d (f (n - 1)) (placementsIn f (n - 1))
 unfolding fourthOk
 fourth-by d f zero lo hi = absurd (omega arith)
 fourth-by d f (suc zero) lo hi = refl
@@ -74,7 +74,7 @@ fourth-by d f (suc (suc (suc (suc (suc n))))) lo hi = absurd (omega arith)
 pub fourth-is : (k : Control) → Counted k
     → cond (eqb (k .count) 4) (isOneMore (byte (k .failed)) (byte (maskIn k 3)) (byte (maskIn k 2))) true ≡ fourthOk (meaning k .failed) (meaning k .newest) (meaning k .older)
 unfolding meaning
-fourth-is k w = fourth-by (byte (k .failed)) (maskIn k) (k .count) (w .some) (w .few)
+fourth-is k w = fourth-by (byte (k .failed)) (placementIn k) (k .count) (w .some) (w .few)
 
 -- ---- the homes
 unfoldable pub homeTest : Control → ℕ → Bool

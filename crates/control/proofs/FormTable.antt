@@ -69,7 +69,7 @@ g breaks l = record { control = g; broken = l }
 abbrev pub running : ℕ → ℕ
 running = bytes (0x10 ∷ 0xe0 ∷ 0 ∷ 0 ∷ 0 ∷ 0xe0 ∷ 0 ∷ [])
 
--- four active placements, card 3 failed; transactions 1 and 2 open with homes 0 and 2
+-- four active placements, marked 0, card 3 failed; transactions 1 and 2 open with homes 0 and 2
 abbrev pub four : ℕ → ℕ
 four = bytes (0x40 ∷ 0xa0 ∷ 0xc0 ∷ 0xf0 ∷ 0xe0 ∷ 0xe0 ∷ 0x10 ∷ 0 ∷ 0x80 ∷ 0xa0 ∷ [])
 
@@ -84,6 +84,10 @@ good =
     ∷ (stopped breaks [])
     -- the third mask is free where the count is 3
     ∷ (bytes (0x30 ∷ 0xa0 ∷ 0xc0 ∷ 0xe0 ∷ 0 ∷ 0xe0 ∷ 0 ∷ []) breaks [])
+    -- every one of four marked 1; the first and the third; one placement, marked 1
+    ∷ (changed 7 0xf0 four breaks [])
+    ∷ (changed 7 0xa0 four breaks [])
+    ∷ (changed 7 0x80 running breaks [])
     -- two failed cards, each in another placement
     ∷ (bytes (0x30 ∷ 0xf0 ∷ 0xe8 ∷ 0xe0 ∷ 0 ∷ 0xe0 ∷ 0x18 ∷ []) breaks [])
     ∷ []
@@ -106,11 +110,15 @@ badCount =
 -- ---- zero fields
 abbrev pub badZeros : List Row
 badZeros =
-    -- the low bits of byte 0; an unused mask; byte 7
+    -- the low bits of byte 0; an unused mask
     (changed 0 0x11 running breaks (zeroFields ∷ []))
     ∷ (changed 2 0xe0 running breaks (zeroFields ∷ []))
     ∷ (changed 4 0x01 running breaks (zeroFields ∷ []))
-    ∷ (changed 7 0x80 running breaks (zeroFields ∷ []))
+    -- the mark of a placement that is not there, the next one and the fourth; a low bit of the marks, the highest and the lowest
+    ∷ (changed 7 0x40 running breaks (zeroFields ∷ []))
+    ∷ (changed 7 0x90 running breaks (zeroFields ∷ []))
+    ∷ (changed 7 0xf8 four breaks (zeroFields ∷ []))
+    ∷ (changed 7 0x01 running breaks (zeroFields ∷ []))
     -- the low bits of an open transaction's byte; a home and low bits in the byte of one that is not open
     ∷ (changed 8 0x81 running breaks (zeroFields ∷ []))
     ∷ (changed 9 0x20 running breaks (zeroFields ∷ []))

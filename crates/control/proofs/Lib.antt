@@ -1,3 +1,4 @@
+pub mod Marks
 pub mod Struct
 pub mod Changes
 pub mod RoundTrip

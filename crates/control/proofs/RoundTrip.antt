@@ -4,36 +4,41 @@ use mathlib.Core.Logic.{_⊎_, inl, inr}
 use mathlib.Core.Bool.{Bool, true, false, _&&_, _||_, cond}
 use mathlib.Core.Option.{Option, some, none}
 use mathlib.Core.List.{List, [], _∷_, _++_}
-use Prim.Native.Nat.{ℕ, suc, _+_, _-_, _*_, _/_, _%_, _≤_, _<_}
+use Prim.Native.Nat.{ℕ, zero, suc, _+_, _-_, _*_, _/_, _%_, _≤_, _<_}
 use native.Mathlib.Omega.{arith}
 use native.Mathlib.Nat.{mod-eq-of-lt}
 use lib.Dec.{leb, ltb, eqb}
-use lib.ListN.{getD, length}
+use lib.ListN.{getD, length, length-append}
 use borrow.Author.Tests.{eqb-true, ne-eqb, ltb-true, lt-ltb, le-ltb, leb-true, le-leb, lt-leb}
 use Rattle.lists.specs.Tests.{all, allBelow}
 use Rattle.lists.proofs.Bools.{split, and-l, and-r}
 use Rattle.lists.proofs.Counts.{below-all}
 use Rattle.image.specs.Layout.{cardCount, tranBound, controlSize}
 use Rattle.mask.specs.Masks.{Byte, byte, areApart, isWithin}
-use Rattle.mask.specs.Placements.{Placement, fromMask}
+use Rattle.mask.specs.Placements.{Placement}
 use Rattle.mask.proofs.Masks.{byte-path}
 use Rattle.method.specs.ControlPart.{active, isOpen}
-use Rattle.control.specs.ControlBytes.{Part, maskBytes, homeByte, controlByte, countIn, homeOf, placementsIn, controlOf}
+use Rattle.control.specs.ControlBytes.{Part, maskBytes, marksFrom, homeByte, controlByte, countIn, homeOf, keptAs, markIn, placementAt}
+use Rattle.control.specs.ControlBytes.{placementsIn, controlOf}
 use Rattle.control.specs.ControlForm.{countOk, zeroFieldsOk, membersOk, fourthOk, isSafe, homeOk, partOk, formOk}
+use Rattle.control.proofs.Marks.{mark-back}
 
 -- ---- what is written is read again
 byte-back : (n : ℕ) (m : Byte) → n ≡ m .0 → byte n ≡ m
 byte-back n m e = byte-path (byte n) m (rw e (mod-eq-of-lt (m .1)))
 
-placement-back : (n : ℕ) (p : Placement) → n ≡ p .mask .0 → fromMask (byte n) ≡ p
-placement-back n p e = ap fromMask (byte-back n (p .mask) e)
+-- The mask and the mark of an element, each where it was written.
+mask-of : (l : List Placement) (i : ℕ) (p : Placement) → i < length l → getD (maskBytes l) i 0 ≡ getD l i p .mask .0
+mask-of [] i p h = absurd (omega arith)
+mask-of (q ∷ l) zero p h = refl
+mask-of (q ∷ l) (suc i) p h = mask-of l i p (omega arith)
 
-placements-back : (l : List Placement) (p : Placement) (f : ℕ → ℕ) → ((i : ℕ) → i ≤ length l → f i ≡ getD (maskBytes (l ++ (p ∷ []))) i 0)
-    → (placementsIn f (length l) ≡ l) × (fromMask (byte (f (length l))) ≡ p)
-placements-back [] p f h = (refl, placement-back (f 0) p (h 0 (omega arith)))
+placements-back : (l : List Placement) (p : Placement) (f : ℕ → Placement) → ((i : ℕ) → i ≤ length l → f i ≡ getD (l ++ (p ∷ [])) i p)
+    → (placementsIn f (length l) ≡ l) × (f (length l) ≡ p)
+placements-back [] p f h = (refl, h 0 (omega arith))
 placements-back (q ∷ l) p f h =
     let r = placements-back l p (λ i. f (suc i)) (λ i k. h (suc i) (omega arith)) in
-    (ap₂ (λ (x : Placement) (y : List Placement). x ∷ y) (placement-back (f 0) q (h 0 (omega arith))) (r .0), r .1)
+    (ap₂ (λ (x : Placement) (y : List Placement). x ∷ y) (h 0 (omega arith)) (r .0), r .1)
 
 module _
     (k : Part)
@@ -69,6 +74,20 @@ module _
         sub : suc i - 1 ≡ i
         sub = omega arith
 
+    read-marks : g 7 ≡ marksFrom 0 (active k)
+    unfolding controlByte
+    read-marks = wrote 7 (omega arith)
+
+    read-placement : (i : ℕ) → i ≤ length (k .older) → placementAt g i ≡ getD (active k) i (k .newest)
+    read-placement i h =
+        let long : length (active k) ≡ suc (length (k .older)) = length-append (k .older) (k .newest ∷ []) ∙ add-one (length (k .older)) in
+        ap₂ (λ (m : Byte) (r : Bool). record { mask = m; byRails = r })
+        (byte-back (g (suc i)) (getD (active k) i (k .newest) .mask) (read-mask i h ∙ mask-of (active k) i (k .newest) (omega (arith, long))))
+        (ap (λ (n : ℕ). markIn n i) read-marks ∙ mark-back (active k) i (k .newest) (omega (arith, long)) (omega (arith, long)))
+      where
+        add-one : (n : ℕ) → n + 1 ≡ suc n
+        add-one n = omega arith
+
     read-home : (t : ℕ) → homeOf t (g (t + 7)) ≡ k .home t
     unfolding controlByte
     read-home t = go (k .home t) refl (split (ltb 0 t && ltb t tranBound))
@@ -83,6 +102,7 @@ module _
               le-ltb (t + 7) 5 (omega arith),
               ne-eqb (t + 7) 5 (λ e. omega arith),
               ne-eqb (t + 7) 6 (λ e. omega arith),
+              ne-eqb (t + 7) 7 (λ e. omega arith),
               lt-ltb 7 (t + 7) (omega arith),
               lt-ltb (t + 7) 23 (omega arith),
             )
@@ -116,17 +136,17 @@ module _
       setting = tt;
     }
       where
-        both : (placementsIn (λ i. g (suc i)) (length (k .older)) ≡ k .older) × (fromMask (byte (g (suc (length (k .older))))) ≡ k .newest)
-        both = placements-back (k .older) (k .newest) (λ i. g (suc i)) read-mask
+        both : (placementsIn (placementAt g) (length (k .older)) ≡ k .older) × (placementAt g (length (k .older)) ≡ k .newest)
+        both = placements-back (k .older) (k .newest) (placementAt g) read-placement
 
         one-less : countIn (g 0) - 1 ≡ length (k .older)
         one-less = omega (arith, read-count)
 
-        old : placementsIn (λ i. g (suc i)) (countIn (g 0) - 1) ≡ k .older
-        old = ap (placementsIn (λ i. g (suc i))) one-less ∙ both .0
+        old : placementsIn (placementAt g) (countIn (g 0) - 1) ≡ k .older
+        old = ap (placementsIn (placementAt g)) one-less ∙ both .0
 
-        new : fromMask (byte (g (countIn (g 0)))) ≡ k .newest
-        new = ap (λ (n : ℕ). fromMask (byte (g n))) read-count ∙ both .1
+        new : keptAs (countIn (g 0) - 1) (g (countIn (g 0))) (g 7) ≡ k .newest
+        new = ap₂ (λ (i n : ℕ). keptAs i (g n) (g 7)) one-less read-count ∙ both .1
 
 -- ---- what is read is written back
 module _ (g : ℕ → ℕ) (form : formOk g ≡ true) where

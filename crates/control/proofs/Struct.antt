@@ -3,9 +3,10 @@ use mathlib.Core.Path.{_≡_, refl, sym, ap, ap₂, subst, _∙_, fun-ext}
 use mathlib.Core.Logic.{_⊎_, inl, inr, ⊎-elim}
 use mathlib.Core.Bool.{Bool, true, false, _&&_, cond}
 use mathlib.Core.List.{List, [], _∷_, _++_}
-use Prim.Native.Nat.{ℕ, zero, suc, _+_, _-_, _*_, _%_, _≤_, _<_}
+use Prim.Native.Nat.{ℕ, zero, suc, _+_, _-_, _*_, _≤_, _<_}
 use native.Mathlib.Omega.{arith}
 use native.Mathlib.Nat.{mod-eq-of-lt}
+use lib.Bits.{bitAnd}
 use lib.Dec.{leb, ltb}
 use lib.ListN.{getD, length}
 use borrow.Author.Tests.{ne-eqb, ltb-true, lt-ltb, le-ltb}
@@ -13,32 +14,34 @@ use Rattle.lists.proofs.Bools.{split, and-l, and-r}
 use Rattle.lists.proofs.Cases.{lt-or-ge}
 use Rattle.image.specs.Layout.{tranBound}
 use Rattle.mask.specs.Masks.{byte}
-use Rattle.mask.specs.Placements.{Placement, fromMask}
-use Rattle.control.specs.ControlBytes.{maskBytes, homeByte, controlByte, countIn, homeIn, homeOf, placementsIn, controlOf}
-use Rattle.control.specs.Meaning.{rowOf, structOf, maskIn, newestMask, meaning, Counted}
+use Rattle.mask.specs.Placements.{Placement}
+use Rattle.control.specs.ControlBytes.{maskBytes, marksFrom, homeByte, controlByte, countIn, homeIn, homeOf, keptAs, placementAt}
+use Rattle.control.specs.ControlBytes.{placementsIn, controlOf}
+use Rattle.control.specs.Meaning.{rowOf, structOf, bitsFrom, maskIn, newestMask, placementIn, meaning, Counted}
 use Rattle.control.specs.declared.Control.{Control}
+use Rattle.control.proofs.Marks.{marks-kept}
 
--- ---- lists of placements: one more, the same masks, the length, the masks
-pub placements-more : (f : ℕ → ℕ) (n : ℕ) → placementsIn f n ++ (fromMask (byte (f n)) ∷ []) ≡ placementsIn f (suc n)
+-- ---- lists of placements: one more, the same ones, the length, the masks
+pub placements-more : (f : ℕ → Placement) (n : ℕ) → placementsIn f n ++ (f n ∷ []) ≡ placementsIn f (suc n)
 placements-more f zero = refl
-placements-more f (suc n) = ap (λ (l : List Placement). fromMask (byte (f 0)) ∷ l) (placements-more (λ i. f (suc i)) n)
+placements-more f (suc n) = ap (λ (l : List Placement). f 0 ∷ l) (placements-more (λ i. f (suc i)) n)
 
-pub placements-same : (f g : ℕ → ℕ) (n : ℕ) → ((i : ℕ) → i < n → f i ≡ g i) → placementsIn f n ≡ placementsIn g n
+pub placements-same : (f g : ℕ → Placement) (n : ℕ) → ((i : ℕ) → i < n → f i ≡ g i) → placementsIn f n ≡ placementsIn g n
 placements-same f g zero h = refl
 placements-same f g (suc n) h =
-    ap₂ (λ (p : Placement) (l : List Placement). p ∷ l) (ap (λ (x : ℕ). fromMask (byte x)) (h 0 (omega arith)))
+    ap₂ (λ (p : Placement) (l : List Placement). p ∷ l) (h 0 (omega arith))
     (placements-same (λ i. f (suc i)) (λ i. g (suc i)) n (λ i k. h (suc i) (omega arith)))
 
-pub length-placements : (f : ℕ → ℕ) (n : ℕ) → length (placementsIn f n) ≡ n
+pub length-placements : (f : ℕ → Placement) (n : ℕ) → length (placementsIn f n) ≡ n
 length-placements f zero = refl
 length-placements f (suc n) = ap suc (length-placements (λ i. f (suc i)) n)
 
-at-masks : (f : ℕ → ℕ) (n i : ℕ) → i < n → getD (maskBytes (placementsIn f n)) i 0 ≡ f i % 256
+at-masks : (f : ℕ → Placement) (n i : ℕ) → i < n → getD (maskBytes (placementsIn f n)) i 0 ≡ f i .mask .0
 at-masks f zero i h = absurd (omega arith)
 at-masks f (suc n) zero h = refl
 at-masks f (suc n) (suc i) h = at-masks (λ i. f (suc i)) n i (omega arith)
 
-past-masks : (f : ℕ → ℕ) (n i : ℕ) → n ≤ i → getD (maskBytes (placementsIn f n)) i 0 ≡ 0
+past-masks : (f : ℕ → Placement) (n i : ℕ) → n ≤ i → getD (maskBytes (placementsIn f n)) i 0 ≡ 0
 past-masks f zero i h = refl
 past-masks f (suc n) zero h = absurd (omega arith)
 past-masks f (suc n) (suc i) h = past-masks (λ i. f (suc i)) n i (omega arith)
@@ -61,7 +64,7 @@ unfolding meaning structOf controlOf
 read-means l lo hi = λ i. record {
   stopped = leb 128 (getD l 0 0);
   older = old i;
-  newest = fromMask (byte (new i));
+  newest = keptAs (n - 1) (new i) (getD l 7 0);
   working = byte (getD l 5 0);
   failed = byte (getD l 6 0);
   home = fun-ext homes i;
@@ -74,9 +77,9 @@ read-means l lo hi = λ i. record {
     one-more : (i : ℕ) → 1 + i ≡ suc i
     one-more i = omega arith
 
-    old : placementsIn (λ i. getD (rowOf l 1 4) i 0) (n - 1) ≡ placementsIn (λ i. getD l (suc i) 0) (n - 1)
-    old = placements-same (λ i. getD (rowOf l 1 4) i 0) (λ i. getD l (suc i) 0) (n - 1)
-        (λ i h. at-row l 4 1 i (omega arith) ∙ ap (λ (j : ℕ). getD l j 0) (one-more i))
+    old : placementsIn (λ i. keptAs i (getD (rowOf l 1 4) i 0) (getD l 7 0)) (n - 1) ≡ placementsIn (placementAt (λ n. getD l n 0)) (n - 1)
+    old = placements-same (λ i. keptAs i (getD (rowOf l 1 4) i 0) (getD l 7 0)) (placementAt (λ n. getD l n 0)) (n - 1)
+        (λ i h. ap (λ (m : ℕ). keptAs i m (getD l 7 0)) (at-row l 4 1 i (omega arith) ∙ ap (λ (j : ℕ). getD l j 0) (one-more i)))
 
     last : 1 + (n - 1) ≡ n
     last = omega arith
@@ -96,36 +99,36 @@ read-means l lo hi = λ i. record {
             let s : 8 + (t - 1) ≡ t + 7 = omega arith in
             ap (homeOf t) (at-row l 15 8 (t - 1) (omega arith) ∙ ap (λ (j : ℕ). getD l j 0) s)
 
--- The newest placement by its mask.
-pub newest-by : (k : Control) (m : ℕ) → m ≡ newestMask k → fromMask (byte m) ≡ meaning k .newest
+-- The newest placement's mask.
+pub newest-mask-is : (k : Control) (m : ℕ) → m ≡ newestMask k → byte m ≡ meaning k .newest .mask
 unfolding meaning
-newest-by k m e = ap (λ (n : ℕ). fromMask (byte n)) e
+newest-mask-is k m e = ap byte e
 
 -- ---- the bytes of a struct, each as the rules give it
 module _ (k : Control) (w : Counted k) where
-  -- the active placements are those of the first `count` masks
-  pub active-is : placementsIn (maskIn k) (k .count - 1) ++ (fromMask (byte (newestMask k)) ∷ []) ≡ placementsIn (maskIn k) (k .count)
-  active-is = placements-more (maskIn k) (k .count - 1) ∙ ap (placementsIn (maskIn k)) e
+  -- the active placements are the first `count` ones
+  pub active-is : placementsIn (placementIn k) (k .count - 1) ++ (placementIn k (k .count - 1) ∷ []) ≡ placementsIn (placementIn k) (k .count)
+  active-is = placements-more (placementIn k) (k .count - 1) ∙ ap (placementsIn (placementIn k)) e
     where
       e : suc (k .count - 1) ≡ k .count
       e = omega (arith, w .some)
 
   pub byte-first : cond (k .stopped) 128 0 + k .count * 16 ≡ controlByte (meaning k) 0
   unfolding controlByte meaning
-  byte-first = rw (length-placements (maskIn k) (k .count - 1)) (ap (λ (n : ℕ). cond (k .stopped) 128 0 + n * 16) e)
+  byte-first = rw (length-placements (placementIn k) (k .count - 1)) (ap (λ (n : ℕ). cond (k .stopped) 128 0 + n * 16) e)
     where
       e : k .count ≡ suc (k .count - 1)
       e = omega (arith, w .some)
 
-  mask-byte : (n : ℕ) → 0 < n → n < 5 → controlByte (meaning k) n ≡ getD (maskBytes (placementsIn (maskIn k) (k .count))) (n - 1) 0
+  mask-byte : (n : ℕ) → 0 < n → n < 5 → controlByte (meaning k) n ≡ getD (maskBytes (placementsIn (placementIn k) (k .count))) (n - 1) 0
   unfolding controlByte meaning
   mask-byte n lo hi = rw (ne-eqb n 0 (λ e. omega arith), lt-ltb n 5 hi, active-is)
 
   pub byte-mask : (n : ℕ) → 0 < n → n < 5 → n ≤ k .count → maskIn k (n - 1) < 256 → maskIn k (n - 1) ≡ controlByte (meaning k) n
-  byte-mask n lo hi h b = sym (mask-byte n lo hi ∙ at-masks (maskIn k) (k .count) (n - 1) (omega arith) ∙ mod-eq-of-lt b)
+  byte-mask n lo hi h b = sym (mask-byte n lo hi ∙ at-masks (placementIn k) (k .count) (n - 1) (omega arith) ∙ mod-eq-of-lt b)
 
   pub byte-unused : (n : ℕ) → 0 < n → n < 5 → k .count < n → 0 ≡ controlByte (meaning k) n
-  byte-unused n lo hi h = sym (mask-byte n lo hi ∙ past-masks (maskIn k) (k .count) (n - 1) (omega arith))
+  byte-unused n lo hi h = sym (mask-byte n lo hi ∙ past-masks (placementIn k) (k .count) (n - 1) (omega arith))
 
   -- mask i, zero from the count on
   pub byte-mask-at : (i : ℕ) → i < 4 → maskIn k i < 256 → cond (ltb i (k .count)) (maskIn k i) 0 ≡ controlByte (meaning k) (1 + i)
@@ -149,6 +152,10 @@ module _ (k : Control) (w : Counted k) where
   unfolding controlByte meaning
   byte-failed h = sym (mod-eq-of-lt h)
 
+  pub byte-marks : k .marks < 256 → bitAnd (k .marks) (255 - bitsFrom (k .count)) ≡ controlByte (meaning k) 7
+  unfolding controlByte meaning
+  byte-marks h = marks-kept (maskIn k) (k .count) (k .marks) (w .few) h ∙ sym (ap (marksFrom 0) active-is)
+
   pub byte-home : (n : ℕ) → 7 < n → n < 23 → homeByte (homeIn (getD (k .homes) (n - 8) 0)) ≡ controlByte (meaning k) n
   unfolding controlByte meaning
   byte-home n lo hi =
@@ -157,6 +164,7 @@ module _ (k : Control) (w : Counted k) where
         le-ltb n 5 (omega arith),
         ne-eqb n 5 (λ e. omega arith),
         ne-eqb n 6 (λ e. omega arith),
+        ne-eqb n 7 (λ e. omega arith),
         lt-ltb 7 n lo,
         lt-ltb n 23 hi,
         lt-ltb 0 (n - 7) (omega arith),
@@ -173,15 +181,15 @@ module _ (k : Control) (w : Counted k) where
       e : i ≡ 8 + i - 8
       e = omega arith
 
-  pub byte-zero : (n : ℕ) → (n ≡ 7) ⊎ (23 ≤ n) → 0 ≡ controlByte (meaning k) n
+  pub byte-zero : (n : ℕ) → 23 ≤ n → 0 ≡ controlByte (meaning k) n
   unfolding controlByte meaning
-  byte-zero n (inl e) = rw e
-  byte-zero n (inr h) =
+  byte-zero n h =
       rw (
         ne-eqb n 0 (λ e. omega arith),
         le-ltb n 5 (omega arith),
         ne-eqb n 5 (λ e. omega arith),
         ne-eqb n 6 (λ e. omega arith),
+        ne-eqb n 7 (λ e. omega arith),
         lt-ltb 7 n (omega arith),
         le-ltb n 23 h,
       )

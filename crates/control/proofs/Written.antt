@@ -24,19 +24,12 @@ module _ (f : ℕ → ℕ) where
   pub none-written : Written f 0 (replicate controlSize 0)
   none-written = record { long = refl; done = λ j h. absurd (not-suc-le-zero h); rest = λ j h. at-zeros controlSize j }
 
-  -- Byte m is written, or is zero as it stands.
+  -- Byte m is written.
   pub one-written : (m n : ℕ) (l : List ℕ) (v : ℕ) → Written f m l → n ≡ m + 1 → m < controlSize → v ≡ f m → Written f n (set l m v)
   one-written m n l v w e h same = record {
     long = simp length-set (w .long);
     done = λ j b. ap (λ (x : ℕ). getD (set l m x) j 0) same ∙ fill-more f l m (omega (arith, w .long)) (w .done) j (omega arith);
     rest = λ j b. getD-set-other l m j v 0 (λ q. omega arith) ∙ w .rest j (omega arith);
-  }
-
-  pub zero-written : (m n : ℕ) (l : List ℕ) → Written f m l → n ≡ m + 1 → 0 ≡ f m → Written f n l
-  zero-written m n l w e same = record {
-    long = w .long;
-    done = λ j b. ⊎-elim (w .done j) (λ (p : m ≤ j). let q : m ≡ j = omega arith in w .rest j p ∙ same ∙ ap f q) (lt-or-ge j m);
-    rest = λ j b. w .rest j (omega arith);
   }
 
   pub all-written : (m : ℕ) (l : List ℕ) → Written f m l → ((j : ℕ) → m ≤ j → 0 ≡ f j) → l ≡ tabulate controlSize f

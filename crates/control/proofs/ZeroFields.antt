@@ -5,6 +5,7 @@ use mathlib.Core.Bool.{Bool, true, false, _&&_, _||_, cond}
 use mathlib.Core.List.{List}
 use Prim.Native.Nat.{ℕ, _+_, _-_, _*_, _/_, _%_, _≤_, _<_}
 use native.Mathlib.Omega.{arith}
+use lib.Bits.{bitAnd}
 use lib.Dec.{eqb, leb, ltb}
 use lib.ListN.{getD}
 use borrow.Author.Tests.{eq-eqb, lt-ltb, le-ltb, le-leb, lt-leb}
@@ -15,9 +16,11 @@ use Rattle.lists.proofs.Counts.{all-below, below-all, all-more, all-fails, eqb-
 use Rattle.image.specs.Layout.{controlSize}
 use Rattle.control.specs.ControlBytes.{controlByte, countIn, homeByte, homeIn}
 use Rattle.control.specs.ControlForm.{countOk, zeroFieldsOk}
-use Rattle.control.specs.Meaning.{structOf, meaning, allFrom, isZeroAt, isHomeAt, Counted}
+use Rattle.control.specs.Meaning.{structOf, meaning, allFrom, bitsFrom, isZeroAt, isHomeAt, Counted}
 use Rattle.control.proofs.Checks.{count-counted, means-is}
-use Rattle.control.proofs.Struct.{at-row, byte-first, byte-mask, byte-unused, byte-working, byte-failed, byte-home, byte-zero}
+use Rattle.control.proofs.Marks.{marks-clean}
+use Rattle.control.proofs.Struct.{at-row, byte-first, byte-mask, byte-unused, byte-working, byte-failed, byte-marks}
+use Rattle.control.proofs.Struct.{byte-home, byte-zero}
 
 -- ---- a test of the numbers from a on and below e, from its instances and back; the loop over it
 module _ (a : ℕ) (f : ℕ → Bool) where
@@ -72,7 +75,7 @@ first-by b h = ⊎-elim low high (lt-or-ge b 128)
 abbrev pub parts : List ℕ → Bool
 parts l = eqb (getD l 0 0 % 16) 0
     && (allFrom (1 + countIn (getD l 0 0)) 5 (isZeroAt l)
-    && (isZeroAt l 7
+    && (eqb (bitAnd (getD l 7 0) (bitsFrom (countIn (getD l 0 0)))) 0
     && (allFrom 8 23 (isHomeAt l)
     && allFrom 23 controlSize (isZeroAt l))))
 
@@ -113,7 +116,11 @@ module _ (l : List ℕ) (w : Counted (structOf l)) (bytes : (n : ℕ) → getD l
       let r = at-row l 15 8 (n - 8) (omega arith) ∙ ap (λ (j : ℕ). getD l j 0) s in
       ap (eqb (getD l n 0)) (sym (byte-home (structOf l) w n lo hi) ∙ ap (λ (b : ℕ). homeByte (homeIn b)) r)
 
-  test-zero : (n : ℕ) → (n ≡ 7) ⊎ (23 ≤ n) → byteTest l n ≡ isZeroAt l n
+  test-marks : byteTest l 7 ≡ eqb (bitAnd (getD l 7 0) (bitsFrom (countIn (getD l 0 0)))) 0
+  unfolding byteTest structOf
+  test-marks = ap (eqb (getD l 7 0)) (sym (byte-marks (structOf l) w (bytes 7))) ∙ marks-clean (countIn (getD l 0 0)) (getD l 7 0) (w .few) (bytes 7)
+
+  test-zero : (n : ℕ) → 23 ≤ n → byteTest l n ≡ isZeroAt l n
   unfolding byteTest isZeroAt
   test-zero n h = ap (eqb (getD l n 0)) (sym (byte-zero (structOf l) w n h))
 
@@ -121,9 +128,9 @@ module _ (l : List ℕ) (w : Counted (structOf l)) (bytes : (n : ℕ) → getD l
   every-part h =
       and-in _ _ (sym test-first ∙ h 0 (omega arith))
       (and-in _ _ (all-from (1 + countIn (getD l 0 0)) (isZeroAt l) 5 (λ n p q. sym (test-unused n q (omega arith)) ∙ h n (omega arith)))
-      (and-in _ _ (sym (test-zero 7 (inl refl)) ∙ h 7 (omega arith))
+      (and-in _ _ (sym test-marks ∙ h 7 (omega arith))
       (and-in _ _ (all-from 8 (isHomeAt l) 23 (λ n p q. sym (test-home n p q) ∙ h n (omega arith)))
-      (all-from 23 (isZeroAt l) controlSize (λ n p q. sym (test-zero n (inr p)) ∙ h n q)))))
+      (all-from 23 (isZeroAt l) controlSize (λ n p q. sym (test-zero n p) ∙ h n q)))))
 
   every-byte : parts l ≡ true → (n : ℕ) → n < controlSize → byteTest l n ≡ true
   every-byte t n b =
@@ -131,10 +138,10 @@ module _ (l : List ℕ) (w : Counted (structOf l)) (bytes : (n : ℕ) → getD l
       (λ (p : 1 ≤ n). ⊎-elim (λ (q : n < 5). mask p q)
       (λ (q : 5 ≤ n). ⊎-elim (λ (s : n < 8). middle q s)
       (λ (s : 8 ≤ n). ⊎-elim (λ (u : n < 23). test-home n s u ∙ from-all 8 (isHomeAt l) 23 n (r .3) s u)
-      (λ (u : 23 ≤ n). test-zero n (inr u) ∙ from-all 23 (isZeroAt l) controlSize n (r .4) u b)
+      (λ (u : 23 ≤ n). test-zero n u ∙ from-all 23 (isZeroAt l) controlSize n (r .4) u b)
       (lt-or-ge n 23)) (lt-or-ge n 8)) (lt-or-ge n 5)) (lt-or-ge n 1)
     where
-      r : (eqb (getD l 0 0 % 16) 0 ≡ true) × (allFrom (1 + countIn (getD l 0 0)) 5 (isZeroAt l) ≡ true) × (isZeroAt l 7 ≡ true)
+      r : (eqb (getD l 0 0 % 16) 0 ≡ true) × (allFrom (1 + countIn (getD l 0 0)) 5 (isZeroAt l) ≡ true) × (eqb (bitAnd (getD l 7 0) (bitsFrom (countIn (getD l 0 0)))) 0 ≡ true)
           × (allFrom 8 23 (isHomeAt l) ≡ true) × (allFrom 23 controlSize (isZeroAt l) ≡ true)
       r = five _ _ _ _ _ t
 
@@ -150,7 +157,7 @@ module _ (l : List ℕ) (w : Counted (structOf l)) (bytes : (n : ℕ) → getD l
           (λ (s : n < 6). test-cards n (inl (omega arith)))
           (λ (s : 6 ≤ n). ⊎-elim
           (λ (u : n < 7). test-cards n (inr (omega arith)))
-          (λ (u : 7 ≤ n). let z : n ≡ 7 = omega arith in rw z (test-zero 7 (inl refl) ∙ r .2))
+          (λ (u : 7 ≤ n). let z : n ≡ 7 = omega arith in rw z (test-marks ∙ r .2))
           (lt-or-ge n 7))
           (lt-or-ge n 6)
 

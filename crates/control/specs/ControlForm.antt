@@ -17,7 +17,8 @@ use Rattle.control.specs.ControlBytes.{Part, controlByte, controlOf, cou
 unfoldable pub countOk : (ℕ → ℕ) → Bool
 countOk g = leb 1 (countIn (g 0)) && leb (countIn (g 0)) 4
 
--- Zero fields are zero: the bytes are those of the control part that they show.
+-- Zero fields are zero, marks of placements that are not there among them: the bytes are those of the control part that
+-- they show.
 unfoldable pub zeroFieldsOk : (ℕ → ℕ) → Bool
 zeroFieldsOk g = allBelow controlSize (λ n. eqb (g n) (controlByte (controlOf g) n))
 

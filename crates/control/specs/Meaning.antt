@@ -2,7 +2,7 @@
 use mathlib.Core.Path.{_≡_}
 use mathlib.Core.Bool.{Bool, _||_, cond}
 use mathlib.Core.List.{List, [], _∷_}
-use Prim.Native.Nat.{ℕ, zero, suc, _-_, _≤_}
+use Prim.Native.Nat.{ℕ, zero, suc, _-_, _/_, _^_, _≤_}
 use lib.Dec.{eqb, leb, ltb}
 use lib.ListN.{getD}
 use Rattle.lists.specs.Tests.{allBelow}
@@ -10,7 +10,7 @@ use Rattle.lists.specs.Tabulate.{tabulate}
 use Rattle.lists.specs.Segments.{splice}
 use Rattle.image.specs.Layout.{controlSize}
 use Rattle.mask.specs.Masks.{byte}
-use Rattle.mask.specs.Placements.{fromMask}
+use Rattle.mask.specs.Placements.{Placement}
 use Rattle.method.specs.ControlPart.{isCard}
 use Rattle.control.specs.ControlBytes.{
   Part,
@@ -19,6 +19,7 @@ use Rattle.control.specs.ControlBytes.{
   countIn,
   homeIn,
   homeOf,
+  keptAs,
   placementsIn,
   controlOf,
 }
@@ -39,6 +40,7 @@ structOf l = record {
   masks = rowOf l 1 4;
   working = getD l 5 0;
   failed = getD l 6 0;
+  marks = getD l 7 0;
   homes = rowOf l 8 15;
 }
 
@@ -49,12 +51,17 @@ maskIn k i = getD (k .masks) i 0
 abbrev pub newestMask : Control → ℕ
 newestMask k = maskIn k (k .count - 1)
 
--- The meaning of the struct. Masks from the count on, and what the byte of a closed transaction has, mean nothing.
+-- Placement i: its mask and its mark.
+abbrev pub placementIn : Control → ℕ → Placement
+placementIn k i = keptAs i (maskIn k i) (k .marks)
+
+-- The meaning of the struct. Masks and marks from the count on, and what the byte of a closed transaction has, mean
+-- nothing.
 unfoldable pub meaning : Control → Part
 meaning k = record {
   stopped = k .stopped;
-  older = placementsIn (maskIn k) (k .count - 1);
-  newest = fromMask (byte (newestMask k));
+  older = placementsIn (placementIn k) (k .count - 1);
+  newest = placementIn k (k .count - 1);
   working = byte (k .working);
   failed = byte (k .failed);
   home = λ t. homeOf t (getD (k .homes) (t - 1) 0);
@@ -62,9 +69,12 @@ meaning k = record {
 }
 
 -- The count is 1 to 4.
+abbrev pub mostActive : ℕ
+mostActive = 4
+
 pub record Counted (k : Control) : Type 0 where
   pub some : 1 ≤ k .count
-  pub few : k .count ≤ 4
+  pub few : k .count ≤ mostActive
 
 -- The struct is counted, and means this control part.
 pub record Is (k : Control) (part : Part) : Type 0 where
@@ -78,6 +88,10 @@ keptHome c b = cond (isCard (homeIn b) c) 0 b
 -- Every number from a on and below e passes the test.
 unfoldable pub allFrom : ℕ → ℕ → (ℕ → Bool) → Bool
 allFrom a e f = allBelow e (λ n. ltb n a || f n)
+
+-- The bits of a byte from bit i on.
+unfoldable pub bitsFrom : ℕ → ℕ
+bitsFrom i = 255 / 2 ^ i
 
 -- Byte n is zero.
 unfoldable pub isZeroAt : List ℕ → ℕ → Bool

@@ -2,31 +2,34 @@
 ghost use mathlib.Core.Path.{_≡_};
 ghost use mathlib.Core.Bool.{true, cond};
 ghost use mathlib.Core.Option.{some};
-ghost use Prim.Native.Nat.{_≤_, _<_};
+ghost use Prim.Native.Nat.{_-_, _≤_, _<_};
+ghost use lib.Bits.{bitAnd};
 ghost use lib.Dec.{ltb};
 ghost use lib.ListN.{length};
 ghost use Rattle.lists.specs.Tabulate.{tabulate};
 ghost use Rattle.image.specs.Layout.{cardCount, controlSize};
 ghost use Rattle.method.specs.Slots.{isSome};
 ghost use Rattle.control.specs.ControlBytes.{homeByte, controlByte, homeIn};
-ghost use Rattle.control.specs.Meaning.{structOf, meaning, Counted, putControl};
+ghost use Rattle.control.specs.Meaning.{structOf, meaning, mostActive, bitsFrom, Counted, putControl};
 use crate::Control;
 use crate::MASK_COUNT;
 use crate::TRAN_COUNT;
 
-// Where the fields start; byte 0 has the stopped bit and the count. The spare byte and those from HOMES_END on are
-// zero.
+// Where the fields start; byte 0 has the stopped bit and the count. Those from HOMES_END on are zero.
 pub const MASKS_AT: usize = 1;
 
 pub const WORKING_AT: usize = MASKS_AT + MASK_COUNT;
 
 const FAILED_AT: usize = WORKING_AT + 1;
 
-pub const SPARE_AT: usize = FAILED_AT + 1;
+pub const MARKS_AT: usize = FAILED_AT + 1;
 
-pub const HOMES_AT: usize = SPARE_AT + 1;
+pub const HOMES_AT: usize = MARKS_AT + 1;
 
 pub const HOMES_END: usize = HOMES_AT + TRAN_COUNT;
+
+// All bits of the marks.
+const ALL_MARKS: u8 = 0xff;
 
 // The highest bit: stopped in byte 0, open in a transaction's byte.
 const STOPPED: u8 = 0x80;
@@ -76,6 +79,22 @@ fn mask_byte(count: u8, i: usize, mask: u8) -> u8
     0
 }
 
+// The bits of the marks from the count on.
+pub fn no_marks(count: u8) -> u8
+    requires { ⌜ count ≤ mostActive ⌝ }
+    ensures { λ r. ⌜ r ≡ bitsFrom count ⌝ }
+{
+    ALL_MARKS >> count
+}
+
+// The byte of the marks, zero from the count on.
+fn marks_byte(count: u8, marks: u8) -> u8
+    requires { ⌜ count ≤ mostActive ⌝ }
+    ensures { λ r. ⌜ r ≡ bitAnd marks (255 - bitsFrom count) ⌝ }
+{
+    marks & (ALL_MARKS - no_marks(count))
+}
+
 // A whole new control part.
 pub fn encode(k: Control) -> [u8; image::CONTROL_SIZE]
     requires { ⌜ Counted k ⌝ }
@@ -90,6 +109,7 @@ pub fn encode(k: Control) -> [u8; image::CONTROL_SIZE]
     }
     bytes[WORKING_AT] = k.working;
     bytes[FAILED_AT] = k.failed;
+    bytes[MARKS_AT] = marks_byte(k.count, k.marks);
     let mut t = 0;
     while t < TRAN_COUNT {
         bytes[HOMES_AT + t] = home_byte(k.homes[t]);
@@ -119,6 +139,7 @@ pub fn decode(s: &[u8]) -> Control
         masks: [s[1], s[2], s[3], s[4]],
         working: s[5],
         failed: s[6],
+        marks: s[7],
         homes: [
             s[8],
             s[9],

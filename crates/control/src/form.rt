@@ -29,12 +29,13 @@ use crate::codec::FIELD;
 use crate::codec::FIELD_BOUND;
 use crate::codec::HOMES_AT;
 use crate::codec::HOMES_END;
+use crate::codec::MARKS_AT;
 use crate::codec::MASKS_AT;
 use crate::codec::OPEN;
-use crate::codec::SPARE_AT;
 use crate::codec::WORKING_AT;
 use crate::codec::decode;
 use crate::codec::home_of;
+use crate::codec::no_marks;
 use image::Card;
 
 // Every record lies on as many cards.
@@ -93,7 +94,7 @@ fn home_bytes_ok(s: &[u8]) -> bool
     true
 }
 
-// Zero fields are zero. Masks that count, working and failed have none.
+// Zero fields are zero. Masks that count, working and failed have none; of the marks the bits from the count on.
 fn zero_fields_ok(s: &[u8]) -> bool
     requires { ⌜ controlSize ≤ length (now s) ⌝ }
     requires { ⌜ countOk (λ n. getD (now s) n 0) ≡ true ⌝ }
@@ -106,7 +107,7 @@ fn zero_fields_ok(s: &[u8]) -> bool
     if !zeros(s, MASKS_AT + count as usize, WORKING_AT) {
         return false;
     }
-    if s[SPARE_AT] != 0 {
+    if (s[MARKS_AT] & no_marks(count)) != 0 {
         return false;
     }
     if !home_bytes_ok(s) {

@@ -1,10 +1,11 @@
 // The control part, as a struct by value: every change yields a whole new one.
 ghost use mathlib.Core.Path.{_≡_};
+ghost use mathlib.Core.Bool.{cond};
 ghost use Prim.Native.Nat.{_+_, _-_, _<_};
 ghost use lib.Dec.{eqb};
 ghost use Rattle.image.specs.Layout.{cardCount, tranBound};
-ghost use Rattle.mask.specs.Masks.{byte, noCards, withCard, withoutCard};
-ghost use Rattle.mask.specs.Placements.{fromMask};
+ghost use Rattle.mask.specs.Masks.{bitOf, byte, noCards, withCard, withoutCard};
+ghost use Rattle.mask.specs.Placements.{fromMask, meant};
 ghost use Rattle.method.specs.ControlPart.{
   begunAt,
   started,
@@ -16,7 +17,7 @@ ghost use Rattle.method.specs.ControlPart.{
   halted,
   isOpen,
 };
-ghost use Rattle.control.specs.Meaning.{meaning, newestMask, keptHome, Counted, Is};
+ghost use Rattle.control.specs.Meaning.{meaning, mostActive, newestMask, placementIn, keptHome, Counted, Is};
 
 pub mod codec;
 pub mod form;
@@ -25,6 +26,7 @@ use codec::FIELD;
 use codec::OPEN;
 use image::Card;
 use image::Tran;
+use mask::Placement;
 
 // Transactions 1 to 15.
 pub const TRAN_COUNT: usize = 15;
@@ -34,13 +36,18 @@ pub const MOST_ACTIVE: u8 = 4;
 
 pub const MASK_COUNT: usize = MOST_ACTIVE as usize;
 
-// The masks are of the active placements, oldest first; a home is the transaction's byte, transaction 1 first.
+// The mark of the oldest placement: the highest bit.
+pub const FIRST_MARK: u8 = 0x80;
+
+// The masks are of the active placements, oldest first, and so are the marks, highest bit first: which of them have
+// their sites by rails. A home is the transaction's byte, transaction 1 first.
 pub struct Control {
     pub stopped: bool,
     pub count: u8,
     pub masks: [u8; MASK_COUNT],
     pub working: u8,
     pub failed: u8,
+    pub marks: u8,
     pub homes: [u8; TRAN_COUNT],
 }
 
@@ -61,6 +68,7 @@ impl Control {
             masks: [mask, 0, 0, 0],
             working: mask,
             failed: 0,
+            marks: FIRST_MARK,
             homes: [0u8; TRAN_COUNT],
         }
     }
@@ -81,6 +89,25 @@ impl Control {
     {
         let i = (self.count - 1) as usize;
         self.masks[i]
+    }
+
+    // Active placement i, oldest first.
+    pub fn placement(self, i: usize) -> Placement
+        requires { ⌜ i < mostActive ⌝ }
+        ensures { λ r. ⌜ meant r ≡ placementIn self i ⌝ }
+    {
+        Placement {
+            mask: self.masks[i],
+            rails: (self.marks & (FIRST_MARK >> i)) != 0,
+        }
+    }
+
+    // The newest placement.
+    pub fn newest(self) -> Placement
+        requires { ⌜ Counted self ⌝ }
+        ensures { λ r. ⌜ meant r ≡ meaning self .newest ⌝ }
+    {
+        self.placement((self.count - 1) as usize)
     }
 
     // The transaction opens with its home.
@@ -121,25 +148,27 @@ impl Control {
         self
     }
 
-    // The placement becomes the newest.
+    // The placement becomes the newest, marked 1.
     pub fn add(mut self, mask: u8) -> Self
         requires { ⌜ Counted self ⌝ }
-        requires { ⌜ self .count < 4 ⌝ }
+        requires { ⌜ self .count < mostActive ⌝ }
         ensures { λ r. ⌜ Is r (added (meaning self) (fromMask (byte mask))) ⌝ }
     {
         let i = self.count as usize;
         self.masks[i] = mask;
+        self.marks = self.marks | (FIRST_MARK >> self.count);
         self.count = self.count + 1;
         self
     }
 
-    // Only the newest placement remains.
+    // Only the newest placement remains, and its mark moves with it.
     pub fn retire(mut self) -> Self
         requires { ⌜ Counted self ⌝ }
         ensures { λ r. ⌜ Is r (onlyNewest (meaning self)) ⌝ }
     {
-        let newest = self.newest_mask();
-        self.masks = [newest, 0, 0, 0];
+        let newest = self.newest();
+        self.masks = [newest.mask, 0, 0, 0];
+        self.marks = first_mark(newest.rails);
         self.count = 1;
         self
     }
@@ -190,6 +219,16 @@ impl Control {
         self.homes = [0u8; TRAN_COUNT];
         self
     }
+}
+
+// The marks of one placement.
+fn first_mark(rails: bool) -> u8
+    ensures { λ r. ⌜ r ≡ cond rails (bitOf 0) 0 ⌝ }
+{
+    if rails {
+        return FIRST_MARK;
+    }
+    0
 }
 
 // A transaction's byte once what was begun at the card has closed.

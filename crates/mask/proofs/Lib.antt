@@ -1,4 +1,4 @@
 pub mod Masks
 pub mod Sets
 pub mod FirstMember
-pub mod Sites
+pub mod SiteLaws

@@ -1,39 +1,85 @@
--- Placements and the sites of a block: document 01, "Sites and trail". Assumes nothing.
+-- Placements and the sites of a block: document 01, "Sites and trail", and document 02, A.1. Assumes nothing.
+use mathlib.Core.Path.{_≡_}
+use mathlib.Core.Bool.{Bool, true, false, not, _&&_, cond}
 use mathlib.Core.List.{List, [], _∷_}
-use Prim.Native.Nat.{ℕ, _+_, _%_, _≤_}
+use Prim.Native.Nat.{ℕ, _+_, _-_, _/_, _%_, _≤_}
+use lib.Dec.{eqb, ltb}
 use lib.ListN.{length, getD}
-use Rattle.image.specs.Layout.{copyCount}
+use Rattle.lists.specs.Tests.{anyBelow, keepIf}
+use Rattle.lists.specs.Tabulate.{tabulate}
+use Rattle.image.specs.Layout.{cardCount, copyCount}
 use Rattle.mask.specs.declared.Placement.{Placement as Struct}
-use Rattle.mask.specs.Masks.{Byte, byte, withoutCard, members, size}
+use Rattle.mask.specs.declared.Sites.{Sites}
+use Rattle.mask.specs.Masks.{Byte, byte, hasCard, withoutCard, members, size}
 
--- A placement comes from its mask alone.
+-- Members in rising order are c0 to c(m−1); member number i, going round.
+unfoldable pub memberAt : Byte → ℕ → ℕ
+memberAt m i = getD (members m) (i % length (members m)) 0
+
+-- ---- the base's choice of sites
+-- Block b's sites are c(b mod m) and c((b+1) mod m).
+unfoldable pub chainedSites : Byte → ℕ → List ℕ
+chainedSites m b = memberAt m b ∷ memberAt m (b + 1) ∷ []
+
+-- ---- the choice by rails
+-- Cards 0 to 3 hang on one supply rail and 4 to 7 on the other.
+abbrev pub railSize : ℕ
+railSize = 4
+
+abbrev pub railOf : ℕ → ℕ
+railOf c = c / railSize
+
+abbrev pub onOneRail : ℕ → ℕ → Bool
+onOneRail a c = eqb (railOf a) (railOf c)
+
+-- The cards that are not on the rail of card c, as a mask.
+unfoldable pub otherRail : ℕ → ℕ
+otherRail c = cond (ltb c railSize) 0x0F 0xF0
+
+-- The rail has a member; both rails have.
+abbrev pub hasOnRail : Byte → ℕ → Bool
+hasOnRail m rail = anyBelow cardCount (λ c. hasCard m c && eqb (railOf c) rail)
+
+unfoldable pub onBothRails : Byte → Bool
+onBothRails m = hasOnRail m 0 && hasOnRail m 1
+
+-- The members after member number i, going round.
+unfoldable pub membersAfter : Byte → ℕ → List ℕ
+membersAfter m i = tabulate (length (members m) - 1) (λ j. memberAt m (i + 1 + j))
+
+-- The second site is the first member after the first site, going round, that is on the other rail. If no member is
+-- there, it is the next member as before.
+unfoldable pub acrossRails : Byte → ℕ → ℕ
+acrossRails m b = getD (keepIf (λ c. not (onOneRail (memberAt m b) c)) (membersAfter m b)) 0 (memberAt m (b + 1))
+
+unfoldable pub railSites : Byte → ℕ → List ℕ
+railSites m b = memberAt m b ∷ acrossRails m b ∷ []
+
+-- ---- placements
+-- A mask, and the mark in the control part: whether its sites are chosen by rails.
 pub record Placement : Type 0 where
   pub mask : Byte
+  pub byRails : Bool
 
+-- A placement comes from its mask alone: start, place and fail write mark 1.
 abbrev pub fromMask : Byte → Placement
-fromMask m = record { mask = m }
+fromMask m = record { mask = m; byRails = true }
+
+-- The base's placement of a mask, which stays marked 0.
+abbrev pub olderFromMask : Byte → Placement
+olderFromMask m = record { mask = m; byRails = false }
 
 -- What the code's struct means.
 abbrev pub meant : Struct → Placement
-meant s = fromMask (byte (s .mask))
+meant s = record { mask = byte (s .mask); byRails = s .rails }
+
+-- The sites of a block, by the placement's own choice.
+unfoldable pub sitesOf : Placement → ℕ → List ℕ
+sitesOf p b = cond (p .byRails) (railSites (p .mask) b) (chainedSites (p .mask) b)
 
 -- Two members at least.
 abbrev pub leastMembers : ℕ
 leastMembers = copyCount
-
--- Members in rising order are c0 to c(m−1); member number i, going round.
-unfoldable pub memberAt : Placement → ℕ → ℕ
-memberAt p i = getD (members (p .mask)) (i % length (members (p .mask))) 0
-
--- Block b's sites are c(b mod m) and c((b+1) mod m).
-abbrev pub firstSite : Placement → ℕ → ℕ
-firstSite p b = memberAt p b
-
-abbrev pub secondSite : Placement → ℕ → ℕ
-secondSite p b = memberAt p (b + 1)
-
-unfoldable pub sitesOf : Placement → ℕ → List ℕ
-sitesOf p b = firstSite p b ∷ secondSite p b ∷ []
 
 -- The placement without a card.
 abbrev pub placementWithout : Placement → ℕ → Placement
@@ -42,3 +88,17 @@ placementWithout p c = fromMask (withoutCard (p .mask) c)
 -- As many members as copies.
 abbrev pub Usable : Placement → Type 0
 Usable p = copyCount ≤ size (p .mask)
+
+-- ---- what whoever asks for the sites of a block may rely on
+-- The sites as the rules list them.
+abbrev pub siteList : Sites → List ℕ
+siteList s = s .first .0 ∷ s .second .0 ∷ []
+
+-- The two cards are the sites of the block: two different members, and for a placement marked 1 on two rails whenever
+-- both have members.
+pub record AreSites (s : Sites) (p : Placement) (b : ℕ) : Type 0 where
+  pub listed : siteList s ≡ sitesOf p b
+  pub first-member : hasCard (p .mask) (s .first .0) ≡ true
+  pub second-member : hasCard (p .mask) (s .second .0) ≡ true
+  pub differ : eqb (s .first .0) (s .second .0) ≡ false
+  pub two-rails : p .byRails ≡ true → onBothRails (p .mask) ≡ true → onOneRail (s .first .0) (s .second .0) ≡ false

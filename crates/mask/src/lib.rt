@@ -1,6 +1,9 @@
 // Masks of cards, and placements: what comes from a mask alone.
 ghost use mathlib.Core.Path.{_≡_};
+ghost use mathlib.Core.Bool.{cond};
+ghost use mathlib.Core.List.{_∷_, []};
 ghost use Prim.Native.Nat.{_<_, _≤_};
+ghost use lib.Bits.{bitAnd};
 ghost use lib.Dec.{leb};
 ghost use lib.ListN.{length, getD, drop};
 ghost use Rattle.image.specs.Layout.{cardCount, blockCount, copyCount};
@@ -19,12 +22,14 @@ ghost use Rattle.mask.specs.Masks.{
   isOneMore,
 };
 ghost use Rattle.mask.specs.Placements.{
+  AreSites,
+  Usable,
   fromMask,
-  memberAt,
-  firstSite,
-  secondSite,
   leastMembers,
   meant,
+  memberAt,
+  otherRail,
+  sitesOf,
 };
 use image::Block;
 use image::Card;
@@ -34,6 +39,13 @@ const FIRST_BIT: u8 = 0x80;
 
 // All bits of a mask.
 const ALL_BITS: u8 = 0xff;
+
+// The cards on a supply rail, and the bits of the two rails.
+const RAIL_SIZE: u8 = 4;
+
+const FIRST_RAIL: u8 = 0xf0;
+
+const SECOND_RAIL: u8 = 0x0f;
 
 // The bit of a card.
 fn bit_of(card: Card) -> u8
@@ -139,9 +151,26 @@ fn nth_member(mask: u8, i: u8) -> u8
     u8::leading_zeros(left) as u8
 }
 
-// What a mask says: which cards, and where the copies of each block lie.
+// The bits of the rail that the card is not on: cards 0 to 3 hang on one supply rail and 4 to 7 on the other.
+fn other_rail(card: Card) -> u8
+    ensures { λ r. ⌜ r ≡ otherRail (card .0) ⌝ }
+{
+    if card.0 < RAIL_SIZE {
+        return SECOND_RAIL;
+    }
+    FIRST_RAIL
+}
+
+// Where the copies of each block lie: which cards, and whether their sites are chosen by rails.
 pub struct Placement {
     pub mask: u8,
+    pub rails: bool,
+}
+
+// The two sites of a block.
+pub struct Sites {
+    pub first: Card,
+    pub second: Card,
 }
 
 impl Placement {
@@ -150,11 +179,14 @@ impl Placement {
 
     pub const LEAST_MEMBERS: u32 = 2;
 
-    // A placement comes from its mask alone.
+    // A placement comes from its mask alone: what start, place and fail make is by rails.
     pub fn from_mask(mask: u8) -> Placement
         ensures { λ r. ⌜ meant r ≡ fromMask (byte mask) ⌝ }
     {
-        Placement { mask: mask }
+        Placement {
+            mask: mask,
+            rails: true,
+        }
     }
 
     // How many members.
@@ -181,26 +213,48 @@ impl Placement {
     // Member number i, going round.
     fn member_at(self, i: u8) -> Card
         requires { ⌜ copyCount ≤ size (byte (self .mask)) ⌝ }
-        ensures { λ r. ⌜ (r .0 ≡ memberAt (meant self) i) × (r .0 < cardCount) ⌝ }
+        ensures { λ r. ⌜ (r .0 ≡ memberAt (byte (self .mask)) i) × (r .0 < cardCount) ⌝ }
     {
         Card(nth_member(self.mask, i % u8::count_ones(self.mask) as u8))
     }
 
-    // The site of a block's first copy.
-    pub fn first_site(self, block: Block) -> Card
-        requires { ⌜ copyCount ≤ size (byte (self .mask)) ⌝ }
-        requires { ⌜ block .0 < blockCount ⌝ }
-        ensures { λ r. ⌜ (r .0 ≡ firstSite (meant self) (block .0)) × (r .0 < cardCount) ⌝ }
+    // The members on the other rail than the card, where the sites are by rails; else none.
+    fn across(self, card: Card) -> u8
+        ensures { λ r. ⌜ r ≡ cond (self .rails) (bitAnd (self .mask) (otherRail (card .0))) 0 ⌝ }
     {
-        self.member_at(block.0)
+        if self.rails {
+            return self.mask & other_rail(card);
+        }
+        0
     }
 
-    // The site of its second copy: the next member.
-    pub fn second_site(self, block: Block) -> Card
+    // The second site: the first of the members on the other rail than the first site. If there is none, or the sites
+    // are not by rails, it is the next member.
+    fn second_site(self, block: Block, first: Card) -> Card
         requires { ⌜ copyCount ≤ size (byte (self .mask)) ⌝ }
         requires { ⌜ block .0 < blockCount ⌝ }
-        ensures { λ r. ⌜ (r .0 ≡ secondSite (meant self) (block .0)) × (r .0 < cardCount) ⌝ }
+        requires { ⌜ first .0 ≡ memberAt (byte (self .mask)) (block .0) ⌝ }
+        ensures { λ r. ⌜ sitesOf (meant self) (block .0) ≡ first .0 ∷ r .0 ∷ [] ⌝ }
     {
-        self.member_at(block.0 + 1)
+        let across = self.across(first);
+        if across == 0 {
+            return self.member_at(block.0 + 1);
+        }
+        Card(u8::leading_zeros(across) as u8)
+    }
+
+    // The sites of a block: two different members, on two rails whenever both have members and the placement is by
+    // rails.
+    pub fn sites(self, block: Block) -> Sites
+        requires { ⌜ Usable (meant self) ⌝ }
+        requires { ⌜ block .0 < blockCount ⌝ }
+        ensures { λ r. ⌜ AreSites r (meant self) (block .0) ⌝ }
+    {
+        let first = self.member_at(block.0);
+        let second = self.second_site(block, first);
+        Sites {
+            first: first,
+            second: second,
+        }
     }
 }

@@ -3,7 +3,7 @@
 use Prim.Native.Nat.{_≤_, suc, zero, ℕ}
 use lib.Dec.{ltb}
 use lib.ListN.{length-map}
-use mathlib.Core.Bool.{Bool, _&&_, cond}
+use mathlib.Core.Bool.{_&&_, cond}
 use mathlib.Core.List.{List, [], _∷_, map, map-append, reverse}
 use mathlib.Core.Logic.{_⊎_, inl, inr}
 use mathlib.Core.Path.{_∙_, _≡_, ap, fun-ext, refl, subst, sym}

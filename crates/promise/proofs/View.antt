@@ -15,7 +15,7 @@ use Rattle.image.specs.Layout.{blockCount, cardCount}
 use Rattle.mask.specs.Masks.{areApart, hasCard, isWithin, isWithinEither, size}
 use Rattle.mask.specs.Placements.{Placement, Usable, leastMembers, sitesOf}
 use Rattle.mask.proofs.Masks.{has-card}
-use Rattle.mask.proofs.Sites.{site-member}
+use Rattle.mask.proofs.SiteLaws.{site-member}
 use Rattle.slot.specs.Blocks.{emptyBlock, isHeld}
 use Rattle.slot.proofs.Blocks.{held-empty}
 use Rattle.method.specs.ControlPart.{active}
@@ -88,7 +88,7 @@ module _ (g : Image) where
     site-works p b c m hb e = go (split (hasCard (controlIn g .working) c))
       where
         h : hasCard (p .mask) c ≡ true
-        h = site-member p b c (usable-active p m) (lt-ltb b blockCount hb) e
+        h = site-member p b c (usable-active p m) e
 
         go : (hasCard (controlIn g .working) c ≡ true) ⊎ (hasCard (controlIn g .working) c ≡ false) → not (hasCard (controlIn g .failed) c) ≡ hasCard (controlIn g .working) c
         go (inl on) = rw (on, works-not-failed c on)
@@ -101,4 +101,4 @@ module _ (g : Image) where
         (below-all cardCount (λ x. not (hasCard (controlIn g .newest .mask) x) || hasCard (controlIn g .working) x) c (rw running at (clauses .newest-works)) (has-card (controlIn g .newest .mask) c h)) h
       where
         h : hasCard (controlIn g .newest .mask) c ≡ true
-        h = site-member (controlIn g .newest) b c newest-usable (lt-ltb b blockCount hb) e
+        h = site-member (controlIn g .newest) b c newest-usable e

@@ -6,11 +6,10 @@ use mathlib.Core.Bool.{Bool, _&&_, cond, false, true}
 use mathlib.Core.List.{List, [], _∷_}
 use mathlib.Core.Logic.{_≢_}
 use mathlib.Core.Option.{Option, none, some}
-use mathlib.Core.Path.{_∙_, _≡_, ap, refl, sym}
+use mathlib.Core.Path.{_∙_, _≡_, ap, refl, subst, sym}
 use native.Mathlib.Omega.{arith}
 use Rattle.image.specs.Layout.{Whole, recordCount, slotCount, tranBound, valueBound}
-use Rattle.mask.specs.Masks.{byte}
-use Rattle.mask.specs.Placements.{Usable, fromMask}
+use Rattle.mask.specs.Placements.{Usable, meant}
 use Rattle.slot.specs.Words.{stateOf}
 use Rattle.slot.specs.declared.Entry.{Entry}
 use Rattle.method.specs.Rules.{Answer, Plan, absent, act, delete, get, layBlock, lockHolders, look, ok, refusal, reply}
@@ -27,7 +26,6 @@ use Rattle.promise.proofs.Finish.{by-blocks, by-look, by-row, form-good, form-l
 use Rattle.promise.proofs.Laid.{laid}
 use Rattle.promise.proofs.View.{newest-usable as newest-active-usable}
 use Rattle.trail.specs.Trail.{holdersIn}
-use Rattle.trail.proofs.Holding.{usable-same}
 use Rattle.records.specs.Access.{Ready}
 use Rattle.records.specs.Slots.{seenIn}
 use Rattle.records.specs.declared.access.Access.{Access}
@@ -60,8 +58,8 @@ module _ (g : Image) (t r : ℕ) (a : Access) (ready : Ready g t r a) where
   pub rec-fits : r < recordCount
   rec-fits = rec-lt t r ranges
 
-  pub newest-usable : Usable (fromMask (byte (a .newest)))
-  newest-usable = usable-same (ready .newest-is) (newest-active-usable g (form-good g (ready .formed)))
+  pub newest-usable : Usable (meant (a .newest))
+  newest-usable = subst Usable (sym (ready .newest-is)) (newest-active-usable g (form-good g (ready .formed)))
 
   -- get: what is read
   pub get-done : (s : Entry) (x : AnswerValue) → stateOf s ≡ readBy t (seenIn g r) → shown x ≡ reply cabinet (stateOf s) → Done (get t r) g x g

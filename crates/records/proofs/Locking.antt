@@ -15,7 +15,7 @@ use Rattle.lists.specs.Tests.{elem}
 use Rattle.lists.proofs.Bools.{eqb-self, or-r, split}
 use Rattle.lists.proofs.Cases.{by-pair}
 use Rattle.image.specs.Layout.{Whole, blockAt, blockCount, cardCount, putBlock, recordCount, slotCount, tranBound, valueBound}
-use Rattle.mask.specs.Placements.{Placement, firstSite, secondSite, sitesOf}
+use Rattle.mask.specs.Placements.{Placement, sitesOf}
 use Rattle.slot.specs.Blocks.{BlockBytes, freshBlock, lockSlot, ofList}
 use Rattle.slot.specs.Words.{entryOf, stateOf}
 use Rattle.slot.specs.declared.Entry.{Entry}
@@ -136,9 +136,9 @@ pub new-by : (t r p : ℕ) (v : Option ℕ) (x y : List ℕ) → x ≡ freshBloc
 new-by t r p v x y ex ep ey = ey ∙ ap₂ (λ (x : BlockBytes) (p : ℕ). lockSlot x p t v .0) (ap ofList ex ∙ of-list freshBlock) ep
 
 pub lay-laid : (g : Image) (t r : ℕ) (v : Option ℕ) (q : Placement) → Whole g → r < recordCount → q ≡ controlIn g .newest
-    → (b first second : ℕ) (y : List ℕ) → b ≡ r / slotCount → first ≡ firstSite q b → second ≡ secondSite q b → first < cardCount → second < cardCount → y ≡ newBlock t r v .0
+    → (b first second : ℕ) (y : List ℕ) → b ≡ r / slotCount → first ∷ second ∷ [] ≡ sitesOf q b → first < cardCount → second < cardCount → y ≡ newBlock t r v .0
     → putBlock (putBlock g first b y) second b y ≡ laid (layBlock cabinet (controlIn g) t r v) g
-lay-laid g t r v q w hr is b first second y eb e1 e2 h1 h2 ey =
+lay-laid g t r v q w hr is b first second y eb listed h1 h2 ey =
     ap (λ (l : List ℕ). putBlock (putBlock g first b l) second b l) ey
     ∙ ap (λ (i : Image). putBlock (putBlock i first b (x .0)) second b (x .0)) (laid-none (λ c b. none) g w (λ c b hc hb. refl))
     ∙ ap (λ (i : Image). putBlock i second b (x .0)) (laid-put (λ c b. none) g first b h1 hb x)
@@ -152,7 +152,7 @@ lay-laid g t r v q w hr is b first second y eb e1 e2 h1 h2 ey =
     hb = omega arith
 
     sites : (k : ℕ) → k ≡ b → sitesOf (controlIn g .newest) k ≡ first ∷ second ∷ []
-    sites k e = ap₂ (λ (p : Placement) (n : ℕ). sitesOf p n) (sym is) e ∙ unfold sitesOf in ap₂ (λ (m n : ℕ). m ∷ n ∷ []) (sym e1) (sym e2)
+    sites k e = ap₂ (λ (p : Placement) (n : ℕ). sitesOf p n) (sym is) e ∙ sym listed
 
     bools : (m n : Bool) → _≡_ {A = Option BlockBytes} (cond (n && true) (some x) (cond (m && true) (some x) none)) (cond (m || (n || false)) (some x) none)
     bools true true = refl

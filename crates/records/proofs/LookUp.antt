@@ -7,8 +7,7 @@ use mathlib.Core.Logic.{_≢_}
 use mathlib.Core.Path.{_∙_, _≡_, ap, refl, sym}
 use native.Mathlib.Omega.{arith}
 use Rattle.image.specs.Layout.{recordCount, slotCount, valueBound}
-use Rattle.mask.specs.Masks.{byte}
-use Rattle.mask.specs.Placements.{fromMask}
+use Rattle.mask.specs.Placements.{meant}
 use Rattle.method.specs.ControlPart.{isOpen}
 use Rattle.method.specs.Rules.{View, delete, get, lockedOut, refusal, row, store}
 use Rattle.method.proofs.Refusals.{row-3}
@@ -83,7 +82,7 @@ module _ (g : Image) (t r : ℕ) where
       pub locked-row : lockedOutIn g t r ≡ true → 7 ≡ refusalOn (get t r) g
       locked-row l = late-row true l ∙ whole-table
 
-      pub ready-up : (a : Access) → lockedOutIn g t r ≡ false → a .refusal ≡ 0 → fromMask (byte (a .newest)) ≡ meaning (f .control) .newest
+      pub ready-up : (a : Access) → lockedOutIn g t r ≡ false → a .refusal ≡ 0 → meant (a .newest) ≡ meaning (f .control) .newest
           → Lists (a .holders) (holdersIn g (r / slotCount)) → LooksUp g t r a
       ready-up a l is new held = record {
         refusal-is = is ∙ late-row false l ∙ whole-table;

@@ -4,8 +4,7 @@ use lib.Dec.{ltb}
 use mathlib.Core.Bool.{_&&_, not}
 use mathlib.Core.Path.{_≡_}
 use Rattle.image.specs.Layout.{recordCount, slotCount}
-use Rattle.mask.specs.Masks.{byte}
-use Rattle.mask.specs.Placements.{fromMask}
+use Rattle.mask.specs.Placements.{meant}
 use Rattle.method.specs.ControlPart.{isOpen}
 use Rattle.method.specs.Rules.{get, row}
 use Rattle.control.specs.ControlBytes.{Part}
@@ -27,7 +26,7 @@ earlyRows k t r =
 pub record Ready (g : Image) (t r : ℕ) (a : Access) : Type 0 where
   pub formed : formRefusal g ≡ 0
   pub accepted : 0 ≡ rowsOn (get t r) g
-  pub newest-is : fromMask (byte (a .newest)) ≡ controlIn g .newest
+  pub newest-is : meant (a .newest) ≡ controlIn g .newest
   pub holders-are : Lists (a .holders) (holdersIn g (r / slotCount))
 
 -- The row of the refusal table that applies to a get of the record, or else what it goes on with.

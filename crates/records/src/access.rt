@@ -5,15 +5,16 @@ ghost use Rattle.records.specs.Access.{LooksUp, earlyRows};
 use control::Control;
 use image::Rec;
 use image::Tran;
+use mask::Placement;
 use trail::Holders;
 
 // Records 0 to 511.
 const RECORD_COUNT: usize = image::BLOCK_COUNT * image::SLOT_COUNT;
 
-// A row of the refusal table, or else 0 with the newest placement's mask and the holders of the record's block.
+// A row of the refusal table, or else 0 with the newest placement and the holders of the record's block.
 pub struct Access {
     pub refusal: u8,
-    pub newest: u8,
+    pub newest: Placement,
     pub holders: Holders,
 }
 
@@ -23,7 +24,7 @@ fn refused(refusal: u8) -> Access
 {
     Access {
         refusal: refusal,
-        newest: 0,
+        newest: Placement::from_mask(0),
         holders: Holders {
             count: 0,
             cards: [0u8; trail::MOST_HOLDERS],
@@ -60,7 +61,7 @@ pub fn look_up(image: &[u8], tran: Tran, rec: Rec) -> Access
     }
     Access {
         refusal: 0,
-        newest: k.newest_mask(),
+        newest: k.newest(),
         holders: holders,
     }
 }

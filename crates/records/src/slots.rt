@@ -1,18 +1,16 @@
 // The slots of a record: on each holder of its block, and in a new block.
 ghost use mathlib.Core.Path.{_≡_};
-ghost use Prim.Native.Nat.{_%_, _/_, _<_, _≤_};
+ghost use Prim.Native.Nat.{_%_, _/_, _<_};
 ghost use Rattle.image.specs.Layout.{
   Whole,
   blockAt,
   cardCount,
-  copyCount,
   putBlock,
   recordCount,
   slotCount,
   tranBound,
 };
-ghost use Rattle.mask.specs.Masks.{byte, size};
-ghost use Rattle.mask.specs.Placements.{fromMask};
+ghost use Rattle.mask.specs.Placements.{Usable, meant};
 ghost use Rattle.slot.specs.Blocks.{lockSlot, ofList, slotAt};
 ghost use Rattle.slot.specs.Words.{stateOf};
 ghost use Rattle.method.specs.Rules.{layBlock, lockHolders, look, reply};
@@ -161,18 +159,16 @@ pub fn lock_all(image: &mut [u8], holders: Holders, tran: Tran, rec: Rec, pendin
 }
 
 // Both sites of the newest placement get a new block with the record's slot locked.
-pub fn lay(image: &mut [u8], newest: u8, tran: Tran, rec: Rec, pending: Entry)
+pub fn lay(image: &mut [u8], newest: Placement, tran: Tran, rec: Rec, pending: Entry)
     requires { ⌜ Whole (now image) × (rec .0 < recordCount) × (tran .0 < tranBound) ⌝ }
-    requires { ⌜ (copyCount ≤ size (byte newest)) × (fromMask (byte newest) ≡ controlIn (now image) .newest) ⌝ }
+    requires { ⌜ Usable (meant newest) × (meant newest ≡ controlIn (now image) .newest) ⌝ }
     ensures { λ _.
         ⌜ now (image .exit) ≡ laid (layBlock cabinet (controlIn (now (image .entry))) (tran .0) (rec .0)
         (stateOf pending)) (now (image .entry)) ⌝ }
 {
     let block = block_of(rec);
-    let placement = Placement::from_mask(newest);
-    let first = placement.first_site(block);
-    let second = placement.second_site(block);
+    let sites = newest.sites(block);
     let bytes = slot::lock_slot(slot::fresh_block(), place_of(rec), tran.0, pending);
-    image::put_block(image, first, block, bytes);
-    image::put_block(image, second, block, bytes);
+    image::put_block(image, sites.first, block, bytes);
+    image::put_block(image, sites.second, block, bytes);
 }

@@ -12,7 +12,9 @@ use Rattle.lists.specs.Tests.{countNot, elem, oneIf}
 use Rattle.lists.proofs.Bools.{and-l, and-r, eqb-self, not-not-is, split}
 use Rattle.image.specs.Layout.{blockAt, blockCount, blockSize, cardCount, putBlock, zeros}
 use Rattle.mask.specs.Masks.{byte, hasCard}
-use Rattle.mask.specs.Placements.{sitesOf}
+use Rattle.mask.specs.Placements.{AreSites, siteList}
+use Rattle.mask.specs.declared.Sites.{Sites}
+use Rattle.mask.proofs.SiteLaws.{first-fits, second-fits}
 use Rattle.slot.specs.Blocks.{BlockBytes, anyLocked, emptyBlock, isHeld, ofList}
 use Rattle.slot.proofs.Blocks.{zeros-empty}
 use Rattle.method.specs.Rules.{View, act, anyLocked as anyLockedOf, copied, move, moveWrites, newestSites}
@@ -34,8 +36,6 @@ use Rattle.promise.proofs.SharedRows.{card-accepted}
 use Rattle.promise.proofs.View.{look-on}
 use Rattle.trail.specs.Trail.{holdsAt}
 use Rattle.trail.proofs.Holding.{holds-seen}
-use Rattle.reorganise.specs.Reorganise.{AreSites, siteList}
-use Rattle.reorganise.specs.declared.looking.Sites.{Sites}
 use Rattle.reorganise.proofs.Looks.{newest-are}
 
 -- ---- the rows: those on the numbers and the card, by their tests, and those on the card's copy
@@ -182,7 +182,7 @@ module _ (g : Image) (k : Part) (v : View cabinet) (c b s t : ℕ) (sites : newe
       go (inl p) = rw (eqb-true e b p) here
       go (inr p) = rw p
 
-module _ (k : Control) (g : Image) (is : Given k g) (c b : ℕ) (ok : 0 ≡ rowsOn (move c b) g) (s : Sites) (at : AreSites s (sitesOf (meaning k .newest) b)) where
+module _ (k : Control) (g : Image) (is : Given k g) (c b : ℕ) (ok : 0 ≡ rowsOn (move c b) g) (s : Sites) (at : AreSites s (meaning k .newest) b) where
   hc : c < cardCount
   hc = accepted g c b ok .0
 
@@ -205,9 +205,9 @@ module _ (k : Control) (g : Image) (is : Given k g) (c b : ℕ) (ok : 0 ≡ rows
       let w1 = first g (controlIn g) (viewOf g) c b (s .first .0) (s .second .0) sites-are seen-origin in
       let w2 = second g (controlIn g) (viewOf g) c b (s .first .0) (s .second .0) sites-are seen-origin in
       let e1 = ap (λ (l : Image). cond (holds (s .first .0)) l (putBlock l (s .first .0) b (x .0))) (laid-none (λ d e. none) g (given-whole is) (λ d e hd he. refl))
-      ∙ fill-laid (holds (s .first .0)) (λ d e. none) g (s .first .0) b (at .first-fits) hb x in
+      ∙ fill-laid (holds (s .first .0)) (λ d e. none) g (s .first .0) b (first-fits at) hb x in
       let e2 = ap (λ (l : Image). cond (holds (s .second .0)) l (putBlock l (s .second .0) b (x .0))) e1
-      ∙ fill-laid (holds (s .second .0)) w1 g (s .second .0) b (at .second-fits) hb x in
+      ∙ fill-laid (holds (s .second .0)) w1 g (s .second .0) b (second-fits at) hb x in
       ap₂ (λ (l : Image) (z : List ℕ). cond (elem c (siteList s)) l (putBlock l c b z)) e2 zeros-empty
       ∙ fill-laid (elem c (siteList s)) w2 g c b hc hb emptyBlock
       ∙ laid-same (third g (controlIn g) (viewOf g) c b (s .first .0) (s .second .0) sites-are seen-origin) g (moveWrites cabinet (controlIn g) (viewOf g) c b)

@@ -8,11 +8,12 @@ use Rattle.lists.specs.Tests.{allBelow}
 use Rattle.lists.proofs.Counts.{all-fails}
 use Rattle.image.specs.Layout.{blockCount, cardCount}
 use Rattle.mask.specs.Masks.{byte}
-use Rattle.mask.specs.Placements.{sitesOf}
+use Rattle.mask.specs.Placements.{AreSites, siteList}
+use Rattle.mask.specs.declared.Sites.{Sites}
 use Rattle.method.specs.ControlPart.{onlyNewest}
 use Rattle.method.specs.Rules.{View, act, refusal, retired, row, settle, settled, settledAt, unwritten}
 use Rattle.control.specs.ControlBytes.{Part}
-use Rattle.control.specs.Meaning.{maskIn, meaning}
+use Rattle.control.specs.Meaning.{meaning, placementIn}
 use Rattle.control.specs.declared.Control.{Control}
 use Rattle.control.proofs.Struct.{length-placements}
 use Rattle.cabinet_rules.specs.Cabinet.{cabinet}
@@ -20,8 +21,7 @@ use Rattle.cabinet_rules.specs.Images.{Image, controlIn, planOn}
 use Rattle.promise.specs.Given.{Given, rowsOn, viewOf}
 use Rattle.trail.specs.Trail.{holdsAt}
 use Rattle.trail.proofs.Holding.{holds-seen}
-use Rattle.reorganise.specs.Reorganise.{AreSites, blockSettled, cardSettled, siteList}
-use Rattle.reorganise.specs.declared.looking.Sites.{Sites}
+use Rattle.reorganise.specs.Reorganise.{blockSettled, cardSettled}
 use Rattle.reorganise.proofs.Looks.{newest-are, stopped-is}
 
 -- ---- a block: some card fails, or all pass
@@ -43,7 +43,7 @@ unfolding settled
 all-pass k v n e h = sym (ap (λ (m : ℕ). allBelow m (settledAt cabinet k v)) (sym e) ∙ h)
 
 module _ (k : Control) (g : Image) (is : Given k g) where
-  pub block-is-settled : (b : ℕ) → b < blockCount → (s : Sites) → AreSites s (sitesOf (meaning k .newest) b)
+  pub block-is-settled : (b : ℕ) → b < blockCount → (s : Sites) → AreSites s (meaning k .newest) b
       → blockSettled (siteList s) (holdsAt g (byte (k .working)) b) ≡ settledAt cabinet (controlIn g) (viewOf g) b
   unfolding settledAt blockSettled
   block-is-settled b h s at = ap₂ blockSettled (at .listed ∙ newest-are k g is b) (fun-ext (λ c. holds-seen k g is b c h))
@@ -56,4 +56,4 @@ module _ (k : Control) (g : Image) (is : Given k g) where
   pub settle-plan : planOn settle g ≡ unwritten cabinet (retired (k .count - 1)) (onlyNewest (controlIn g))
   unfolding act meaning
   settle-plan = ap (λ (n : ℕ). unwritten cabinet (retired n) (onlyNewest (controlIn g)))
-      (ap (λ (p : Part). length (p .older)) (sym (is .is .means)) ∙ length-placements (maskIn k) (k .count - 1))
+      (ap (λ (p : Part). length (p .older)) (sym (is .is .means)) ∙ length-placements (placementIn k) (k .count - 1))

@@ -5,8 +5,9 @@ use mathlib.Core.List.{[], _∷_}
 use mathlib.Core.Path.{_≡_, ap}
 use native.Mathlib.Omega.{arith}
 use Rattle.method.specs.Rules.{act, isProtected, protected, refusal, row, state, unprotected, unwritten}
+use Rattle.mask.specs.Placements.{Placement}
 use Rattle.control.specs.ControlBytes.{placementsIn}
-use Rattle.control.specs.Meaning.{maskIn, meaning}
+use Rattle.control.specs.Meaning.{placementIn, meaning}
 use Rattle.control.specs.declared.Control.{Control}
 use Rattle.cabinet_rules.specs.Cabinet.{cabinet}
 use Rattle.cabinet_rules.specs.Images.{Image, controlIn, planOn}
@@ -14,10 +15,10 @@ use Rattle.promise.specs.Given.{Given, rowsOn}
 use Rattle.reorganise.proofs.Looks.{stopped-is}
 
 -- one placement is active, or more
-one-active : (f : ℕ → ℕ) (n : ℕ) → n ≡ 1 → elim (placementsIn f (n - 1)) [ [] ↦ true | p ∷ l ↦ false ] ≡ true
+one-active : (f : ℕ → Placement) (n : ℕ) → n ≡ 1 → elim (placementsIn f (n - 1)) [ [] ↦ true | p ∷ l ↦ false ] ≡ true
 one-active f n e = ap (λ (i : ℕ). elim (placementsIn f (i - 1)) [ [] ↦ true | p ∷ l ↦ false ]) e
 
-more-active : (f : ℕ → ℕ) (n : ℕ) → 1 ≤ n → (n ≡ 1 → ⊥) → elim (placementsIn f (n - 1)) [ [] ↦ true | p ∷ l ↦ false ] ≡ false
+more-active : (f : ℕ → Placement) (n : ℕ) → 1 ≤ n → (n ≡ 1 → ⊥) → elim (placementsIn f (n - 1)) [ [] ↦ true | p ∷ l ↦ false ] ≡ false
 more-active f n h d = ap (λ (i : ℕ). elim (placementsIn f i) [ [] ↦ true | p ∷ l ↦ false ]) e
   where
     e : n - 1 ≡ suc (n - 2)
@@ -35,8 +36,8 @@ module _ (k : Control) (g : Image) (is : Given k g) where
 
   pub state-one : k .count ≡ 1 → planOn state g ≡ unwritten cabinet protected (controlIn g)
   unfolding isProtected meaning
-  state-one e = answered true (one-active (maskIn k) (k .count) e)
+  state-one e = answered true (one-active (placementIn k) (k .count) e)
 
   pub state-more : (k .count ≡ 1 → ⊥) → planOn state g ≡ unwritten cabinet unprotected (controlIn g)
   unfolding isProtected meaning
-  state-more d = answered false (more-active (maskIn k) (k .count) (is .is .counted .some) d)
+  state-more d = answered false (more-active (placementIn k) (k .count) (is .is .counted .some) d)

@@ -1,24 +1,12 @@
 -- What the functions under the calls move, settle, state and load say of an image. Assumes nothing.
-use Prim.Native.Nat.{_<_, ℕ}
+use Prim.Native.Nat.{ℕ}
 use mathlib.Core.Bool.{Bool, _&&_, _||_, not}
-use mathlib.Core.List.{List, [], _∷_}
-use mathlib.Core.Path.{_≡_}
+use mathlib.Core.List.{List}
 use Rattle.lists.specs.Tests.{all, allBelow, elem, sumBelow}
 use Rattle.image.specs.Layout.{cardCount}
 use Rattle.method.specs.Rules.{committedIn}
 use Rattle.cabinet_rules.specs.Cabinet.{cabinet}
 use Rattle.cabinet_rules.specs.Images.{Image, blockIn}
-use Rattle.reorganise.specs.declared.looking.Sites.{Sites}
-
--- The sites as the rules list them.
-abbrev pub siteList : Sites → List ℕ
-siteList s = s .first .0 ∷ s .second .0 ∷ []
-
--- The two cards are the sites of this list.
-pub record AreSites (s : Sites) (sites : List ℕ) : Type 0 where
-  pub listed : siteList s ≡ sites
-  pub first-fits : s .first .0 < cardCount
-  pub second-fits : s .second .0 < cardCount
 
 -- Card c does not hold the block, or is a site of it and all its sites hold it; every card is so.
 abbrev pub cardSettled : List ℕ → (ℕ → Bool) → ℕ → Bool

@@ -3,32 +3,22 @@ ghost use mathlib.Core.Path.{_≡_};
 ghost use Prim.Native.Nat.{_<_};
 ghost use Rattle.lists.specs.Tests.{elem};
 ghost use Rattle.image.specs.Layout.{blockCount};
-ghost use Rattle.mask.specs.Placements.{Usable, sitesOf};
+ghost use Rattle.mask.specs.Placements.{AreSites, Usable, siteList};
 ghost use Rattle.control.specs.Meaning.{Counted, meaning};
-ghost use Rattle.reorganise.specs.Reorganise.{AreSites, siteList};
 use control::Control;
 use image::Block;
 use image::Card;
-use mask::Placement;
-
-// The two sites of a block.
-pub struct Sites {
-    pub first: Card,
-    pub second: Card,
-}
+use mask::Sites;
 
 // The sites of a block in the newest placement.
 pub fn newest_sites(k: Control, block: Block) -> Sites
     requires { ⌜ Counted k ⌝ }
     requires { ⌜ Usable (meaning k .newest) ⌝ }
     requires { ⌜ block .0 < blockCount ⌝ }
-    ensures { λ r. ⌜ AreSites r (sitesOf (meaning k .newest) (block .0)) ⌝ }
+    ensures { λ r. ⌜ AreSites r (meaning k .newest) (block .0) ⌝ }
 {
-    let newest = Placement::from_mask(k.newest_mask());
-    Sites {
-        first: newest.first_site(block),
-        second: newest.second_site(block),
-    }
+    let newest = k.newest();
+    newest.sites(block)
 }
 
 // Whether the card is one of the sites.

@@ -5,19 +5,20 @@ ghost use Prim.Native.Nat.{_<_};
 ghost use Rattle.lists.specs.Tests.{all, elem};
 ghost use Rattle.image.specs.Layout.{Whole, blockCount, cardCount};
 ghost use Rattle.mask.specs.Masks.{byte};
+ghost use Rattle.mask.specs.Placements.{siteList};
 ghost use Rattle.method.specs.Rules.{settle, settled};
 ghost use Rattle.cabinet_rules.specs.Cabinet.{cabinet};
 ghost use Rattle.cabinet_rules.specs.Images.{controlIn};
 ghost use Rattle.promise.specs.Given.{Given, rowsOn, viewOf};
 ghost use Rattle.trail.specs.Trail.{holdsAt};
-ghost use Rattle.reorganise.specs.Reorganise.{blockSettled, siteList};
+ghost use Rattle.reorganise.specs.Reorganise.{blockSettled};
 use crate::looking;
-use crate::looking::Sites;
 use control::Control;
 use image::BLOCK_COUNT;
 use image::Block;
 use image::Card;
 use mask::Placement;
+use mask::Sites;
 
 // Whether both sites work and hold the block.
 fn both_hold(image: &[u8], working: u8, sites: Sites, block: Block) -> bool

@@ -3,15 +3,19 @@ use mathlib.Core.Bool.{cond}
 use mathlib.Core.List.{List, [], _∷_}
 use mathlib.Core.Path.{_∙_, _≡_, ap, ap₂, refl, sym}
 use Rattle.mask.specs.Masks.{byte}
+use Rattle.mask.specs.Placements.{olderFromMask}
 use Rattle.method.specs.OneRecordList.{Observation, isLast, observe, runPlain, zeroed}
 use Rattle.method.specs.PlainList.{plainStart}
-use Rattle.method.specs.Rules.{Answer, Call}
+use Rattle.method.specs.Rules.{Answer, Call, start}
 use Rattle.cabinet_rules.specs.Cabinet.{cabinet}
-use Rattle.cabinet_rules.specs.Claims.{NoisyCall, OneRecordListOnImages, imageCalls, runImage, runImageBy}
-use Rattle.cabinet_rules.specs.Images.{Image}
+use Rattle.cabinet_rules.specs.Claims.{NoisyCall, OneRecordListOnImages, imageAfterBy, imageCalls, runImage, runImageBy}
+use Rattle.cabinet_rules.specs.Delivery.{base, current}
+use Rattle.cabinet_rules.specs.GoesOn.{GoesOnImages, plainThen, rulesThen}
+use Rattle.cabinet_rules.specs.Images.{Image, nextBy}
+use Rattle.cabinet_rules.proofs.Base.{goes-on-from-base}
 use Rattle.cabinet_rules.proofs.OneRecordList.{one-record-list-on-images}
 use Rattle.promise.specs.Promise.{asked}
-use Rattle.store.specs.Runs.{OneRecordListOfCalls, Ran, Step, callsOf, observed}
+use Rattle.store.specs.Runs.{GoesOnOfCalls, OneRecordListOfCalls, Ran, Step, callsOf, observed}
 
 -- The calls of a run with the noise before each, as the rules are given them.
 given : List Step → List NoisyCall
@@ -32,6 +36,13 @@ observed-is (s ∷ l) g r =
   where
     shows : Answer cabinet → List (Observation cabinet) → List (Observation cabinet)
     shows a t = observe cabinet (asked (s .call)) a ∷ cond (isLast cabinet (observe cabinet (asked (s .call)) a)) [] t
+
+-- DEMAND 3, going on from the memory that the base's calls left
+pub goes-on-of-calls : GoesOnOfCalls
+unfolding GoesOnOfCalls GoesOnImages
+goes-on-of-calls m before e earlier runs l r =
+    observed-is l (imageAfterBy base earlier (nextBy base (start m) before)) r ∙ goes-on-from-base m before e earlier runs (given l)
+    ∙ ap (λ (cs : List (Call cabinet)). runPlain cabinet cs (rulesThen base current olderFromMask m earlier) (plainThen base current olderFromMask m earlier)) (calls-given l)
 
 -- DEMAND 3
 pub one-record-list-of-calls : OneRecordListOfCalls

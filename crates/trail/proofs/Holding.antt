@@ -6,7 +6,7 @@ use lib.Seq.{getD-set-other, getD-set-same, take-suc-set}
 use mathlib.Core.Bool.{Bool, _&&_, and-false, cond, false, not, true}
 use mathlib.Core.List.{List, [], _++_, _∷_, append-assoc, append-nil}
 use mathlib.Core.Logic.{_⊎_, inl, inr}
-use mathlib.Core.Path.{_∙_, _≡_, ap, ap₂, fun-ext, refl, sym}
+use mathlib.Core.Path.{_∙_, _≡_, ap, fun-ext, refl, sym}
 use native.Mathlib.Nat.{mod-eq-of-lt}
 use native.Mathlib.Numerals.{add-one}
 use native.Mathlib.Omega.{arith}
@@ -15,14 +15,14 @@ use Rattle.lists.proofs.Bools.{split}
 use Rattle.lists.proofs.Cases.{by-eq}
 use Rattle.image.specs.Layout.{blockAddress, blockCount, cardCount}
 use Rattle.mask.specs.Masks.{byte, hasCard}
-use Rattle.mask.specs.Placements.{Placement, Usable, firstSite, fromMask, secondSite, sitesOf}
+use Rattle.mask.specs.Placements.{Placement, Usable, sitesOf}
 use Rattle.slot.specs.Blocks.{byteIn, isHeld}
 use Rattle.slot.proofs.Blocks.{byte-in}
 use Rattle.method.specs.ControlPart.{active}
 use Rattle.method.specs.Rules.{holders, trail}
 use Rattle.control.specs.ControlBytes.{Part, placementsIn}
 use Rattle.control.specs.ControlForm.{controlForm}
-use Rattle.control.specs.Meaning.{maskIn, meaning}
+use Rattle.control.specs.Meaning.{meaning, placementIn}
 use Rattle.control.specs.declared.Control.{Control}
 use Rattle.control.proofs.Struct.{active-is, placements-more}
 use Rattle.cabinet_rules.specs.Images.{Image, blockIn, controlIn}
@@ -84,18 +84,14 @@ concat-append f [] x = append-nil (f x)
 concat-append f (y ∷ l) x = ap (λ (r : List ℕ). f y ++ r) (concat-append f l x) ∙ sym (append-assoc (f y) (concatMap f l) (f x))
 
 -- two cards pushed are the two sites pushed
-pub push-two : (p : ℕ → Bool) (q : Placement) (b : ℕ) (l m n : List ℕ) (x y : ℕ) → x ≡ firstSite q b → y ≡ secondSite q b
-    → m ≡ l ++ keepIf p (x ∷ []) → n ≡ m ++ keepIf p (y ∷ []) → n ≡ l ++ keepIf p (sitesOf q b)
-unfolding sitesOf
-push-two p q b l m n x y ex ey d e =
+pub push-two : (p : ℕ → Bool) (sites l m n : List ℕ) (x y : ℕ) → x ∷ y ∷ [] ≡ sites
+    → m ≡ l ++ keepIf p (x ∷ []) → n ≡ m ++ keepIf p (y ∷ []) → n ≡ l ++ keepIf p sites
+push-two p sites l m n x y is d e =
     e ∙ ap (λ (z : List ℕ). z ++ keepIf p (y ∷ [])) d ∙ append-assoc l (keepIf p (x ∷ [])) (keepIf p (y ∷ []))
-    ∙ ap (λ (z : List ℕ). l ++ z) (sym (keep-append p (x ∷ []) (y ∷ [])) ∙ ap₂ (λ (s t : ℕ). keepIf p (s ∷ t ∷ [])) ex ey)
+    ∙ ap (λ (z : List ℕ). l ++ z) (sym (keep-append p (x ∷ []) (y ∷ [])) ∙ ap (keepIf p) is)
 
--- ---- placements by their masks
-pub usable-same : {p q : Placement} → p ≡ q → Usable q → Usable p
-usable-same e u = rw e u
-
-in-placements : (f : ℕ → ℕ) (n i : ℕ) → i < n → In (fromMask (byte (f i))) (placementsIn f n)
+-- ---- placements by their number
+in-placements : (f : ℕ → Placement) (n i : ℕ) → i < n → In (f i) (placementsIn f n)
 in-placements f zero i h = absurd (omega arith)
 in-placements f (suc n) zero h = inl refl
 in-placements f (suc n) (suc i) h = inr (in-placements (λ i. f (suc i)) n i (omega arith))
@@ -107,25 +103,25 @@ holdsSeen g b c = isHeld (viewOf g c b)
 abbrev notFailed : Image → ℕ → Bool
 notFailed g c = not (hasCard (controlIn g .failed) c)
 
-unfoldable pub firstHolders : Image → ℕ → List ℕ → ℕ → List ℕ
-firstHolders g b masks i = keepIf (holdsSeen g b) (keepIf (notFailed g) (concatMap (λ p. sitesOf p b) (placementsIn (λ i. getD masks i 0) i)))
+unfoldable pub firstHolders : Image → ℕ → Control → ℕ → List ℕ
+firstHolders g b k i = keepIf (holdsSeen g b) (keepIf (notFailed g) (concatMap (λ p. sitesOf p b) (placementsIn (placementIn k) i)))
 
-pub first-none : (g : Image) (b : ℕ) (masks : List ℕ) → [] ≡ firstHolders g b masks 0
+pub first-none : (g : Image) (b : ℕ) (k : Control) → [] ≡ firstHolders g b k 0
 unfolding firstHolders
-first-none g b masks = refl
+first-none g b k = refl
 
 module _ (k : Control) (g : Image) (given : Given k g) where
   pub formed : controlForm g ≡ true
   formed = form-good g (given .formed)
 
-  -- the active placements are those of the first `count` masks
-  active-masks : active (controlIn g) ≡ placementsIn (maskIn k) (k .count)
+  -- the active placements are the first `count` ones
+  active-first : active (controlIn g) ≡ placementsIn (placementIn k) (k .count)
   unfolding meaning
-  active-masks = ap (λ (p : Part). active p) (sym (given .is .means)) ∙ active-is k (given .is .counted)
+  active-first = ap (λ (p : Part). active p) (sym (given .is .means)) ∙ active-is k (given .is .counted)
 
   -- each has as many members as copies
-  pub usable-mask : (i : ℕ) → i < k .count → Usable (fromMask (byte (maskIn k i)))
-  usable-mask i h = usable-active g formed (fromMask (byte (maskIn k i))) (rw active-masks (in-placements (maskIn k) (k .count) i h))
+  pub usable-at : (i : ℕ) → i < k .count → Usable (placementIn k i)
+  usable-at i h = usable-active g formed (placementIn k i) (rw active-first (in-placements (placementIn k) (k .count) i h))
 
   -- a working card that holds a block is one that the rules see hold it
   pub holds-seen : (b c : ℕ) → b < blockCount → holdsAt g (byte (k .working)) b c ≡ isHeld (viewOf g c b)
@@ -143,19 +139,19 @@ module _ (k : Control) (g : Image) (given : Given k g) where
 
   -- one placement more
   pub first-more : (b i : ℕ) → b < blockCount
-      → firstHolders g b (k .masks) i ++ keepIf (holdsAt g (byte (k .working)) b) (sitesOf (fromMask (byte (maskIn k i))) b) ≡ firstHolders g b (k .masks) (i + 1)
+      → firstHolders g b k i ++ keepIf (holdsAt g (byte (k .working)) b) (sitesOf (placementIn k i) b) ≡ firstHolders g b k (i + 1)
   unfolding firstHolders
   first-more b i hb =
-      let p = fromMask (byte (maskIn k i)) in
-      let l = placementsIn (maskIn k) i in
+      let p = placementIn k i in
+      let l = placementsIn (placementIn k) i in
       let sites : Placement → List ℕ = λ p. sitesOf p b in
-      sym (ap (λ (l : List Placement). keepIf (holdsSeen g b) (keepIf (notFailed g) (concatMap sites l))) (ap (placementsIn (maskIn k)) (add-one i) ∙ sym (placements-more (maskIn k) i))
+      sym (ap (λ (l : List Placement). keepIf (holdsSeen g b) (keepIf (notFailed g) (concatMap sites l))) (ap (placementsIn (placementIn k)) (add-one i) ∙ sym (placements-more (placementIn k) i))
       ∙ ap (λ (l : List ℕ). keepIf (holdsSeen g b) (keepIf (notFailed g) l)) (concat-append sites l p)
       ∙ ap (keepIf (holdsSeen g b)) (keep-append (notFailed g) (concatMap sites l) (sitesOf p b))
       ∙ keep-append (holdsSeen g b) (keepIf (notFailed g) (concatMap sites l)) (keepIf (notFailed g) (sitesOf p b))
-      ∙ ap (λ (r : List ℕ). firstHolders g b (k .masks) i ++ r) (keep-keep (holdsSeen g b) (notFailed g) (sitesOf p b) ∙ ap (λ (f : ℕ → Bool). keepIf f (sitesOf p b)) (fun-ext (λ c. test-is b c hb))))
+      ∙ ap (λ (r : List ℕ). firstHolders g b k i ++ r) (keep-keep (holdsSeen g b) (notFailed g) (sitesOf p b) ∙ ap (λ (f : ℕ → Bool). keepIf f (sitesOf p b)) (fun-ext (λ c. test-is b c hb))))
 
   -- and all of them
-  pub first-all : (b : ℕ) → firstHolders g b (k .masks) (k .count) ≡ holdersIn g b
+  pub first-all : (b : ℕ) → firstHolders g b k (k .count) ≡ holdersIn g b
   unfolding firstHolders holders trail
-  first-all b = ap (λ (l : List Placement). keepIf (holdsSeen g b) (keepIf (notFailed g) (concatMap (λ p. sitesOf p b) l))) (sym active-masks)
+  first-all b = ap (λ (l : List Placement). keepIf (holdsSeen g b) (keepIf (notFailed g) (concatMap (λ p. sitesOf p b) l))) (sym active-first)

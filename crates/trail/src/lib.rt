@@ -4,8 +4,8 @@ ghost use mathlib.Core.List.{_++_, _∷_, []};
 ghost use Prim.Native.Nat.{_+_, _<_, _≤_};
 ghost use Rattle.lists.specs.Tests.{keepIf};
 ghost use Rattle.image.specs.Layout.{Whole, blockCount, cardCount, copyCount};
-ghost use Rattle.mask.specs.Masks.{byte, size};
-ghost use Rattle.mask.specs.Placements.{fromMask, sitesOf};
+ghost use Rattle.mask.specs.Masks.{byte};
+ghost use Rattle.mask.specs.Placements.{Usable, meant, sitesOf};
 ghost use Rattle.slot.specs.Blocks.{isHeld};
 ghost use Rattle.cabinet_rules.specs.Images.{blockIn};
 ghost use Rattle.promise.specs.Given.{Given};
@@ -67,21 +67,25 @@ fn push(image: &[u8], working: u8, block: Block, found: Holders, card: Card) -> 
     found
 }
 
-// The sites of the placement with this mask are added where they hold the block.
-fn push_sites(image: &[u8], working: u8, block: Block, found: Holders, mask: u8) -> Holders
-    requires { ⌜ Whole (now image) × (copyCount ≤ size (byte mask)) × (block .0 < blockCount) ⌝ }
+// The sites of the placement are added where they hold the block.
+fn push_sites(
+    image: &[u8],
+    working: u8,
+    block: Block,
+    found: Holders,
+    placement: Placement,
+) -> Holders
+    requires { ⌜ Whole (now image) × Usable (meant placement) × (block .0 < blockCount) ⌝ }
     requires { ⌜ Sound found ⌝ }
     requires { ⌜ found .count + copyCount ≤ mostHolders ⌝ }
     ensures { λ r.
         ⌜ Lists r (cardsOf found
-        ++ keepIf (holdsAt (now (image .entry)) (byte working) (block .0)) (sitesOf (fromMask (byte mask)) (block .0)))
+        ++ keepIf (holdsAt (now (image .entry)) (byte working) (block .0)) (sitesOf (meant placement) (block .0)))
         × (r .count ≤ found .count + copyCount) ⌝ }
 {
-    let placement = Placement::from_mask(mask);
-    let first = placement.first_site(block);
-    let second = placement.second_site(block);
-    let more = push(image, working, block, found, first);
-    push(image, working, block, more, second)
+    let sites = placement.sites(block);
+    let more = push(image, working, block, found, sites.first);
+    push(image, working, block, more, sites.second)
 }
 
 // The holders of a block.
@@ -90,7 +94,6 @@ pub fn find(image: &[u8], k: Control, block: Block) -> Holders
     requires { ⌜ block .0 < blockCount ⌝ }
     ensures { λ r. ⌜ Lists r (holdersIn (now (image .entry)) (block .0)) ⌝ }
 {
-    let masks = k.masks;
     let count = k.count as usize;
     let working = k.working;
     let mut found = Holders {
@@ -99,7 +102,7 @@ pub fn find(image: &[u8], k: Control, block: Block) -> Holders
     };
     let mut i: usize = 0;
     while i < count {
-        let more = push_sites(image, working, block, found, masks[i]);
+        let more = push_sites(image, working, block, found, k.placement(i));
         found = more;
         i += 1;
     }

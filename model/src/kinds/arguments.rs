@@ -118,7 +118,7 @@ impl Maker {
     /// A transaction, closed if there is one, and a home for it.
     pub(super) fn newcomer(&mut self, control: &Control) -> (u8, u8) {
         let closed: Vec<u8> = (1..=15).filter(|transaction| !control.is_open(*transaction)).collect();
-        let home = self.random.one_of(&members(control.newest())) as u8;
+        let home = self.random.one_of(&members(control.newest().mask)) as u8;
         let transaction = self.random.any_of(&closed);
         (transaction.unwrap_or_else(|| 1 + self.random.below(15) as u8), home)
     }
@@ -135,8 +135,17 @@ impl Maker {
         Call::of(operation, &Numbers { transaction, record, value, ..Numbers::default() })
     }
 
+    /// Now and then the newest again, where the rules take it.
+    pub(super) fn mask_to_place(&mut self, control: &Control) -> u8 {
+        let newest = control.newest();
+        if !self.edition.refuses_again(newest) && self.random.chance(300) {
+            return newest.mask;
+        }
+        self.some_mask(control.working, 2, self.profile.placed)
+    }
+
     pub(super) fn place_call(&mut self, control: &Control) -> Call {
-        Call::Place { mask: self.some_mask(control.working, 2, self.profile.placed) }
+        Call::Place { mask: self.mask_to_place(control) }
     }
 
     fn fail_call(&mut self, control: &Control) -> Call {

@@ -3,14 +3,17 @@
 
 use super::profiles::{profile, Profile};
 use super::{Kind, KINDS};
-use crate::calls::{perform, Answer, Call};
+use crate::calls::{perform_by, Answer, Call};
 use crate::commands::{read_command, write_command, COMMAND_BYTES};
 use crate::control::Control;
+use crate::edition::{Edition, TODAY};
 use crate::image::{CONTROL, LENGTH, RECORDS};
 use crate::random::Random;
 use std::collections::VecDeque;
 
 pub struct Maker {
+    /// The rules that the store kept beside follows.
+    pub(super) edition: Edition,
     kind: Kind,
     pub(super) profile: Profile,
     pub(super) random: Random,
@@ -32,6 +35,10 @@ pub(super) fn bytes_of(call: &Call) -> [u8; COMMAND_BYTES] {
 
 impl Maker {
     pub fn new(kind: Kind, seed: u64) -> Maker {
+        Maker::by(TODAY, kind, seed)
+    }
+
+    pub fn by(edition: Edition, kind: Kind, seed: u64) -> Maker {
         let at = KINDS.iter().position(|(_, known)| *known == kind).unwrap() as u64;
         let mut random = Random::new(seed.wrapping_mul(64).wrapping_add(at));
         let profile = profile(kind);
@@ -45,18 +52,31 @@ impl Maker {
         }
         let image = vec![0; LENGTH];
         let (plan, before) = (VecDeque::new(), Vec::new());
-        let mut maker = Maker { kind, profile, random, image, records, plan, steady: false, before };
+        let mut maker = Maker { edition, kind, profile, random, image, records, plan, steady: false, before };
         if kind == Kind::Refusals {
             maker.before = maker.calls_before_a_start();
         }
         maker
     }
 
+    /// The commands from here on are for a store that follows these rules; what is there stays.
+    pub fn go_on_by(&mut self, edition: Edition) {
+        self.edition = edition;
+        if let Some(control) = self.running() {
+            self.plan_going_on(&control);
+        }
+    }
+
+    /// The image of the store kept beside.
+    pub fn image(&self) -> &[u8] {
+        &self.image
+    }
+
     /// Chooses a command and runs it on the store kept beside.
     pub fn next_command(&mut self) -> [u8; COMMAND_BYTES] {
         let bytes = self.choose();
         if let Some(call) = read_command(&bytes) {
-            let answer = perform(&mut self.image, &call);
+            let answer = perform_by(self.edition, &mut self.image, &call);
             if matches!(answer, Answer::Stopped) || matches!(call, Call::Start { .. }) {
                 self.plan.clear();
             }
@@ -93,7 +113,7 @@ impl Maker {
 
     /// None before the first start and after a stop.
     pub(super) fn running(&self) -> Option<Control> {
-        Control::read(&self.image).filter(|control| !control.stopped)
+        Control::read_by(self.edition, &self.image).filter(|control| !control.stopped)
     }
 
     /// A call by the plan or by the profile's weights.

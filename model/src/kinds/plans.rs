@@ -2,29 +2,31 @@
 
 use super::arguments::{all_held, idle, misplaced, move_call, safe};
 use super::maker::Maker;
-use crate::calls::{perform, Call};
+use crate::calls::{perform_by, Call};
 use crate::control::{bit, count, has, Control};
+use crate::edition::Edition;
 use crate::image::held;
 use crate::sites::members;
 
 /// Calls and the image as they leave it if nothing comes between.
 struct Rehearsal {
+    edition: Edition,
     image: Vec<u8>,
     calls: Vec<Call>,
 }
 
 impl Rehearsal {
-    fn new(image: &[u8]) -> Rehearsal {
-        Rehearsal { image: image.to_vec(), calls: Vec::new() }
+    fn new(maker: &Maker) -> Rehearsal {
+        Rehearsal { edition: maker.edition, image: maker.image.clone(), calls: Vec::new() }
     }
 
     fn push(&mut self, call: Call) {
-        perform(&mut self.image, &call);
+        perform_by(self.edition, &mut self.image, &call);
         self.calls.push(call);
     }
 
     fn control(&self) -> Control {
-        Control::read(&self.image).expect("calls keep the form")
+        Control::read_by(self.edition, &self.image).expect("calls keep the form")
     }
 
     /// Moves those that are held and misplaced when their turn comes.
@@ -42,7 +44,7 @@ impl Maker {
     /// Closes what is open, perhaps fits and places, moves all that is misplaced,
     /// settles, and looks at the outcome.
     pub(super) fn plan_reorganisation(&mut self, control: &Control) {
-        let mut plan = Rehearsal::new(&self.image);
+        let mut plan = Rehearsal::new(self);
         for transaction in control.open() {
             match self.random.below(6) {
                 0 => {}
@@ -77,7 +79,7 @@ impl Maker {
                 plan.push(Call::Load { card: *card as u8 });
             }
         }
-        left_over.retain(|card| !has(control.newest(), *card));
+        left_over.retain(|card| !has(control.newest().mask, *card));
         if let Some(card) = self.random.any_of(&left_over) {
             if self.random.chance(400) {
                 plan.push(Call::Withdraw { card: card as u8 });
@@ -110,18 +112,18 @@ impl Maker {
         let mut ahead = control.clone();
         while ahead.placements.len() < 3 {
             let mask = self.some_mask(ahead.working, 3, 8);
-            if count(mask) < 2 || mask == ahead.newest() {
+            if count(mask) < 2 || mask == ahead.newest().mask {
                 return;
             }
             self.plan.push_back(Call::Place { mask });
-            ahead.placements.push(mask);
+            ahead.placements.push(self.edition.placement(mask));
             let record = self.record();
             if let Some(transaction) = self.random.any_of(&ahead.open()) {
                 let value = self.value();
                 self.plan.push_back(Call::Store { transaction, record, value });
             }
         }
-        if let Some(card) = self.random.any_of(&safe(&ahead, ahead.newest())) {
+        if let Some(card) = self.random.any_of(&safe(&ahead, ahead.newest().mask)) {
             self.plan_failure(&ahead, card);
         }
     }
@@ -150,21 +152,47 @@ impl Maker {
         }
     }
 
+    /// Under other rules than before, most often a placement is added, by a place or a
+    /// failure, and records are used; else the plan goes on.
+    pub(super) fn plan_going_on(&mut self, control: &Control) {
+        if self.random.chance(250) {
+            return;
+        }
+        self.plan.clear();
+        self.steady = false;
+        match self.random.below(3) {
+            0 => self.plan_reorganisation(control),
+            1 if control.placements.len() < 3 => self.plan_place(control),
+            _ => self.plan_four(control),
+        }
+    }
+
+    /// A place, and records are written and read after it.
+    fn plan_place(&mut self, control: &Control) {
+        let mask = self.mask_to_place(control);
+        self.plan.push_back(Call::Place { mask });
+        let mut ahead = control.clone();
+        ahead.placements.push(self.edition.placement(mask));
+        for writes in [true, false] {
+            self.plan_batch(&ahead, writes);
+        }
+    }
+
     /// A transaction stays open while its home leaves every placement, then a
     /// withdraw. Nothing comes between.
     pub(super) fn plan_homeless(&mut self, control: &Control) {
-        let newest = members(control.newest());
+        let newest = members(control.newest().mask);
         if newest.len() < 3 || control.placements.len() > 2 {
             return;
         }
         let card = self.random.one_of(&newest);
         let transaction = 1 + self.random.below(15) as u8;
-        let mut plan = Rehearsal::new(&self.image);
+        let mut plan = Rehearsal::new(self);
         for transaction in control.open() {
             plan.push(Call::Commit { transaction });
         }
         plan.push(Call::Begin { transaction, home: card as u8 });
-        plan.push(Call::Place { mask: control.newest() & !bit(card) });
+        plan.push(Call::Place { mask: control.newest().mask & !bit(card) });
         plan.move_all(all_held(&self.image, control.working));
         plan.push(Call::Store { transaction, record: self.record(), value: 14 });
         plan.push(Call::Settle);

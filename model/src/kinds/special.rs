@@ -2,7 +2,7 @@
 //! their ends, and calls that aim at one refusal.
 
 use super::maker::{bytes_of, Maker};
-use crate::calls::{perform, Answer, Call};
+use crate::calls::{perform_by, Answer, Call};
 use crate::commands::{read_command, Fields, COMMAND_BYTES};
 use crate::control::Control;
 use crate::sites::members;
@@ -109,7 +109,7 @@ impl Maker {
             } else {
                 self.careless(operation)
             };
-            if perform(&mut self.image.clone(), &call) == Answer::Refused(number) {
+            if perform_by(self.edition, &mut self.image.clone(), &call) == Answer::Refused(number) {
                 return Some(call);
             }
         }

@@ -1,10 +1,9 @@
 -- The proof of `place_refusal`. Assumes nothing.
-use mathlib.Core.Path.{refl, sym, _∙_}
-use native.Mathlib.Omega.{arith}
-use mir.Syntax.{w8}
-use mir.Val.{Fits}
-use borrow.Author.Tests.{le-ltb, lt-ltb, le-leb, lt-leb, eq-eqb, ne-eqb, not-true, not-false}
-use Rattle.control.specs.Meaning.{newestMask}
+use mathlib.Core.Path.{ap, refl, sym, _∙_}
+use borrow.Author.Tests.{le-ltb, lt-ltb, le-leb, lt-leb, not-true, not-false}
+use Rattle.mask.specs.Masks.{byte}
+use Rattle.mask.specs.Placements.{Placement}
+use Rattle.cabinet_rules.specs.Delivery.{againByRails}
 use Rattle.cards.proofs.Rows.{place-by}
 use borrow.Author.Needs.{needs}
 use Rattle.cards.proofs.place_refusal.Statement.{statement}
@@ -15,60 +14,57 @@ use Rattle.mask.proofs.members.Reads as members-reads
 use Rattle.mask.proofs.within.Reads as within-reads
 
 returns : tie.Need-returns
-returns c = let k = c .before .args .k in let f : Fits w8 (newestMask k) = search needs in sym (sym (place-by k (c .before .pre) (c .before .args .mask) (omega arith) (f .fits) _ _ refl refl) ∙ rw (c .if1 .taken))
+returns c = let k = c .before .args .k in sym (sym (place-by k (c .before .pre) (c .before .args .mask) _ _ _ refl refl refl) ∙ rw (c .if1 .taken))
 
 members-requires : tie.Need-members-requires
 members-requires c κs = search needs
 
 returns-2 : tie.Need-returns-2
-returns-2 c = let k = c .before .before .before .args .k in let f : Fits w8 (newestMask k) = search needs in sym (sym (place-by k (c .before .before .before .pre) (c .before .before .before .args .mask) (omega arith) (f .fits) (c .before .members .result) _ (c .before .members .ensures) refl) ∙ rw (c .before .before .if1 .left, lt-ltb _ _ (c .if2 .taken)))
+returns-2 c = let k = c .before .before .before .args .k in sym (sym (place-by k (c .before .before .before .pre) (c .before .before .before .args .mask) (c .before .members .result) _ _ (c .before .members .ensures) refl refl) ∙ rw (c .before .before .if1 .left, lt-ltb _ _ (c .if2 .taken)))
 
 within-requires : tie.Need-within-requires
 within-requires c κs = search needs
 
 returns-3 : tie.Need-returns-3
-returns-3 c = let k = c .before .before .before .before .before .args .k in let f : Fits w8 (newestMask k) = search needs in sym (sym (place-by k (c .before .before .before .before .before .pre) (c .before .before .before .before .before .args .mask) (omega arith) (f .fits) (c .before .before .before .members .result) (c .before .within .result) (c .before .before .before .members .ensures) (c .before .within .ensures)) ∙ rw (c .before .before .before .before .if1 .left, le-ltb _ _ (c .before .before .if2 .left), not-true (c .before .within .result) (c .if3 .taken)))
+returns-3 c = let k = c .before .before .before .before .before .args .k in sym (sym (place-by k (c .before .before .before .before .before .pre) (c .before .before .before .before .before .args .mask) (c .before .before .before .members .result) (c .before .within .result) _ (c .before .before .before .members .ensures) (c .before .within .ensures) refl) ∙ rw (c .before .before .before .before .if1 .left, le-ltb _ _ (c .before .before .if2 .left), not-true (c .before .within .result) (c .if3 .taken)))
 
-newest-mask-requires : tie.Need-newest-mask-requires
-newest-mask-requires c κs = search needs
+newest-requires : tie.Need-newest-requires
+newest-requires c κs = search needs
+
+is-again-requires : tie.Need-is-again-requires
+is-again-requires c κs = search needs
 
 returns-4 : tie.Need-returns-4
 returns-4 c =
-    let n = c .before in
-    let e = n .before in
+    let a = c .before in
+    let e = a .before .before in
     let w = e .before in
     let m = w .before .before in
     let s = m .before .before in
-    let k = s .args .k in
-    let f : Fits w8 (newestMask k) = search needs in
-    sym (sym (place-by k (s .pre) (s .args .mask) (omega arith) (f .fits) (m .members .result) (w .within .result) (m .members .ensures) (w .within .ensures))
-    ∙ rw (m .before .if1 .left, le-ltb _ _ (w .before .if2 .left), not-false (w .within .result) (e .if3 .left), eq-eqb _ _ (c .if4 .taken ∙ n .newest-mask .ensures)))
+    sym (sym (place-by (s .args .k) (s .pre) (s .args .mask) (m .members .result) (w .within .result) (a .is-again .result) (m .members .ensures) (w .within .ensures) (a .is-again .ensures ∙ ap (λ (p : Placement). againByRails p (byte (s .args .mask))) (a .before .newest .ensures)))
+    ∙ rw (m .before .if1 .left, le-ltb _ _ (w .before .if2 .left), not-false (w .within .result) (e .if3 .left), c .if4 .taken))
 
 returns-5 : tie.Need-returns-5
 returns-5 c =
     let d = c .before .before in
-    let n = d .before in
-    let e = n .before in
+    let a = d .before in
+    let e = a .before .before in
     let w = e .before in
     let m = w .before .before in
     let s = m .before .before in
-    let k = s .args .k in
-    let f : Fits w8 (newestMask k) = search needs in
-    sym (sym (place-by k (s .pre) (s .args .mask) (omega arith) (f .fits) (m .members .result) (w .within .result) (m .members .ensures) (w .within .ensures))
-    ∙ rw (m .before .if1 .left, le-ltb _ _ (w .before .if2 .left), not-false (w .within .result) (e .if3 .left), ne-eqb _ _ (λ q. d .if4 .left (q ∙ sym (n .newest-mask .ensures))), le-leb _ _ (c .if5 .taken)))
+    sym (sym (place-by (s .args .k) (s .pre) (s .args .mask) (m .members .result) (w .within .result) (a .is-again .result) (m .members .ensures) (w .within .ensures) (a .is-again .ensures ∙ ap (λ (p : Placement). againByRails p (byte (s .args .mask))) (a .before .newest .ensures)))
+    ∙ rw (m .before .if1 .left, le-ltb _ _ (w .before .if2 .left), not-false (w .within .result) (e .if3 .left), d .if4 .left, le-leb _ _ (c .if5 .taken)))
 
 returns-6 : tie.Need-returns-6
 returns-6 c =
     let d = c .before .before in
-    let n = d .before in
-    let e = n .before in
+    let a = d .before in
+    let e = a .before .before in
     let w = e .before in
     let m = w .before .before in
     let s = m .before .before in
-    let k = s .args .k in
-    let f : Fits w8 (newestMask k) = search needs in
-    sym (sym (place-by k (s .pre) (s .args .mask) (omega arith) (f .fits) (m .members .result) (w .within .result) (m .members .ensures) (w .within .ensures))
-    ∙ rw (m .before .if1 .left, le-ltb _ _ (w .before .if2 .left), not-false (w .within .result) (e .if3 .left), ne-eqb _ _ (λ q. d .if4 .left (q ∙ sym (n .newest-mask .ensures))), lt-leb _ _ (c .if5 .left)))
+    sym (sym (place-by (s .args .k) (s .pre) (s .args .mask) (m .members .result) (w .within .result) (a .is-again .result) (m .members .ensures) (w .within .ensures) (a .is-again .ensures ∙ ap (λ (p : Placement). againByRails p (byte (s .args .mask))) (a .before .newest .ensures)))
+    ∙ rw (m .before .if1 .left, le-ltb _ _ (w .before .if2 .left), not-false (w .within .result) (e .if3 .left), d .if4 .left, lt-leb _ _ (c .if5 .left)))
 
 pub place-refusal-spec : {M : Type 1} → statement M
 place-refusal-spec =
@@ -79,7 +75,8 @@ place-refusal-spec =
     returns-2
     within-requires
     returns-3
-    newest-mask-requires
+    newest-requires
+    is-again-requires
     returns-4
     returns-5
     returns-6)

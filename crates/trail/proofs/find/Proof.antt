@@ -1,26 +1,25 @@
 -- The proof of `find`. Assumes nothing.
 use mathlib.Core.List.{List, _++_}
-use mathlib.Core.Path.{_∙_, _≡_, ap}
+use mathlib.Core.Path.{_∙_, _≡_, ap, ap₂, subst, sym}
 use Prim.Native.Nat.{_*_, _-_, _≤_, ℕ}
 use native.Mathlib.Omega.{arith}
 use borrow.Author.Needs.{needs}
 use Rattle.lists.specs.Tests.{keepIf}
 use Rattle.image.specs.Layout.{copyCount}
 use Rattle.mask.specs.Masks.{byte}
-use Rattle.mask.specs.Placements.{fromMask, sitesOf}
-use Rattle.control.specs.Meaning.{maskIn}
+use Rattle.mask.specs.Placements.{Placement, Usable, sitesOf}
 use Rattle.promise.proofs.Finish.{given-whole}
 use Rattle.trail.specs.Trail.{Lists, holdsAt}
-use Rattle.trail.proofs.Holding.{first-all, first-more, first-none, firstHolders, usable-mask}
+use Rattle.trail.proofs.Holding.{first-all, first-more, first-none, firstHolders, usable-at}
 use Rattle.trail.proofs.find.Statement.{statement}
 use Rattle.trail.proofs.find.Tie as tie
 
 abbrev Inv-loop : tie.InvT-loop
-Inv-loop image block masks count working found₀ i₀ found i =
-    (i ≤ count) × (found .count ≤ copyCount * i) × Lists found (firstHolders image (block .0) masks i)
+Inv-loop image k block count working found₀ i₀ found i =
+    (i ≤ count) × (found .count ≤ copyCount * i) × Lists found (firstHolders image (block .0) k i)
 
 abbrev μ-loop : tie.MeasureT-loop
-μ-loop image block masks count working found₀ i₀ found i = count - i
+μ-loop image k block count working found₀ i₀ found i = count - i
 
 cast-count : tie.Need-cast-count Inv-loop μ-loop
 cast-count c = search needs
@@ -35,15 +34,15 @@ loop-holds c = (
   },
 )
 
-array-read-push-sites : tie.Need-array-read-push-sites Inv-loop μ-loop
-array-read-push-sites c = let s = c .before .before .before .before .before in omega (arith, s .pre .0 .is .counted .few)
+placement-requires : tie.Need-placement-requires Inv-loop μ-loop
+placement-requires c κs = let s = c .before .before .before .before in omega (arith, s .pre .0 .is .counted .few)
 
 push-sites-requires : tie.Need-push-sites-requires Inv-loop μ-loop
 push-sites-requires c κs =
-    let l = c .before .loop in
+    let l = c .before .before .loop in
     let s = c .before .before .before .before .before in
     let given = s .pre .0 in (
-      (given-whole given, usable-mask (s .args .k) (s .args .image .now) given (l .i) (omega arith), s .pre .1),
+      (given-whole given, subst Usable (sym (c .placement .ensures)) (usable-at (s .args .k) (s .args .image .now) given (l .i) (omega arith)), s .pre .1),
       (l .inv .2 .sound, omega (arith, given .is .counted .few)),
     )
 
@@ -55,7 +54,7 @@ loop-less c = search needs
 
 loop-again : tie.Need-loop-again Inv-loop μ-loop
 loop-again c =
-    let l = c .before .before .loop in
+    let l = c .before .before .before .loop in
     let s = c .before .before .before .before .before .before in
     let a = s .args in
     let g = a .image .now in
@@ -65,7 +64,7 @@ loop-again c =
       record {
         sound = e .0 .sound;
         are = e .0 .are
-            ∙ ap (λ (x : List ℕ). x ++ keepIf (holdsAt g (byte (a .k .working)) (a .block .0)) (sitesOf (fromMask (byte (maskIn (a .k) (l .i)))) (a .block .0))) (l .inv .2 .are)
+            ∙ ap₂ (λ (x : List ℕ) (p : Placement). x ++ keepIf (holdsAt g (byte (a .k .working)) (a .block .0)) (sitesOf p (a .block .0))) (l .inv .2 .are) (c .before .placement .ensures)
             ∙ first-more (a .k) g (s .pre .0) (a .block .0) (l .i) (s .pre .1);
       },
     )
@@ -73,12 +72,12 @@ loop-again c =
 returns : tie.Need-returns Inv-loop μ-loop
 returns c =
     let l = c .before .loop in
-    let s = c .before .before .before .before .before in
+    let s = c .before .before .before .before in
     let a = s .args in
     let e : l .i ≡ a .k .count = omega arith in
     record {
       sound = l .inv .2 .sound;
-      are = l .inv .2 .are ∙ ap (firstHolders (a .image .now) (a .block .0) (a .k .masks)) e ∙ first-all (a .k) (a .image .now) (s .pre .0) (a .block .0);
+      are = l .inv .2 .are ∙ ap (firstHolders (a .image .now) (a .block .0) (a .k)) e ∙ first-all (a .k) (a .image .now) (s .pre .0) (a .block .0);
     }
 
 pub find-spec : {M : Type 1} → statement M
@@ -89,7 +88,7 @@ find-spec =
     μ-loop
     cast-count
     loop-holds
-    array-read-push-sites
+    placement-requires
     push-sites-requires
     add-i
     loop-less

@@ -10,6 +10,9 @@ cast-i c = search needs
 element-write-self : tie.Need-element-write-self
 element-write-self c = search needs
 
+shr-self : tie.Need-shr-self
+shr-self c = search needs
+
 add-self : tie.Need-add-self
 add-self c = search needs
 
@@ -17,4 +20,4 @@ returns : tie.Need-returns
 returns c = add-is (c .args .t1) (c .pre .0) (c .args .mask) (search needs) (search needs)
 
 pub add-spec : {M : Type 1} → statement M
-add-spec = tie.close (tie.spec cast-i element-write-self add-self returns)
+add-spec = tie.close (tie.spec cast-i element-write-self shr-self add-self returns)

@@ -74,6 +74,9 @@ shared-slice-read-t49 c = search needs
 shared-slice-read-t51 : tie.Need-shared-slice-read-t51
 shared-slice-read-t51 c = search needs
 
+shared-slice-read-t53 : tie.Need-shared-slice-read-t53
+shared-slice-read-t53 c = search needs
+
 returns : tie.Need-returns
 unfolding structOf
 returns c = refl
@@ -105,4 +108,5 @@ decode-spec =
     shared-slice-read-t47
     shared-slice-read-t49
     shared-slice-read-t51
+    shared-slice-read-t53
     returns)

@@ -1,6 +1,5 @@
 -- The proof of `codec::encode`. Assumes nothing.
-use mathlib.Core.Path.{_≡_, refl, ap, subst, _∙_}
-use mathlib.Core.Logic.{inl, inr}
+use mathlib.Core.Path.{_≡_, ap, subst, _∙_}
 use Prim.Native.Nat.{ℕ, _+_, _*_, _-_, _≤_}
 use native.Mathlib.Omega.{arith}
 use mir.Syntax.{w8}
@@ -8,8 +7,9 @@ use mir.Val.{Fits}
 use borrow.Author.Needs.{needs}
 use Rattle.control.specs.ControlBytes.{controlByte}
 use Rattle.control.specs.Meaning.{maskIn, meaning}
-use Rattle.control.proofs.Struct.{byte-first, byte-mask-at, byte-working, byte-failed, byte-home-at, byte-zero, bit-le}
-use Rattle.control.proofs.Written.{Written, none-written, one-written, zero-written, all-written}
+use Rattle.control.proofs.Struct.{byte-first, byte-mask-at, byte-working, byte-failed, byte-marks, byte-home-at}
+use Rattle.control.proofs.Struct.{byte-zero, bit-le}
+use Rattle.control.proofs.Written.{Written, none-written, one-written, all-written}
 use Rattle.control.proofs.codec.encode.Statement.{statement}
 use Rattle.control.proofs.codec.encode.Tie as tie
 
@@ -75,15 +75,22 @@ array-write-bytes-3 c = search needs
 array-write-bytes-4 : tie.Need-array-write-bytes-4 Inv-loop μ-loop Inv-loop2 μ-loop2
 array-write-bytes-4 c = search needs
 
+marks-byte-requires : tie.Need-marks-byte-requires Inv-loop μ-loop Inv-loop2 μ-loop2
+marks-byte-requires c κs = c .before .before .before .pre .few
+
+array-write-bytes-5 : tie.Need-array-write-bytes-5 Inv-loop μ-loop Inv-loop2 μ-loop2
+array-write-bytes-5 c = search needs
+
 loop2-holds : tie.Need-loop2-holds Inv-loop μ-loop Inv-loop2 μ-loop2
 loop2-holds c =
-    let l = c .before .loop in
-    let s = c .before .before .before in
+    let l = c .before .before .loop in
+    let s = c .before .before .before .before in
     let five : 1 + l .i ≡ 5 = omega arith in
     let masks = subst (λ (m : ℕ). Written (controlByte (meaning (s .args .t1))) m (l .bytes)) five (l .inv .1) in
     let working = one-written _ 5 6 (l .bytes) _ masks (omega arith) (omega arith) (byte-working (s .args .t1) (s .pre) (search needs)) in
     let failed = one-written _ 6 7 _ _ working (omega arith) (omega arith) (byte-failed (s .args .t1) (s .pre) (search needs)) in
-    (search needs, zero-written _ 7 8 _ failed (omega arith) (byte-zero (s .args .t1) (s .pre) 7 (inl refl)))
+    let marks = c .marks-byte .ensures ∙ byte-marks (s .args .t1) (s .pre) (search needs) in
+    (search needs, one-written _ 7 8 _ _ failed (omega arith) (omega arith) marks)
 
 element-copy-out-home-byte : tie.Need-element-copy-out-home-byte Inv-loop μ-loop Inv-loop2 μ-loop2
 element-copy-out-home-byte c = search needs
@@ -94,8 +101,8 @@ home-byte-requires c κs = search needs
 add-bytes-3 : tie.Need-add-bytes-3 Inv-loop μ-loop Inv-loop2 μ-loop2
 add-bytes-3 c = search needs
 
-array-write-bytes-5 : tie.Need-array-write-bytes-5 Inv-loop μ-loop Inv-loop2 μ-loop2
-array-write-bytes-5 c = search needs
+array-write-bytes-6 : tie.Need-array-write-bytes-6 Inv-loop μ-loop Inv-loop2 μ-loop2
+array-write-bytes-6 c = search needs
 
 add-t : tie.Need-add-t Inv-loop μ-loop Inv-loop2 μ-loop2
 add-t c = search needs
@@ -106,15 +113,15 @@ loop2-less c = search needs
 loop2-again : tie.Need-loop2-again Inv-loop μ-loop Inv-loop2 μ-loop2
 loop2-again c =
     let l = c .before .before .before .loop2 in
-    let s = c .before .before .before .before .before .before .before in
+    let s = c .before .before .before .before .before .before .before .before in
     let home = c .home-byte .ensures ∙ byte-home-at (s .args .t1) (s .pre) (l .t) (omega arith) in
     (omega arith, one-written _ (8 + l .t) (8 + (l .t + 1)) (l .bytes) _ (l .inv .1) (omega arith) (omega arith) home)
 
 returns : tie.Need-returns Inv-loop μ-loop Inv-loop2 μ-loop2
 returns c =
     let l = c .before .loop2 in
-    let s = c .before .before .before .before .before in
-    all-written _ (8 + l .t) (l .bytes) (l .inv .1) (λ j h. byte-zero (s .args .t1) (s .pre) j (inr (omega arith)))
+    let s = c .before .before .before .before .before .before in
+    all-written _ (8 + l .t) (l .bytes) (l .inv .1) (λ j h. byte-zero (s .args .t1) (s .pre) j (omega arith))
 
 pub encode-spec : {M : Type 1} → statement M
 encode-spec =
@@ -138,11 +145,13 @@ encode-spec =
     loop-again
     array-write-bytes-3
     array-write-bytes-4
+    marks-byte-requires
+    array-write-bytes-5
     loop2-holds
     element-copy-out-home-byte
     home-byte-requires
     add-bytes-3
-    array-write-bytes-5
+    array-write-bytes-6
     add-t
     loop2-less
     loop2-again

@@ -1,25 +1,24 @@
 -- The proof of `form::zero_fields_ok`. Assumes nothing.
-use mathlib.Core.Path.{_≡_}
+use mathlib.Core.Path.{_≡_, sym}
 use mathlib.Core.Bool.{true, false}
-use mathlib.Core.List.{List}
 use Prim.Native.Nat.{ℕ}
 use native.Mathlib.Omega.{arith}
 use borrow.Author.Needs.{needs}
 use borrow.Author.Tests.{eq-eqb, ne-eqb}
+use lib.Bits.{bitAnd}
+use lib.Dec.{eqb}
 use lib.ListN.{getD}
-use Rattle.control.specs.Meaning.{isZeroAt}
+use Rattle.control.specs.Meaning.{bitsFrom}
 use Rattle.control.proofs.Checks.{failed-is, passed-is}
 use Rattle.control.proofs.ZeroFields.{count-few, zero-fields-by}
 use Rattle.control.proofs.form.zero_fields_ok.Statement.{statement}
 use Rattle.control.proofs.form.zero_fields_ok.Tie as tie
 
-zero-fails : (l : List ℕ) (n : ℕ) → (getD l n 0 ≡ 0 → ⊥) → isZeroAt l n ≡ false
-unfolding isZeroAt
-zero-fails l n h = ne-eqb (getD l n 0) 0 h
+marks-fail : {r : ℕ} (m n : ℕ) → r ≡ bitsFrom n → (bitAnd m r ≡ 0 → ⊥) → eqb (bitAnd m (bitsFrom n)) 0 ≡ false
+marks-fail m n e h = rw (sym e) (ne-eqb _ 0 h)
 
-zero-holds : (l : List ℕ) (n : ℕ) → getD l n 0 ≡ 0 → isZeroAt l n ≡ true
-unfolding isZeroAt
-zero-holds l n h = eq-eqb (getD l n 0) 0 h
+marks-hold : {r : ℕ} (m n : ℕ) → r ≡ bitsFrom n → bitAnd m r ≡ 0 → eqb (bitAnd m (bitsFrom n)) 0 ≡ true
+marks-hold m n e h = rw (sym e) (eq-eqb _ 0 h)
 
 shared-slice-read-if1 : tie.Need-shared-slice-read-if1
 shared-slice-read-if1 c = search needs
@@ -55,14 +54,20 @@ returns-2 c =
 shared-slice-read-if3 : tie.Need-shared-slice-read-if3
 shared-slice-read-if3 c = search needs
 
+no-marks-requires : tie.Need-no-marks-requires
+no-marks-requires c κs =
+    let s = c .before .before .before .before .before .before .before in
+    count-few (s .args .s .now) (s .pre .1)
+
 returns-3 : tie.Need-returns-3
 returns-3 c =
-    let a = c .before .before .before .before .before .before .before in
+    let m = c .before in
+    let a = m .before .before .before .before .before .before .before in
     rw (
       zero-fields-by (a .before .args .s .now) (a .before .pre .1) (λ n. a .shared-slice-known .given n .fits),
-      eq-eqb _ _ (c .before .before .before .before .before .if1 .left),
-      passed-is (c .before .before .before .zeros .ensures) (c .before .before .if2 .left),
-      zero-fails _ _ (c .if3 .taken),
+      eq-eqb _ _ (m .before .before .before .before .before .if1 .left),
+      passed-is (m .before .before .before .zeros .ensures) (m .before .before .if2 .left),
+      marks-fail (getD (a .before .args .s .now) 7 0) _ (m .no-marks .ensures) (c .if3 .taken),
     )
 
 home-bytes-ok-requires : tie.Need-home-bytes-ok-requires
@@ -70,12 +75,13 @@ home-bytes-ok-requires c κs = search needs
 
 returns-4 : tie.Need-returns-4
 returns-4 c =
-    let a = c .before .before .before .before .before .before .before .before .before in
+    let m = c .before .before .before in
+    let a = m .before .before .before .before .before .before .before in
     rw (
       zero-fields-by (a .before .args .s .now) (a .before .pre .1) (λ n. a .shared-slice-known .given n .fits),
-      eq-eqb _ _ (c .before .before .before .before .before .before .before .if1 .left),
-      passed-is (c .before .before .before .before .before .zeros .ensures) (c .before .before .before .before .if2 .left),
-      zero-holds _ _ (c .before .before .if3 .left),
+      eq-eqb _ _ (m .before .before .before .before .before .if1 .left),
+      passed-is (m .before .before .before .zeros .ensures) (m .before .before .if2 .left),
+      marks-hold (getD (a .before .args .s .now) 7 0) _ (m .no-marks .ensures) (c .before .before .if3 .left),
       failed-is (c .before .home-bytes-ok .ensures) (c .if4 .taken),
     )
 
@@ -84,12 +90,13 @@ zeros-requires-2 c κs = search needs
 
 returns-5 : tie.Need-returns-5
 returns-5 c =
-    let a = c .before .before .before .before .before .before .before .before .before .before in
+    let m = c .before .before .before .before in
+    let a = m .before .before .before .before .before .before .before in
     rw (
       zero-fields-by (a .before .args .s .now) (a .before .pre .1) (λ n. a .shared-slice-known .given n .fits),
-      eq-eqb _ _ (c .before .before .before .before .before .before .before .before .if1 .left),
-      passed-is (c .before .before .before .before .before .before .zeros .ensures) (c .before .before .before .before .before .if2 .left),
-      zero-holds _ _ (c .before .before .before .if3 .left),
+      eq-eqb _ _ (m .before .before .before .before .before .if1 .left),
+      passed-is (m .before .before .before .zeros .ensures) (m .before .before .if2 .left),
+      marks-hold (getD (a .before .args .s .now) 7 0) _ (m .no-marks .ensures) (c .before .before .before .if3 .left),
       passed-is (c .before .before .home-bytes-ok .ensures) (c .before .if4 .left),
     )
     (c .zeros2 .ensures)
@@ -106,6 +113,7 @@ zero-fields-ok-spec =
     zeros-requires
     returns-2
     shared-slice-read-if3
+    no-marks-requires
     returns-3
     home-bytes-ok-requires
     returns-4

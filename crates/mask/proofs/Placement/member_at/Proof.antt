@@ -6,10 +6,10 @@ use lib.Count.{ones, ones-le}
 use lib.ListN.{length, getD}
 use borrow.Author.Needs.{needs}
 use Rattle.mask.specs.Masks.{byte, members, size}
-use Rattle.mask.specs.Placements.{fromMask, memberAt}
+use Rattle.mask.specs.Placements.{memberAt}
 use Rattle.mask.proofs.Masks.{has-card, size-members}
 use Rattle.mask.proofs.Sets.{size-is}
-use Rattle.mask.proofs.Sites.{member-at}
+use Rattle.mask.proofs.SiteLaws.{member-at}
 use Rattle.mask.proofs.Placement.member_at.Statement.{statement}
 use Rattle.mask.proofs.Placement.member_at.Tie as tie
 use Rattle.mask.proofs.Placement.member_at.Reads as reads
@@ -41,9 +41,9 @@ returns c =
     let m = byte (a .self .mask) in
     let e : ones (a .self .mask) ≡ length (members m) = size-is (a .self .mask) (search needs) ∙ sym (size-members m) in
     let some : 0 < length (members m) = rw (size-members m) (omega arith) in
-    let at : c .nth-member .result ≡ memberAt (fromMask m) (a .i) =
+    let at : c .nth-member .result ≡ memberAt m (a .i) =
     c .nth-member .ensures ∙ ap (λ (n : ℕ). getD (members m) (a .i % n) 0) e in
-    (at, rw at (has-card m (memberAt (fromMask m) (a .i)) (member-at (fromMask m) (a .i) some)))
+    (at, rw at (has-card m (memberAt m (a .i)) (member-at m (a .i) some)))
 
 pub member-at-spec : {M : Type 1} → statement M
 member-at-spec = tie.close (tie.spec cast-nth-member rem-nth-member nth-member-requires returns)

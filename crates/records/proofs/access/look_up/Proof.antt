@@ -5,7 +5,6 @@ use native.Mathlib.Omega.{arith}
 use borrow.Author.Needs.{needs}
 use Rattle.image.specs.Layout.{recordCount}
 use Rattle.method.specs.Rules.{get}
-use Rattle.control.proofs.Struct.{newest-by}
 use Rattle.promise.proofs.Finish.{form-row, given, given-whole}
 use Rattle.records.proofs.LookUp.{early-row, lists-at, locked-row, ready-up, rec-known, refused-up}
 use Rattle.records.proofs.access.look_up.Statement.{statement}
@@ -86,8 +85,8 @@ returns-3 c =
     refused-up (a .image .now) (a .tran .0) (a .rec .0) (c .refused3 .result) 7 (c .refused3 .ensures) (λ z. omega arith)
     (locked-row (a .image .now) (a .tran .0) (a .rec .0) (f .read .result) (f .read .ensures) (e .if1 .left) (y .early-rows .result) (y .early-rows .ensures) (x .if2 .left) (sym (o .locked-out .ensures) ∙ t .if3 .taken))
 
-newest-mask-requires : tie.Need-newest-mask-requires
-newest-mask-requires c κs =
+newest-requires : tie.Need-newest-requires
+newest-requires c κs =
     let e = c .before .before .before .before .before .before .before in
     e .before .before .read .ensures .good (e .if1 .left) .counted
 
@@ -103,7 +102,7 @@ returns-4 c =
     let f = e .before .before in
     let a = f .before .before .args in
     ready-up (a .image .now) (a .tran .0) (a .rec .0) (f .read .result) (f .read .ensures) (e .if1 .left) (y .early-rows .result) (y .early-rows .ensures) (x .if2 .left) _ (sym (o .locked-out .ensures) ∙ t .if3 .left) refl
-    (newest-by (f .read .result .control) (c .newest-mask .result) (c .newest-mask .ensures)) (lists-at (a .image .now) (h .find .result) (b .block-of .ensures) (h .find .ensures))
+    (c .newest .ensures) (lists-at (a .image .now) (h .find .result) (b .block-of .ensures) (h .find .ensures))
 
 pub look-up-spec : {M : Type 1} → statement M
 look-up-spec =
@@ -120,5 +119,5 @@ look-up-spec =
     locked-out-requires
     refused-requires-3
     returns-3
-    newest-mask-requires
+    newest-requires
     returns-4)

@@ -8,6 +8,7 @@ use Rattle.promise.proofs.Finish.{given-whole}
 use Rattle.reorganise.proofs.Looks.{newest-usable}
 use Rattle.reorganise.proofs.Moves.{accepted, move-done}
 use borrow.Author.Needs.{needs}
+use Rattle.mask.proofs.SiteLaws.{first-fits, second-fits}
 use Rattle.reorganise.proofs.moving.spread.Statement.{statement}
 use Rattle.reorganise.proofs.moving.spread.Tie as tie
 
@@ -20,13 +21,13 @@ holds-requires : tie.Need-holds-requires
 holds-requires c κs =
     let n = c .before .before .before in
     let s = n .before .before in
-    (given-whole (s .pre .0), n .newest-sites .ensures .first-fits, accepted (s .args .image .now) (s .args .card .0) (s .args .block .0) (s .pre .1) .1)
+    (given-whole (s .pre .0), first-fits (n .newest-sites .ensures), accepted (s .args .image .now) (s .args .card .0) (s .args .block .0) (s .pre .1) .1)
 
 holds-requires-2 : tie.Need-holds-requires-2
 holds-requires-2 c κs =
     let n = c .before .before .before .before .before in
     let s = n .before .before in
-    (given-whole (s .pre .0), n .newest-sites .ensures .second-fits, accepted (s .args .image .now) (s .args .card .0) (s .args .block .0) (s .pre .1) .1)
+    (given-whole (s .pre .0), second-fits (n .newest-sites .ensures), accepted (s .args .image .now) (s .args .card .0) (s .args .block .0) (s .pre .1) .1)
 
 is-site-requires : tie.Need-is-site-requires
 is-site-requires c κs = search needs
@@ -41,14 +42,14 @@ fill-requires : tie.Need-fill-requires
 fill-requires c κs =
     let n = c .before .before .before .before .before .before .before .before .before .before in
     let s = n .before .before in
-    (given-whole (s .pre .0), n .newest-sites .ensures .first-fits, accepted (s .args .image .now) (s .args .card .0) (s .args .block .0) (s .pre .1) .1)
+    (given-whole (s .pre .0), first-fits (n .newest-sites .ensures), accepted (s .args .image .now) (s .args .card .0) (s .args .block .0) (s .pre .1) .1)
 
 fill-requires-2 : tie.Need-fill-requires-2
 fill-requires-2 c κs =
     let n = c .before .before .before .before .before .before .before .before .before .before .before .before .before .before in
     let s = n .before .before in
     let w : Whole (s .args .image .now) = given-whole (s .pre .0) in
-    (search needs, n .newest-sites .ensures .second-fits, accepted (s .args .image .now) (s .args .card .0) (s .args .block .0) (s .pre .1) .1)
+    (search needs, second-fits (n .newest-sites .ensures), accepted (s .args .image .now) (s .args .card .0) (s .args .block .0) (s .pre .1) .1)
 
 fill-requires-3 : tie.Need-fill-requires-3
 fill-requires-3 c κs =

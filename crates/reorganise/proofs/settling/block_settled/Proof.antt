@@ -9,8 +9,9 @@ use Rattle.lists.specs.Tests.{allBelow, elem}
 use Rattle.lists.proofs.Counts.{all-more}
 use Rattle.image.specs.Layout.{cardCount}
 use Rattle.mask.specs.Masks.{byte}
+use Rattle.mask.specs.Placements.{siteList}
 use Rattle.trail.specs.Trail.{holdsAt}
-use Rattle.reorganise.specs.Reorganise.{cardSettled, siteList}
+use Rattle.reorganise.specs.Reorganise.{cardSettled}
 use Rattle.reorganise.proofs.Settles.{block-fails, block-passes}
 use Rattle.reorganise.proofs.settling.block_settled.Statement.{statement}
 use Rattle.reorganise.proofs.settling.block_settled.Tie as tie

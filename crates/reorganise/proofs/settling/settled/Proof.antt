@@ -1,6 +1,7 @@
 -- The proof of `settling::settled`. Assumes nothing.
 use Prim.Native.Nat.{_-_, _≤_}
 use borrow.Author.Needs.{needs}
+use Rattle.mask.proofs.SiteLaws.{first-fits, second-fits}
 use borrow.Author.Tests.{not-false, not-true}
 use mathlib.Core.Bool.{true}
 use mathlib.Core.Path.{_∙_, _≡_, refl, sym}
@@ -39,7 +40,7 @@ block-settled-requires : tie.Need-block-settled-requires Inv-loop μ-loop
 block-settled-requires c κs =
     let n = c .newest-sites .ensures in
     let s = c .before .before .before .before in
-    ((given-whole (s .pre), omega arith), (n .first-fits, n .second-fits))
+    ((given-whole (s .pre), omega arith), (first-fits n, second-fits n))
 
 returns : tie.Need-returns Inv-loop μ-loop
 returns c =

@@ -1,0 +1,19 @@
+use borrow.Author.Needs.{needs}
+use Rattle.mask.specs.Placements.{meant}
+use Rattle.mask.proofs.SiteLaws.{are-sites}
+use Rattle.mask.proofs.Placement.sites.Statement.{statement}
+use Rattle.mask.proofs.Placement.sites.Tie as tie
+
+member-at-requires : tie.Need-member-at-requires
+member-at-requires c κs = search needs
+
+second-site-requires : tie.Need-second-site-requires
+second-site-requires c κs = search needs
+
+returns : tie.Need-returns
+returns c =
+    let s = c .before .before in
+    are-sites _ (meant (s .args .self)) (s .args .block .0) (s .pre .0) (c .second-site .ensures)
+
+pub sites-spec : {M : Type 1} → statement M
+sites-spec = tie.close (tie.spec member-at-requires second-site-requires returns)
