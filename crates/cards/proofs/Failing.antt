@@ -15,7 +15,7 @@ use Rattle.lists.proofs.Counts.{any-below-out, pigeon}
 use Rattle.lists.proofs.Lists.{any-none}
 use Rattle.image.specs.Layout.{cardCount, copyCount}
 use Rattle.mask.specs.Masks.{Byte, byte, hasCard, isOneMore, withCard, withoutCard}
-use Rattle.mask.specs.Placements.{Placement, fromMask, placementWithout}
+use Rattle.mask.specs.Placements.{Placement, fromMask}
 use Rattle.mask.proofs.Masks.{byte-path, has-card, has-with}
 use Rattle.slot.specs.Blocks.{inSet}
 use Rattle.method.specs.Changes.{marked}
@@ -142,7 +142,7 @@ module _ (g : Image) (clear : formRefusal g ≡ 0) (k : Struct) (i : Is k (contr
     closedPart = closed (marked cabinet (controlIn g) c) (begunAt (controlIn g) c)
 
     pub placed-plan : hasCard (controlIn g .newest .mask) c ≡ true
-        → planOn (fail c) g ≡ writing cabinet (placed (withoutCard (controlIn g .newest .mask) c)) (added closedPart (placementWithout (controlIn g .newest) c)) (dropHeld cabinet (begunAt (controlIn g) c) c (look cabinet (stateIn g)))
+        → planOn (fail c) g ≡ writing cabinet (placed (withoutCard (controlIn g .newest .mask) c)) (added closedPart (fromMask (withoutCard (controlIn g .newest .mask) c))) (dropHeld cabinet (begunAt (controlIn g) c) c (look cabinet (stateIn g)))
     unfolding act
     placed-plan h = rw (s, h)
 
@@ -157,7 +157,7 @@ module _ (g : Image) (clear : formRefusal g ≡ 0) (k : Struct) (i : Is k (contr
 
       -- the new placement
       pub added-is : (mask : ℕ) (y : Struct) → byte mask ≡ withoutCard (controlIn g .newest .mask) c → Is y (added (meaning x) (fromMask (byte mask)))
-          → meaning y ≡ added closedPart (placementWithout (controlIn g .newest) c)
+          → meaning y ≡ added closedPart (fromMask (withoutCard (controlIn g .newest .mask) c))
       added-is mask y e iy = iy .means ∙ ap₂ (λ (p : Part) (b : Byte). added p (fromMask b)) closed-is e
 
       pub room : hasCard (controlIn g .newest .mask) c ≡ true → x .count < 4

@@ -10,7 +10,7 @@ use Rattle.lists.specs.Tabulate.{tabulate}
 use Rattle.image.specs.Layout.{cardCount, copyCount}
 use Rattle.mask.specs.declared.Placement.{Placement as Struct}
 use Rattle.mask.specs.declared.Sites.{Sites}
-use Rattle.mask.specs.Masks.{Byte, byte, hasCard, withoutCard, members, size}
+use Rattle.mask.specs.Masks.{Byte, byte, hasCard, members, size}
 
 -- Members in rising order are c0 to c(m−1); member number i, going round.
 unfoldable pub memberAt : Byte → ℕ → ℕ
@@ -80,10 +80,6 @@ sitesOf p b = cond (p .byRails) (railSites (p .mask) b) (chainedSites (p .mask) 
 -- Two members at least.
 abbrev pub leastMembers : ℕ
 leastMembers = copyCount
-
--- The placement without a card.
-abbrev pub placementWithout : Placement → ℕ → Placement
-placementWithout p c = fromMask (withoutCard (p .mask) c)
 
 -- As many members as copies.
 abbrev pub Usable : Placement → Type 0
