@@ -85,6 +85,11 @@ pub nand : (a b : Bool) → (a ≡ true → b ≡ false) → not (a && b) ≡ tr
 nand true b h = is-not b (h refl)
 nand false b h = refl
 
+-- behind a test, only what holds where it passes matters
+pub and-when : (a x y : Bool) → (a ≡ true → x ≡ y) → (a && x) ≡ (a && y)
+and-when true x y e = e refl
+and-when false x y e = refl
+
 -- equality of two tests, as a test
 pub same-bool : (a b : Bool) → Bool·beq a b ≡ true → a ≡ b
 same-bool true true e = refl

@@ -103,6 +103,19 @@ any-below-out (suc n) f e = go (split (f n)) (any-below-out n f)
     go (inl q) ih = (n, omega arith, q)
     go (inr q) ih = let r = ih (rw q at e) in let h : r .0 < n = r .1 in (r .0, omega arith, r .2)
 
+-- a count above 0 has counted one
+pub count-some : (n : ℕ) (f : ℕ → Bool) → 0 < count n f → (i : ℕ) × (i < n) × (f i ≡ true)
+count-some zero f h = absurd (omega arith)
+count-some (suc n) f h = go (split (f n)) (count-some n f)
+  where
+    go : (f n ≡ true) ⊎ (f n ≡ false) → (0 < count n f → (i : ℕ) × (i < n) × (f i ≡ true)) → (i : ℕ) × (i < suc n) × (f i ≡ true)
+    go (inl q) ih = (n, omega arith, q)
+    go (inr q) ih =
+        let z : 0 < 0 + count n f = rw q at h in
+        let r = ih (omega arith) in
+        let b : r .0 < n = r .1 in
+        (r .0, omega arith, r .2)
+
 -- a test of all pairs below two bounds, computed, holds of each
 pub at-pair : (p : ℕ → ℕ → Bool) (m n : ℕ) → allBelow m (λ i. allBelow n (p i)) ≡ true → (i : ℕ) → i < m → (k : ℕ) → k < n → p i k ≡ true
 at-pair p m n t i hi k hk = below-all n (p i) k (below-all m (λ j. allBelow n (p j)) i t hi) hk

@@ -1,13 +1,13 @@
 -- Which changes of the control part keep the form of a running store. Assumes nothing.
 use Prim.Native.Nat.{_<_, _≤_, suc, zero, ℕ}
-use mathlib.Core.Bool.{Bool, _&&_, false, true}
+use mathlib.Core.Bool.{_&&_, false, true}
 use mathlib.Core.List.{[], _∷_}
 use mathlib.Core.Logic.{_⊎_, inl, inr}
 use mathlib.Core.Option.{Option}
 use mathlib.Core.Path.{_∙_, _≡_, ap, fun-ext, refl, sym}
 use native.Mathlib.Omega.{arith}
 use Rattle.lists.specs.Tests.{In, count}
-use Rattle.lists.proofs.Bools.{and-in, and-l, and-r, tf}
+use Rattle.lists.proofs.Bools.{and-in, and-l, and-r, and-when, tf}
 use Rattle.lists.proofs.Counts.{count-mono}
 use Rattle.lists.proofs.Lists.{in-cases, in-right}
 use Rattle.method.specs.Changes.{Control, startedBy}
@@ -110,19 +110,15 @@ module _ (P : Parameters) (L : Laws P) where
       newWorks = λ c h. eq (k .newest) c (newest-in P k) h .0 ∙ g .newWorks c h;
     }
       where
-        inside : (a x y : Bool) → (a ≡ true → x ≡ y) → (a && x) ≡ (a && y)
-        inside true x y e = e refl
-        inside false x y e = refl
-
         safe′ : (p : Placement) → In p (active k) → lostOf P (k .setting) w d p ≡ false
         safe′ p m =
             let old = f .safe p m in
             let few : count cards (λ c. has (mask p) c && has (k .failed) c) < copies (k .setting) = few-failed P (k .setting) (k .working) (k .failed) p old in
             let many : copies (k .setting) ≤ count cards (λ c. has (mask p) c && has (k .working) c) = enough-work P (k .setting) (k .working) (k .failed) p old in
             let same-d : count cards (λ c. has (mask p) c && has d c) ≡ count cards (λ c. has (mask p) c && has (k .failed) c) =
-            ap (count cards) (fun-ext (λ c. inside (has (mask p) c) (has d c) (has (k .failed) c) (λ h. eq p c m h .1))) in
+            ap (count cards) (fun-ext (λ c. and-when (has (mask p) c) (has d c) (has (k .failed) c) (λ h. eq p c m h .1))) in
             let same-w : count cards (λ c. has (mask p) c && has w c) ≡ count cards (λ c. has (mask p) c && has (k .working) c) =
-            ap (count cards) (fun-ext (λ c. inside (has (mask p) c) (has w c) (has (k .working) c) (λ h. eq p c m h .0))) in
+            ap (count cards) (fun-ext (λ c. and-when (has (mask p) c) (has w c) (has (k .working) c) (λ h. eq p c m h .0))) in
             not-lost P (k .setting) w d p (omega arith) (omega arith)
 
   pub form-started : (a : StartArgument) → startRefusal a ≡ 0 → Form P (startedBy P a)
