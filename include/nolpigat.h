@@ -156,8 +156,8 @@ uint32_t nolpigat_move(uint8_t *image, size_t length, uint8_t card, uint8_t bloc
  * Answer: retired with the number of placements retired. Refused: 13 the condition is unmet. */
 uint32_t nolpigat_settle(uint8_t *image, size_t length);
 
-/* state: whether exactly one placement is active.
- * Answer: protected or unprotected. */
+/* state: what the failure of one card would do.
+ * Answer: protected, when failing any one working card would not stop the store, or unprotected. */
 uint32_t nolpigat_state(const uint8_t *image, size_t length);
 
 /* load: how many records are committed present in the card's held blocks.

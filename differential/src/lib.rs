@@ -4,6 +4,7 @@ pub mod archive;
 pub mod cases;
 pub mod lists;
 pub mod pair;
+pub mod protection;
 pub mod requests;
 pub mod run;
 pub mod single;

@@ -3,6 +3,7 @@
 
 use crate::archive::code;
 use crate::pair::{Outcome, Pair, Request, ALIGNMENTS};
+use crate::protection::{self, IN_LIST};
 use crate::run::Run;
 use model::commands::read_command;
 use model::control::Control;
@@ -23,6 +24,9 @@ const NO_STOP: &str = "fail of a working card, no stop as the plain list says";
 /// Operations whose answers are the plain list's: get, store, delete, commit and rollback.
 const PLAIN_OPERATIONS: std::ops::RangeInclusive<usize> = 2..=6;
 
+/// The plain list has a word for it, beyond demand 3.
+const STATE: usize = 13;
+
 fn list_name(kind: &str, from_older: bool) -> String {
     format!("call of a list of kind {kind}{}", if from_older { ", from an older image" } else { "" })
 }
@@ -41,6 +45,7 @@ pub fn classes() -> Vec<String> {
     let mut all: Vec<String> = KINDS.iter().flat_map(|(name, _)| [false, true].map(|o| list_name(name, o))).collect();
     all.extend((1..=4).map(beginning_name));
     all.extend(PLAIN_OPERATIONS.flat_map(|operation| [plain_name(operation, false), plain_name(operation, true)]));
+    all.push(plain_name(STATE, false));
     all.extend([NOISE, STOP, NO_STOP].map(String::from));
     all.extend(OVER_OLD.iter().map(|name| name.to_string()));
     all
@@ -88,7 +93,7 @@ impl ListRun {
             let request = if by_bytes { Request::Command(&bytes) } else { Request::Call(call) };
             let before = Control::read(self.pair.image());
             let outcome = run.perform(&mut self.pair, &request);
-            count_over_old(run, before, &call, &outcome);
+            count_situations(run, before, &call, &outcome);
             self.compare_with_plain(run, &request, &call, &outcome);
         }
     }
@@ -114,19 +119,23 @@ impl ListRun {
         };
         count_plain(run, request.operation(), call, outcome, expected);
         let image = self.pair.archive_image();
-        let same_cards = self.list.plain.as_ref().is_none_or(|plain| same_cards(plain, image));
-        if !agrees || !same_cards {
-            run.report(request, &format!("the plain list expects {expected:?}; same cards: {same_cards}; {outcome}"));
+        let plain = self.list.plain.as_ref();
+        let same_cards = plain.is_none_or(|plain| same_cards(plain, image));
+        let same_word = *call != Call::State || plain.is_none_or(|plain| outcome.code == code(plain.state()));
+        if !agrees || !same_cards || !same_word {
+            let same = format!("same cards: {same_cards}, same word of state: {same_word}");
+            run.report(request, &format!("the plain list expects {expected:?}; {same}; {outcome}"));
         }
     }
 }
 
-/// What is special in a store with old placements.
-fn count_over_old(run: &mut Run, before: Option<Control>, call: &Call, outcome: &Outcome) {
+/// What is special in a store with old placements, and about a state.
+fn count_situations(run: &mut Run, before: Option<Control>, call: &Call, outcome: &Outcome) {
     let Some(control) = before.filter(|control| !control.stopped && call.in_range()) else { return };
     for name in rail_situations(&control, call, &outcome.answer) {
         run.cases.add(&name);
     }
+    protection::count(run, IN_LIST, &control, call, &outcome.answer);
 }
 
 fn count_plain(run: &mut Run, operation: usize, call: &Call, outcome: &Outcome, expected: Expected) {
@@ -135,6 +144,7 @@ fn count_plain(run: &mut Run, operation: usize, call: &Call, outcome: &Outcome, 
             run.cases.add(&plain_name(operation, matches!(answer, Answer::Refused(_))));
         }
         (Expected::Stops, _) => run.cases.add(STOP),
+        (Expected::Free, Answer::Protected | Answer::Unprotected) => run.cases.add(&plain_name(STATE, false)),
         (Expected::Free, Answer::Placed(_) | Answer::Unplaced) if matches!(call, Call::Fail { .. }) => {
             run.cases.add(NO_STOP)
         }

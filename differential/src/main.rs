@@ -2,7 +2,7 @@
 //! Exit 1 on a difference, or if a run of 200,000 calls or more misses a class of cases.
 
 use differential::run::Run;
-use differential::{lists, single};
+use differential::{lists, protection, single};
 use std::process::exit;
 use std::time::Instant;
 
@@ -26,7 +26,7 @@ fn main() {
     let middle = Instant::now();
     lists::run(&mut run, calls - calls / 2);
     run.cases.print();
-    let named = [single::argument_classes(), lists::classes()].concat();
+    let named = [single::argument_classes(), lists::classes(), protection::classes()].concat();
     let faults = run.cases.faults(&single::image_classes(), &named);
     for fault in &faults {
         println!("fault of the run: {fault}");

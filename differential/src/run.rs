@@ -2,6 +2,7 @@
 
 use crate::cases::Cases;
 use crate::pair::{Outcome, Pair, Request};
+use crate::protection;
 use model::random::Random;
 
 /// Differences beyond these are counted and not printed.
@@ -28,6 +29,7 @@ impl Run {
         if !outcome.same() {
             self.report(request, &outcome.to_string());
         }
+        protection::check(self, request, pair.archive_image(), outcome.code);
         outcome
     }
 

@@ -2,6 +2,7 @@
 
 use crate::cases::{Entries, COMMAND_ENTRY, ENTRIES};
 use crate::pair::{Pair, Request, ALIGNMENTS};
+use crate::protection::{self, SINGLE};
 use crate::requests::{command_class, command_classes, random_command, Requests, RECORD_ENDS};
 use crate::run::Run;
 use model::clauses::{broken, broken_control, Clause, CLAUSES};
@@ -135,8 +136,9 @@ fn calls_on(run: &mut Run, pair: &mut Pair, requests: &mut Requests, image: &[u8
         } else {
             let call = requests.call(&mut run.random);
             let request = Request::Call(call);
-            run.perform(pair, &request);
+            let outcome = run.perform(pair, &request);
             count_record(run, &call);
+            count_state(run, image, &call, outcome.answer);
             entries[request.operation()] += 1;
         }
         if pair.image() != image {
@@ -162,6 +164,13 @@ fn count_record(run: &mut Run, call: &Call) {
         for (_, name) in RECORD_ENDS.iter().filter(|(end, _)| *end == record) {
             run.cases.add(name);
         }
+    }
+}
+
+fn count_state(run: &mut Run, image: &[u8], call: &Call, answer: Answer) {
+    if let (Call::State, Answer::Protected | Answer::Unprotected) = (call, answer) {
+        let control = Control::read(image).expect("an accepted state finds the form whole");
+        protection::count(run, SINGLE, &control, call, &answer);
     }
 }
 

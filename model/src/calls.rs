@@ -1,7 +1,7 @@
 //! The fifteen calls.
 
 use crate::control::{bit, count, has, Control};
-use crate::edition::{Edition, TODAY};
+use crate::edition::Edition;
 use crate::image::*;
 use crate::sites::{holders, members, sites};
 
@@ -121,7 +121,7 @@ pub fn started(mask: u8) -> Vec<u8> {
 
 /// Runs one call by today's rules. A refused call changes no byte.
 pub fn perform(image: &mut [u8], call: &Call) -> Answer {
-    perform_by(TODAY, image, call)
+    perform_by(Edition::Today, image, call)
 }
 
 /// Runs one call by the rules of the edition.
@@ -152,7 +152,7 @@ pub fn perform_by(edition: Edition, image: &mut [u8], call: &Call) -> Answer {
         Call::Fail { card } => fail(edition, image, control, card as usize),
         Call::Move { card, block } => move_block(image, &control, card as usize, block as usize),
         Call::Settle => settle(image, control),
-        Call::State if control.placements.len() == 1 => Answer::Protected,
+        Call::State if edition.protected(&control) => Answer::Protected,
         Call::State => Answer::Unprotected,
         Call::Load { card } => load(image, &control, card as usize),
     }
@@ -325,8 +325,8 @@ fn fail(edition: Edition, image: &mut [u8], mut control: Control, card: usize) -
     if !has(control.working, card) {
         return Answer::Refused(8);
     }
+    control.stopped = control.stops_without(card);
     control.mark_failed(card);
-    control.stopped = control.must_stop();
     let closing = if control.stopped { control.open() } else { control.open_at(card) };
     unlock(image, &mut control, &closing, Slot::drop_pending);
     let answer = if control.stopped {

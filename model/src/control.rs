@@ -1,8 +1,8 @@
 //! The control part: bytes 0 to 31, and its form.
 
-use crate::edition::{Edition, TODAY};
+use crate::edition::Edition;
 use crate::image::{CARDS, CONTROL};
-use crate::sites::Placement;
+use crate::sites::{members, Placement};
 
 pub const TRANSACTIONS: usize = 15;
 
@@ -65,7 +65,7 @@ impl Control {
 
     /// By today's form; None when it is broken.
     pub fn read(bytes: &[u8]) -> Option<Control> {
-        Control::read_by(TODAY, bytes)
+        Control::read_by(Edition::Today, bytes)
     }
 
     pub fn read_by(edition: Edition, bytes: &[u8]) -> Option<Control> {
@@ -118,10 +118,22 @@ impl Control {
     }
 
     /// Some active placement has two failed or fewer than two working members.
-    pub fn must_stop(&self) -> bool {
+    fn must_stop(&self) -> bool {
         self.placements
             .iter()
             .any(|Placement { mask, .. }| count(mask & self.failed) >= 2 || count(mask & self.working) < 2)
+    }
+
+    /// A fail of this working card stops the store.
+    pub fn stops_without(&self, card: usize) -> bool {
+        let mut after = self.clone();
+        after.mark_failed(card);
+        after.must_stop()
+    }
+
+    /// Failing any one working card would not stop the store.
+    pub fn protected(&self) -> bool {
+        !members(self.working).into_iter().any(|card| self.stops_without(card))
     }
 
     pub fn write(&self, bytes: &mut [u8]) {

@@ -14,8 +14,10 @@ pub fn random_image(random: &mut Random) -> Vec<u8> {
     image
 }
 
+/// Now and then a mask of few members, so that placements of two occur.
 fn random_mask(random: &mut Random, from: u8) -> u8 {
-    from & (random.byte() | random.byte())
+    let (one, other) = (random.byte(), random.byte());
+    from & if random.chance(250) { one & other } else { one | other }
 }
 
 /// Masks of which few break the form. Those of a stopped store have failed cards more often.

@@ -12,6 +12,7 @@ pub mod kinds;
 pub mod listing;
 pub mod lists;
 pub mod plain;
+pub mod protection_situations;
 pub mod rail_situations;
 pub mod random;
 pub mod sites;

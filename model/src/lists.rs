@@ -3,7 +3,7 @@
 use crate::calls::Call;
 use crate::commands::{read_command, COMMAND_BYTES};
 use crate::control::count;
-use crate::edition::{Edition, TODAY};
+use crate::edition::Edition;
 use crate::kinds::{Kind, Maker, KINDS};
 use crate::plain::{Expected, Plain};
 use crate::random::Random;
@@ -56,7 +56,7 @@ impl List {
                 list.expect(&call);
             }
         }
-        list.go_on_by(TODAY);
+        list.go_on_by(Edition::Today);
         List { from_older: true, calls: CALLS_FROM_AN_OLDER_IMAGE, ..list }
     }
 
@@ -114,7 +114,7 @@ impl Iterator for Lists {
         let (name, kind) = KINDS[turn % KINDS.len()];
         let seed = self.random.below(1 << 48) as u64;
         if part == 0 {
-            return Some(List::new(TODAY, name, kind, seed));
+            return Some(List::new(Edition::Today, name, kind, seed));
         }
         let active = 1 + self.random.below(4);
         Some(List::older(name, kind, seed, active))

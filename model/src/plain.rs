@@ -3,7 +3,7 @@
 use crate::calls::{perform_by, Answer, Call};
 use crate::control::{bit, count, has, Homes, NO_HOMES};
 use crate::edition::Edition;
-use crate::image::{LENGTH, RECORDS};
+use crate::image::{CARDS, LENGTH, RECORDS};
 use crate::sites::Placement;
 
 #[derive(Clone, Copy)]
@@ -181,12 +181,23 @@ impl Plain {
                 self.end(transaction, false);
             }
         }
-        let stops = self.active.iter().any(|Placement { mask, .. }| {
-            count(mask & self.failed) >= 2 || count(mask & self.working) < 2
-        });
+        let stops = self.stops(self.working, self.failed);
         if self.newest().mask & gone != 0 {
             self.active.push(self.edition.placement(self.newest().mask & !gone));
         }
         if stops { Expected::Stops } else { Expected::Free }
+    }
+
+    /// With these cards working and these failed, some active placement has two failed cards or fewer than two
+    /// working ones.
+    fn stops(&self, working: u8, failed: u8) -> bool {
+        self.active.iter().any(|Placement { mask, .. }| count(mask & failed) >= 2 || count(mask & working) < 2)
+    }
+
+    /// What state says by today's rules. Demand 3 leaves it open; the list's cards and placements decide it.
+    pub fn state(&self) -> Answer {
+        let mut working = (0..CARDS).map(bit).filter(|card| self.working & card != 0);
+        let unprotected = working.any(|card| self.stops(self.working & !card, self.failed | card));
+        if unprotected { Answer::Unprotected } else { Answer::Protected }
     }
 }

@@ -3,6 +3,7 @@
 use crate::calls::{Answer, Call};
 use crate::control::{bit, has, Control};
 use crate::image::*;
+use crate::protection_situations::protection_situations;
 use crate::rail_situations::rail_situations;
 use crate::sites::{holders, members, sites};
 
@@ -46,6 +47,7 @@ pub fn situations(before: &[u8], call: &Call, answer: &Answer) -> Vec<String> {
         _ => of_cards(before, &control, call, answer),
     };
     found.extend(rail_situations(&control, call, answer));
+    found.extend(protection_situations(&control, call, answer));
     found
 }
 

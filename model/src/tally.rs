@@ -4,6 +4,7 @@ use crate::calls::Answer;
 use crate::commands::{read_command, COMMAND_BYTES};
 use crate::image::LENGTH;
 use crate::listing::answer;
+use crate::protection_situations::PROTECTION;
 use crate::rail_situations::{ANY_BY_RAILS, ON_RAILS, OVER_OLD};
 use crate::situations::{situations, SITUATIONS};
 use std::collections::{BTreeMap, BTreeSet};
@@ -94,7 +95,7 @@ impl Tally {
     /// Answers of the operations, and situations, that do not occur.
     pub fn missing(&self) -> Vec<String> {
         let pairs = possible().into_iter().filter(|pair| !self.pairs.contains_key(pair));
-        let situations = SITUATIONS.iter().chain(ON_RAILS);
+        let situations = SITUATIONS.iter().chain(ON_RAILS).chain(PROTECTION);
         let situations = situations.filter(|name| self.count(name) == 0).map(|name| name.to_string());
         pairs.chain(situations).collect()
     }
@@ -103,8 +104,9 @@ impl Tally {
     pub fn impossible(&self) -> Vec<String> {
         let possible = possible();
         let pairs = self.pairs.keys().filter(|pair| !possible.contains(*pair)).cloned();
-        // A fail in the newest of four always stops, and a file leaves no placement unmarked.
-        let never = ["placed with 4 active"].iter().chain(OVER_OLD);
+        // A fail in the newest of four always stops, the third of four has a failed card, and a file leaves no
+        // placement unmarked.
+        let never = ["placed with 4 active", "protected with 4 active"].iter().chain(OVER_OLD);
         let situations = never.filter(|name| self.count(name) > 0).map(|name| name.to_string());
         pairs.chain(situations).collect()
     }

@@ -1,6 +1,7 @@
 //! Demand 3: the store answers as the plain record list does, and stops exactly
-//! when the rule says, with any bytes in the tables of failed cards. The lists are
-//! those of the differential run, also from images that the base's calls left.
+//! when the rule says, with any bytes in the tables of failed cards. Beyond it, state
+//! says what the plain list's cards and placements call for. The lists are those of
+//! the differential run, also from images that the base's calls left.
 
 use model::calls::{perform, Answer, Call};
 use model::commands::read_command;
@@ -8,6 +9,7 @@ use model::control::Control;
 use model::images::disturb;
 use model::lists::{List, Lists};
 use model::plain::Expected;
+use model::protection_situations::{protection_situations, PROTECTION};
 use model::rail_situations::{rail_situations, OVER_OLD};
 use model::random::Random;
 use std::collections::BTreeMap;
@@ -25,7 +27,8 @@ struct Seen {
 impl Seen {
     fn add_situations(&mut self, control: &Option<Control>, call: &Call, answer: &Answer) {
         let Some(control) = control.as_ref().filter(|control| !control.stopped && call.in_range()) else { return };
-        for name in rail_situations(control, call, answer) {
+        let names = [rail_situations(control, call, answer), protection_situations(control, call, answer)];
+        for name in names.into_iter().flatten() {
             *self.situations.entry(name).or_insert(0) += 1;
         }
     }
@@ -59,6 +62,9 @@ fn compare(list: &List, call: &Call, answer: Answer, expected: Expected, image: 
         Expected::Free => assert_ne!(answer, Answer::Stopped, "{name}: {call:?}"),
     }
     let Some(plain) = &list.plain else { return };
+    if *call == Call::State {
+        assert_eq!(answer, plain.state(), "{name}: {call:?}");
+    }
     let control = Control::read(image).expect("the form is whole");
     assert_eq!(control.working, plain.working, "{name}: {call:?}");
     assert_eq!(control.failed, plain.failed, "{name}: {call:?}");
@@ -83,9 +89,10 @@ fn run_lists(seed: u64, calls: usize) -> Seen {
 
 /// Half of the 200,000 calls at which a differential run must have met every class are in lists.
 #[test]
-fn every_situation_over_old_placements() {
+fn every_situation_over_old_placements_and_of_state() {
     let seen = run_lists(1, 100_000);
-    let missing: Vec<_> = OVER_OLD.iter().filter(|name| !seen.situations.contains_key(**name)).collect();
+    let wanted = OVER_OLD.iter().chain(PROTECTION);
+    let missing: Vec<_> = wanted.filter(|name| !seen.situations.contains_key(**name)).collect();
     assert!(missing.is_empty(), "{missing:?}");
 }
 

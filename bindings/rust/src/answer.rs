@@ -22,9 +22,9 @@ pub enum Answer {
     Copies(u8),
     /// Kind 7: the placements that a settle retired, 0 to 3.
     Retired(u8),
-    /// Kind 8: one placement is active.
+    /// Kind 8: failing any one working card would not stop the store.
     Protected,
-    /// Kind 9: several placements are active.
+    /// Kind 9: failing some working card would stop the store.
     Unprotected,
     /// Kind 10: the records that are committed present on a card, 0 to 512.
     Load(u16),

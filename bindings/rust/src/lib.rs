@@ -154,9 +154,10 @@ pub fn settle(image: &mut [u8]) -> Answer {
     ask!(nolpigat_settle(image.as_mut_ptr(), image.len()))
 }
 
-/// Whether exactly one placement is active.
+/// What the failure of one card would do.
 ///
-/// Answer: [`Protected`](Answer::Protected) or [`Unprotected`](Answer::Unprotected).
+/// Answer: [`Protected`](Answer::Protected), when failing any one working card would not stop the store, or
+/// [`Unprotected`](Answer::Unprotected).
 pub fn state(image: &[u8]) -> Answer {
     ask!(nolpigat_state(image.as_ptr(), image.len()))
 }

@@ -173,10 +173,32 @@ fn settle_retires() {
     assert_eq!(settle(&mut image), Answer::Retired(1));
 }
 
+/// Two active placements, nothing failed.
+fn placed() -> Vec<u8> {
+    let mut image = started();
+    assert_eq!(fit(&mut image, 3), Answer::Ok);
+    assert_eq!(place(&mut image, 0x70), Answer::Ok);
+    image
+}
+
+fn of_two_cards() -> Vec<u8> {
+    let mut image = vec![0; IMAGE_SIZE];
+    assert_eq!(start(&mut image, 0xC0), Answer::Ok);
+    image
+}
+
 #[test]
-fn state_of_one_or_more_placements() {
-    assert_eq!(state(&started()), Answer::Protected);
-    assert_eq!(state(&failed()), Answer::Unprotected);
+fn state_tells_whether_a_failure_would_stop() {
+    for (image, word) in [
+        (started(), Answer::Protected),
+        (placed(), Answer::Protected),
+        (failed(), Answer::Unprotected),
+        (of_two_cards(), Answer::Unprotected),
+    ] {
+        assert_eq!(state(&image), word);
+        let stops = (0..8).any(|card| fail(&mut image.clone(), card) == Answer::Stopped);
+        assert_eq!(stops, word == Answer::Unprotected);
+    }
 }
 
 #[test]

@@ -51,7 +51,7 @@ lastOf (x ∷ []) = x
 lastOf (x ∷ (y ∷ l)) = lastOf (y ∷ l)
 
 -- The last answer of a start with a mask and the calls after it.
-final : ℕ → List (Call cabinet) → List ℕ
+unfoldable pub final : ℕ → List (Call cabinet) → List ℕ
 unfolding answers
 final m l = lastOf (answers (start (byte m) ∷ l) nothing)
 

@@ -1,5 +1,6 @@
 pub mod Examples
 pub mod RailExamples
+pub mod ProtectionExamples
 pub mod Lawful
 pub mod After
 pub mod Form
@@ -9,3 +10,4 @@ pub mod FormStays
 pub mod GoesOn
 pub mod Base
 pub mod Rails
+pub mod Protection

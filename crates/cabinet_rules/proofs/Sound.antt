@@ -138,13 +138,17 @@ module _ (D : Delivery) (W : DeliveryLaws D) where
       go true = refl
       go false = refl
 
-  answer-sound : (c : Call P) (g : Image) (z : State P) (q : PlainList P) → Sound g z q → answerBy D c g ≡ answerOf P c (stateBy D g)
+  -- there the answer is that of the rules on the state that the image shows
+  pub answer-rows : (c : Call P) (g : Image) → refusalBy D c g ≡ refusal P c (controlBy D g) (look P (stateBy D g)) → answerBy D c g ≡ answerOf P c (stateBy D g)
   unfolding answerBy answerOf plan stateBy
-  answer-sound c g z q s = ap (λ (n : ℕ). orRefused P n (planBy D c g .answer)) (refusal-sound c g z q s) ∙ go (refusal P c (controlBy D g) (look P (stateBy D g)))
+  answer-rows c g e = ap (λ (n : ℕ). orRefused P n (planBy D c g .answer)) e ∙ go (refusal P c (controlBy D g) (look P (stateBy D g)))
     where
       go : (n : ℕ) → orRefused P n (planBy D c g .answer) ≡ guarded P n (controlBy D g) (planBy D c g) .answer
       go zero = refl
       go (suc n) = refl
+
+  pub answer-sound : (c : Call P) (g : Image) (z : State P) (q : PlainList P) → Sound g z q → answerBy D c g ≡ answerOf P c (stateBy D g)
+  answer-sound c g z q s = answer-rows c g (refusal-sound c g z q s)
 
   -- a refused call changes no state
   next-refused : (c : Call P) (s : State P) (n : ℕ) → refusal P c (s .control) (look P s) ≡ suc n → nextState P c s ≡ s

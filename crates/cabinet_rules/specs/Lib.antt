@@ -4,3 +4,4 @@ pub mod Images
 pub mod Claims
 pub mod Rails
 pub mod GoesOn
+pub mod Protection

@@ -39,7 +39,7 @@ use crate::codec::no_marks;
 use image::Card;
 
 // Every record lies on as many cards.
-const COPIES: u32 = image::COPY_COUNT as u32;
+pub const COPIES: u32 = image::COPY_COUNT as u32;
 
 // Count is 1 to 4.
 fn count_ok(s: &[u8]) -> bool

@@ -12,3 +12,5 @@ pub mod Sight
 pub mod Run
 pub mod Reached
 pub mod Growth
+pub mod Protection
+pub mod ProtectionCounts

@@ -6,3 +6,4 @@ pub mod Rules
 pub mod PlainList
 pub mod OneRecordList
 pub mod Growth
+pub mod Protection

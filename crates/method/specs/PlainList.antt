@@ -5,7 +5,7 @@ use lib.Dec.{eqb, leb, ltb}
 use lib.ListN.{take}
 use mathlib.Core.Bool.{Bool, _&&_, _||_, cond, false, not, true}
 use mathlib.Core.Option.{Option, none, some}
-use Rattle.lists.specs.Tests.{any, count}
+use Rattle.lists.specs.Tests.{allBelow, any, count}
 use Rattle.method.specs.Changes.{Control, replaced, startedBy}
 use Rattle.method.specs.ControlPart.{active, added, begunAt, closed, isOpen, onlyNewest, opened, withCards}
 use Rattle.method.specs.Parameters.{Parameters}
@@ -120,3 +120,7 @@ module _ (P : Parameters) where
       leb (copies (k .setting)) (count cards (λ x. has (mask p) x && (eqb x c || has (k .failed) x)))
       || ltb (count cards (λ x. has (mask p) x && (has (k .working) x && not (eqb x c)))) (copies (k .setting)))
       (active k)
+
+  -- The word of state, of the list's own fields: no working card is one whose failure stops it.
+  unfoldable pub plainProtected : PlainList → Bool
+  plainProtected q = allBelow cards (λ c. not (has (q .control .working) c && stopsNow (q .control) c))

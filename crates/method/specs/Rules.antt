@@ -135,9 +135,9 @@ module _ (P : Parameters) where
   unfoldable pub settled : Control P → View → Bool
   settled k v = allBelow (blocks (k .setting)) (settledAt k v)
 
-  -- Protected exactly when one placement is active (003, section 5).
+  -- Protected exactly when failing any one working card would not stop the store (document 02, A.2).
   unfoldable pub isProtected : Control P → Bool
-  isProtected k = elim (k .older) [ [] ↦ true | p ∷ l ↦ false ]
+  isProtected k = allBelow cards (λ c. not (has (k .working) c && stopping k c))
 
   -- ---- the refusal table from 3 on: the lowest number that applies, 0 where none does
   -- start gives only 9 (and 1); every other call is refused 4 when stopped.

@@ -6,9 +6,9 @@ use lib.ListN.{getD}
 use mathlib.Core.Bool.{Bool, _&&_, _||_, cond, false, not, true}
 use mathlib.Core.List.{[], _∷_}
 use mathlib.Core.Logic.{_⊎_, inl, inr}
-use mathlib.Core.Path.{_∙_, _≡_, ap, refl}
+use mathlib.Core.Path.{_∙_, _≡_, ap, refl, sym}
 use Rattle.lists.specs.Tests.{In, elem}
-use Rattle.lists.proofs.Bools.{and-l, and-r, imp-out, split, tf}
+use Rattle.lists.proofs.Bools.{and-l, and-r, imp-out, not-is, split, tf}
 use Rattle.lists.proofs.Counts.{below-all}
 use Rattle.lists.proofs.Lists.{all-out, in-right}
 use Rattle.image.specs.Layout.{blockCount, cardCount}
@@ -19,11 +19,12 @@ use Rattle.mask.proofs.SiteLaws.{site-member}
 use Rattle.slot.specs.Blocks.{emptyBlock, isHeld}
 use Rattle.slot.proofs.Blocks.{held-empty}
 use Rattle.method.specs.ControlPart.{active}
-use Rattle.method.specs.Rules.{look}
-use Rattle.control.specs.ControlForm.{controlForm, membersOk}
+use Rattle.method.specs.Rules.{look, lost}
+use Rattle.control.specs.ControlForm.{controlForm, isSafe, membersOk}
 use Rattle.control.proofs.RoundTrip.{Clauses, form-part, part-clauses}
 use Rattle.cabinet_rules.specs.Cabinet.{cabinet}
 use Rattle.cabinet_rules.specs.Images.{Image, blockIn, controlIn, stateBy, stateIn}
+use Rattle.cabinet_rules.proofs.Form.{safe-is}
 
 module _ (g : Image) where
   -- ---- the tables: blocks of working cards
@@ -102,3 +103,9 @@ module _ (g : Image) where
       where
         h : hasCard (controlIn g .newest .mask) c ≡ true
         h = site-member (controlIn g .newest) b c newest-usable e
+
+    -- and no active placement is lost
+    pub not-lost : controlIn g .stopped ≡ false → (p : Placement) → In p (active (controlIn g)) → lost cabinet (controlIn g) p ≡ false
+    not-lost running p m = not-is (lost cabinet (controlIn g) p)
+        (sym (safe-is (controlIn g .working) (controlIn g .failed) p)
+        ∙ all-out (isSafe (controlIn g .working) (controlIn g .failed)) (active (controlIn g)) p (rw running at (clauses .safe)) m)

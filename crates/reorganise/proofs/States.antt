@@ -1,43 +1,36 @@
--- The rows and the answer of a state, from the code's values to the rules'. Assumes nothing.
-use Prim.Native.Nat.{_-_, _≤_, suc, ℕ}
-use mathlib.Core.Bool.{Bool, cond, false, true}
-use mathlib.Core.List.{[], _∷_}
-use mathlib.Core.Path.{_≡_, ap}
-use native.Mathlib.Omega.{arith}
-use Rattle.method.specs.Rules.{act, isProtected, protected, refusal, row, state, unprotected, unwritten}
-use Rattle.mask.specs.Placements.{Placement}
-use Rattle.control.specs.ControlBytes.{placementsIn}
-use Rattle.control.specs.Meaning.{placementIn, meaning}
+-- The rows and the word of a state, from the code's values to the rules'. Assumes nothing.
+use mathlib.Core.Bool.{Bool, false}
+use mathlib.Core.Path.{_∙_, _≡_, ap, sym}
+use Rattle.lists.specs.Tests.{all}
+use Rattle.method.specs.ControlPart.{active}
+use Rattle.method.specs.Protection.{protection, withstands}
+use Rattle.method.specs.Rules.{act, isProtected, refusal, row, state, unwritten}
+use Rattle.method.proofs.ProtectionCounts.{protected-by-counts}
+use Rattle.control.specs.ControlBytes.{Part}
+use Rattle.control.specs.Meaning.{meaning}
 use Rattle.control.specs.declared.Control.{Control}
 use Rattle.cabinet_rules.specs.Cabinet.{cabinet}
 use Rattle.cabinet_rules.specs.Images.{Image, controlIn, planOn}
+use Rattle.cabinet_rules.proofs.Lawful.{lawful}
 use Rattle.promise.specs.Given.{Given, rowsOn}
+use Rattle.promise.proofs.Finish.{form-good}
+use Rattle.promise.proofs.View.{not-lost, works-not-failed}
 use Rattle.reorganise.proofs.Looks.{stopped-is}
-
--- one placement is active, or more
-one-active : (f : ℕ → Placement) (n : ℕ) → n ≡ 1 → elim (placementsIn f (n - 1)) [ [] ↦ true | p ∷ l ↦ false ] ≡ true
-one-active f n e = ap (λ (i : ℕ). elim (placementsIn f (i - 1)) [ [] ↦ true | p ∷ l ↦ false ]) e
-
-more-active : (f : ℕ → Placement) (n : ℕ) → 1 ≤ n → (n ≡ 1 → ⊥) → elim (placementsIn f (n - 1)) [ [] ↦ true | p ∷ l ↦ false ] ≡ false
-more-active f n h d = ap (λ (i : ℕ). elim (placementsIn f i) [ [] ↦ true | p ∷ l ↦ false ]) e
-  where
-    e : n - 1 ≡ suc (n - 2)
-    e = omega arith
 
 module _ (k : Control) (g : Image) (is : Given k g) where
   pub state-rows : row 4 (k .stopped) 0 ≡ rowsOn state g
   unfolding refusal
   state-rows = ap (λ (t : Bool). row 4 t 0) (stopped-is k g is)
 
-  -- the plan's answer, by whether one placement is active
-  answered : (t : Bool) → isProtected cabinet (meaning k) ≡ t → planOn state g ≡ unwritten cabinet (cond t protected unprotected) (controlIn g)
+  -- by counts over the active placements of a store that runs
+  counted : controlIn g .stopped ≡ false → isProtected cabinet (controlIn g) ≡ all (withstands cabinet tt (controlIn g .working) (controlIn g .failed)) (active (controlIn g))
+  counted run = let form = form-good g (is .formed) in protected-by-counts cabinet lawful (controlIn g) (works-not-failed g form) (not-lost g form run)
+
+  -- the plan's answer, by whether every active placement withstands one more failure
+  pub state-plan : (t : Bool) → k .stopped ≡ false → t ≡ all (withstands cabinet tt (meaning k .working) (meaning k .failed)) (active (meaning k))
+      → planOn state g ≡ unwritten cabinet (protection cabinet t) (controlIn g)
   unfolding act
-  answered t e = rw (is .is .means) at (ap (λ (t : Bool). unwritten cabinet (cond t protected unprotected) (controlIn g)) e)
-
-  pub state-one : k .count ≡ 1 → planOn state g ≡ unwritten cabinet protected (controlIn g)
-  unfolding isProtected meaning
-  state-one e = answered true (one-active (placementIn k) (k .count) e)
-
-  pub state-more : (k .count ≡ 1 → ⊥) → planOn state g ≡ unwritten cabinet unprotected (controlIn g)
-  unfolding isProtected meaning
-  state-more d = answered false (more-active (placementIn k) (k .count) (is .is .counted .some) d)
+  state-plan t run e =
+      let word : isProtected cabinet (controlIn g) ≡ t =
+      counted (sym (stopped-is k g is) ∙ run) ∙ sym (e ∙ ap (λ (p : Part). all (withstands cabinet tt (p .working) (p .failed)) (active p)) (is .is .means)) in
+      ap (λ (t : Bool). unwritten cabinet (protection cabinet t) (controlIn g)) word

@@ -5,6 +5,7 @@ ghost use Rattle.promise.specs.declared.Call.{Call};
 mod loading;
 mod looking;
 mod moving;
+mod protection;
 mod settling;
 
 use image::Block;
@@ -45,7 +46,7 @@ pub fn settle(image: &mut [u8]) -> Answer
     Answer::Retired(retired)
 }
 
-// Protected exactly when one placement is active.
+// Protected exactly when failing any one working card would not stop the store.
 pub fn state(image: &[u8]) -> Answer
     ensures { λ r. ⌜ Done (asked Call.State) (now (image .entry)) r (now (image .entry)) ⌝ }
 {
@@ -57,7 +58,8 @@ pub fn state(image: &[u8]) -> Answer
     if k.stopped {
         return Answer::Refused(4);
     }
-    if k.count == 1 {
+    let withstood = protection::all_withstand(k);
+    if withstood {
         return Answer::Protected;
     }
     Answer::Unprotected

@@ -47,9 +47,10 @@ pub fn fit_again(image: &mut [u8]) {
     answer(store::withdraw(image, Card(5)));
 }
 
-// Card 1 joins the placement and gets its blocks.
+// Card 1 joins the placement and gets its blocks; the store is protected throughout.
 pub fn rejoin(image: &mut [u8]) {
     answer(store::place(image, 0xF0));
+    answer(store::state(image));
     answer(store::move_block(image, Card(3), Block(1)));
     answer(store::move_block(image, Card(0), Block(2)));
     answer(store::settle(image));

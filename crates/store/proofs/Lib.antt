@@ -1,1 +1,2 @@
 pub mod OneRecordList
+pub mod Protection

@@ -18,12 +18,7 @@ fn spare(control: &Control) -> Vec<usize> {
 
 /// Members of the mask whose failure does not stop the store.
 pub(super) fn safe(control: &Control, mask: u8) -> Vec<usize> {
-    let stops = |card: usize| {
-        let mut after = control.clone();
-        after.mark_failed(card);
-        after.must_stop()
-    };
-    members(mask).into_iter().filter(|card| !stops(*card)).collect()
+    members(mask).into_iter().filter(|card| !control.stops_without(*card)).collect()
 }
 
 /// The blocks that the mask's cards hold, as card and block.

@@ -6,7 +6,7 @@ use super::{Kind, KINDS};
 use crate::calls::{perform_by, Answer, Call};
 use crate::commands::{read_command, write_command, COMMAND_BYTES};
 use crate::control::Control;
-use crate::edition::{Edition, TODAY};
+use crate::edition::Edition;
 use crate::image::{CONTROL, LENGTH, RECORDS};
 use crate::random::Random;
 use std::collections::VecDeque;
@@ -35,7 +35,7 @@ pub(super) fn bytes_of(call: &Call) -> [u8; COMMAND_BYTES] {
 
 impl Maker {
     pub fn new(kind: Kind, seed: u64) -> Maker {
-        Maker::by(TODAY, kind, seed)
+        Maker::by(Edition::Today, kind, seed)
     }
 
     pub fn by(edition: Edition, kind: Kind, seed: u64) -> Maker {

@@ -1,0 +1,110 @@
+-- When state answers protected, on images: the proofs. Assumes nothing.
+use Prim.Native.Nat.{_<_, suc, zero, ℕ}
+use borrow.Author.Tests.{eqb-false}
+use lib.Dec.{eqb}
+use lib.ListN.{getD, length}
+use mathlib.Core.Bool.{Bool, _&&_, false, not, true}
+use mathlib.Core.Path.{_∙_, _≡_, ap, fun-ext, refl, sym}
+use native.Mathlib.Omega.{arith}
+use Rattle.lists.specs.Tests.{allBelow, count}
+use Rattle.lists.proofs.Bools.{and-l, never-true, not-is, not-not-is, tf}
+use Rattle.lists.proofs.Counts.{below-all, count-none, count-some}
+use Rattle.image.specs.Layout.{cardCount, imageSize}
+use Rattle.mask.specs.Masks.{hasCard}
+use Rattle.mask.proofs.Masks.{has-card}
+use Rattle.method.specs.Growth.{plainAfter, rulesAfter}
+use Rattle.method.specs.OneRecordList.{isStop, zeroed}
+use Rattle.method.specs.PlainList.{PlainList, orRefused, plainStart}
+use Rattle.method.specs.Protection.{ProtectedByFails, noFailStops, protection}
+use Rattle.method.specs.Rules.{Call, State, answerOf, fail, look, protected, refusal, start, state, stopping, unprotected}
+use Rattle.method.proofs.Protection.{fail-stops, protected-by-fails, state-ready}
+use Rattle.method.proofs.Refusals.{row-clear}
+use Rattle.control.specs.ControlForm.{formOk}
+use Rattle.cabinet_rules.specs.Cabinet.{cabinet}
+use Rattle.cabinet_rules.specs.Claims.{imageAfter, imageCalls, noisy}
+use Rattle.cabinet_rules.specs.Delivery.{current}
+use Rattle.cabinet_rules.specs.Images.{Image, answer, answerBy, controlIn, isStart, next, planOn, refusalBy, refusalOn, stateBy}
+use Rattle.cabinet_rules.specs.Images.{stateIn}
+use Rattle.cabinet_rules.specs.Protection.{ProtectedByFailsOnImages, ProtectedByPlainListOnImages, noFailStopsOn}
+use Rattle.cabinet_rules.proofs.Form.{currentLaws}
+use Rattle.cabinet_rules.proofs.Lawful.{lawful}
+use Rattle.cabinet_rules.proofs.Sound.{Sound, answer-rows, answer-sound, noise-sound, sound-after, start-sound}
+
+-- ---- an image of which state is not refused
+module _ (g : Image) (clear : refusalOn state g ≡ 0) where
+  long : eqb (length g) imageSize ≡ true
+  unfolding refusalBy
+  long = not-not-is (eqb (length g) imageSize) (row-clear (not (eqb (length g) imageSize)) 0 clear .0)
+
+  rest : refusalOn state g ≡ 0 → (formOk (λ n. getD g n 0) ≡ true) × (controlIn g .stopped ≡ false)
+  unfolding refusalBy refusal
+  rest e =
+      let r = row-clear (not (eqb (length g) imageSize)) 0 e .1 in
+      let f = row-clear (not (formOk (λ n. getD g n 0))) 1 r in
+      (not-not-is (formOk (λ n. getD g n 0)) (f .0), row-clear (controlIn g .stopped) 3 (f .1) .0)
+
+  answer-is : (c : Call cabinet) → isStart c ≡ false → answer c g ≡ answerOf cabinet c (stateIn g)
+  answer-is c late = answer-rows current currentLaws c g (unfold refusalBy in (rw (long, rest clear .0, late)))
+
+  -- only a fail of a card can answer 'stopped' there
+  pub stop-card : (c : ℕ) → isStop cabinet (answer (fail c) g) ≡ true → c < cardCount
+  unfolding answerOf stateBy
+  stop-card c e =
+      let s : (hasCard (controlIn g .working) c && stopping cabinet (controlIn g) c) ≡ true =
+      sym (fail-stops cabinet lawful (controlIn g) (look cabinet (stateIn g)) (rest clear .1) c) ∙ ap (isStop cabinet) (sym (answer-is (fail c) refl)) ∙ e in
+      has-card (controlIn g .working) c (and-l (hasCard (controlIn g .working) c) (stopping cabinet (controlIn g) c) s)
+
+pub protected-by-fails-on-images : ProtectedByFailsOnImages
+unfolding ProtectedByFailsOnImages noFailStopsOn
+protected-by-fails-on-images g clear = answer-is g clear state refl
+    ∙ unfold ProtectedByFails stateBy in (protected-by-fails cabinet lawful (stateIn g) (rest g clear clear .1))
+    ∙ unfold noFailStops in
+    (ap (λ (f : ℕ → Bool). protection cabinet (allBelow cardCount (λ c. not (f c)))) (fun-ext (λ c. ap (isStop cabinet) (sym (answer-is g clear (fail c) refl)))))
+
+-- ---- what each of its two words says
+-- an accepted state answers a word; a refused one does not
+accepted : (g : Image) (n : ℕ) (t : Bool) → orRefused cabinet n (planOn state g .answer) ≡ protection cabinet t → n ≡ 0
+accepted g zero t e = refl
+accepted g (suc n) true e = let z : _≡_ {A = ℕ} 0 1 = cc in absurd (omega arith)
+accepted g (suc n) false e = let z : _≡_ {A = ℕ} 0 1 = cc in absurd (omega arith)
+
+same-word : (s t : Bool) → protection cabinet s ≡ protection cabinet t → s ≡ t
+same-word true true e = refl
+same-word true false e = let z : _≡_ {A = ℕ} 0 1 = cc in absurd (omega arith)
+same-word false true e = let z : _≡_ {A = ℕ} 0 1 = cc in absurd (omega arith)
+same-word false false e = refl
+
+module _ (g : Image) (t : Bool) (e : answer state g ≡ protection cabinet t) where
+  clear : refusalOn state g ≡ 0
+  clear = accepted g (refusalOn state g) t (unfold answerBy in e)
+
+  word : noFailStopsOn g ≡ t
+  unfolding ProtectedByFailsOnImages
+  word = same-word (noFailStopsOn g) t (sym (protected-by-fails-on-images g clear) ∙ e)
+
+-- protected: no fail answers 'stopped'
+pub safe-of : (g : Image) → answer state g ≡ protected → (c : ℕ) → isStop cabinet (answer (fail c) g) ≡ false
+unfolding noFailStopsOn
+safe-of g e c = never-true (isStop cabinet (answer (fail c) g)) (λ s.
+    tf (isStop cabinet (answer (fail c) g)) s (not-is (isStop cabinet (answer (fail c) g))
+    (below-all cardCount (λ c. not (isStop cabinet (answer (fail c) g))) c (word g true e) (stop-card g (clear g true e) c s))))
+
+-- unprotected: a fail of some card does
+pub stop-of : (g : Image) → answer state g ≡ unprotected → (c : ℕ) × (c < cardCount) × (isStop cabinet (answer (fail c) g) ≡ true)
+unfolding noFailStopsOn
+stop-of g e =
+    let f : ℕ → Bool = λ c. isStop cabinet (answer (fail c) g) in
+    let n : eqb (count cardCount f) 0 ≡ false = count-none cardCount f ∙ word g false e in
+    let d : count cardCount f ≡ 0 → ⊥ = eqb-false (count cardCount f) 0 n in
+    count-some cardCount f (omega arith)
+
+-- ---- a list of calls after a start
+pub protected-by-plain-list-on-images : ProtectedByPlainListOnImages
+unfolding ProtectedByPlainListOnImages
+protected-by-plain-list-on-images m before e l runs noise =
+    let g : Image = imageAfter l (next (start m) before) in
+    let z : State cabinet = rulesAfter cabinet (imageCalls l) (zeroed cabinet m) in
+    let q : PlainList cabinet = plainAfter cabinet (imageCalls l) (zeroed cabinet m) (plainStart cabinet m) in
+    let s : Sound current currentLaws (noisy noise g) z q =
+    noise-sound current currentLaws noise g z q (sound-after current currentLaws l (next (start m) before) (zeroed cabinet m) (plainStart cabinet m) (start-sound current currentLaws m before e) runs) in
+    answer-sound current currentLaws state (noisy noise g) z q s ∙ state-ready cabinet lawful (stateIn (noisy noise g)) z q (s .ready)
