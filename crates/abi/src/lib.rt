@@ -173,7 +173,7 @@ pub extern "C" fn nolpigat_settle(image: &mut [u8]) -> u32
     code(store::settle(image))
 }
 
-// Whether one placement is active.
+// Whether failing any one working card would leave the store running.
 #[no_mangle]
 pub extern "C" fn nolpigat_state(image: &[u8]) -> u32
     ensures { λ r. ⌜ Coded state (now (image .entry)) r (now (image .entry)) ⌝ }

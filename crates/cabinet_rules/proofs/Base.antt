@@ -15,21 +15,21 @@ use Rattle.method.specs.Changes.{marked}
 use Rattle.method.specs.ControlPart.{halted, part}
 use Rattle.method.specs.OneRecordList.{zeroed}
 use Rattle.method.specs.PlainList.{plainStart}
-use Rattle.method.specs.Rules.{start}
+use Rattle.method.specs.Rules.{ok, start}
 use Rattle.method.proofs.Capacity.{ControlInv}
 use Rattle.method.proofs.Growth.{control-inv-grown, form-grown}
 use Rattle.method.proofs.Invariant.{Form}
 use Rattle.control.specs.ControlBytes.{controlByte, controlOf, marksFrom}
 use Rattle.control.specs.ControlForm.{formOk}
 use Rattle.cabinet_rules.specs.Cabinet.{cabinet, rulesOf}
-use Rattle.cabinet_rules.specs.Claims.{imageAfterBy}
+use Rattle.cabinet_rules.specs.Claims.{NoStopBy, NoisyCallBy, imageAfterBy}
 use Rattle.cabinet_rules.specs.Delivery.{PartOf, base, masksAlone, olderPart, current}
-use Rattle.cabinet_rules.specs.GoesOn.{FormStaysFromBase, GoesOnFromBase, growthOf}
-use Rattle.cabinet_rules.specs.Images.{Image, nextBy}
+use Rattle.cabinet_rules.specs.GoesOn.{FormStaysFromBase, GoesOnFromBase, growthOf, plainThen, rulesThen}
+use Rattle.cabinet_rules.specs.Images.{Image, answerBy, nextBy}
 use Rattle.cabinet_rules.proofs.Form.{controlLaws, currentLaws}
 use Rattle.cabinet_rules.proofs.FormStays.{Started, form-kept, runs, stands, started-after}
-use Rattle.cabinet_rules.proofs.GoesOn.{Follows, goes-on-images, keeps, sound-grown}
-use Rattle.cabinet_rules.proofs.Sound.{start-sound}
+use Rattle.cabinet_rules.proofs.GoesOn.{Follows, goes-on-images, keeps, sound-grown, sound-then}
+use Rattle.cabinet_rules.proofs.Sound.{Sound, start-sound}
 use Rattle.cabinet_rules.proofs.Lawful.{ControlLaws, DeliveryLaws, SiteLaws, lawful, lawfulBy}
 
 -- ---- sites: those of a placement marked 0
@@ -96,6 +96,11 @@ baseControl = record { reads = base-reads; formed = base-formed; stop-read = sto
 
 abbrev baseLaws : DeliveryLaws base
 baseLaws = record { sites = baseSites; control = baseControl }
+
+-- the image that its calls left is sound by the delivery in force
+pub sound-from-base : (m : Byte) (before : Image) → answerBy base (start m) before ≡ ok → (l : List (NoisyCallBy base)) → NoStopBy base l (nextBy base (start m) before)
+    → Sound current currentLaws (imageAfterBy base l (nextBy base (start m) before)) (rulesThen base current olderFromMask m l) (plainThen base current olderFromMask m l)
+sound-from-base = sound-then base current olderFromMask follows baseLaws currentLaws
 
 -- DEMAND 3, going on
 pub goes-on-from-base : GoesOnFromBase

@@ -4,6 +4,7 @@ use borrow.Author.Tests.{eqb-false}
 use lib.Dec.{eqb}
 use lib.ListN.{getD, length}
 use mathlib.Core.Bool.{Bool, _&&_, false, not, true}
+use mathlib.Core.List.{List}
 use mathlib.Core.Path.{_∙_, _≡_, ap, fun-ext, refl, sym}
 use native.Mathlib.Omega.{arith}
 use Rattle.lists.specs.Tests.{allBelow, count}
@@ -11,21 +12,25 @@ use Rattle.lists.proofs.Bools.{and-l, never-true, not-is, not-not-is, tf}
 use Rattle.lists.proofs.Counts.{below-all, count-none, count-some}
 use Rattle.image.specs.Layout.{cardCount, imageSize}
 use Rattle.mask.specs.Masks.{hasCard}
+use Rattle.mask.specs.Placements.{olderFromMask}
 use Rattle.mask.proofs.Masks.{has-card}
 use Rattle.method.specs.Growth.{plainAfter, rulesAfter}
 use Rattle.method.specs.OneRecordList.{isStop, zeroed}
-use Rattle.method.specs.PlainList.{PlainList, orRefused, plainStart}
+use Rattle.method.specs.PlainList.{PlainList, orRefused, plainProtected, plainStart}
 use Rattle.method.specs.Protection.{ProtectedByFails, noFailStops, protection}
 use Rattle.method.specs.Rules.{Call, State, answerOf, fail, look, protected, refusal, start, state, stopping, unprotected}
 use Rattle.method.proofs.Protection.{fail-stops, protected-by-fails, state-ready}
 use Rattle.method.proofs.Refusals.{row-clear}
 use Rattle.control.specs.ControlForm.{formOk}
 use Rattle.cabinet_rules.specs.Cabinet.{cabinet}
-use Rattle.cabinet_rules.specs.Claims.{imageAfter, imageCalls, noisy}
-use Rattle.cabinet_rules.specs.Delivery.{current}
+use Rattle.cabinet_rules.specs.Claims.{NoStopBy, NoisyCall, imageAfter, imageAfterBy, imageCalls, noisy}
+use Rattle.cabinet_rules.specs.Delivery.{base, current}
+use Rattle.cabinet_rules.specs.GoesOn.{plainThen, rulesThen}
 use Rattle.cabinet_rules.specs.Images.{Image, answer, answerBy, controlIn, isStart, next, planOn, refusalBy, refusalOn, stateBy}
-use Rattle.cabinet_rules.specs.Images.{stateIn}
-use Rattle.cabinet_rules.specs.Protection.{ProtectedByFailsOnImages, ProtectedByPlainListOnImages, noFailStopsOn}
+use Rattle.cabinet_rules.specs.Images.{nextBy, stateIn}
+use Rattle.cabinet_rules.specs.Protection.{ProtectedByFailsOnImages, ProtectedByPlainListOnImages, ProtectedFromBase}
+use Rattle.cabinet_rules.specs.Protection.{noFailStopsOn}
+use Rattle.cabinet_rules.proofs.Base.{sound-from-base}
 use Rattle.cabinet_rules.proofs.Form.{currentLaws}
 use Rattle.cabinet_rules.proofs.Lawful.{lawful}
 use Rattle.cabinet_rules.proofs.Sound.{Sound, answer-rows, answer-sound, noise-sound, sound-after, start-sound}
@@ -47,7 +52,7 @@ module _ (g : Image) (clear : refusalOn state g ≡ 0) where
   answer-is c late = answer-rows current currentLaws c g (unfold refusalBy in (rw (long, rest clear .0, late)))
 
   -- only a fail of a card can answer 'stopped' there
-  pub stop-card : (c : ℕ) → isStop cabinet (answer (fail c) g) ≡ true → c < cardCount
+  stop-card : (c : ℕ) → isStop cabinet (answer (fail c) g) ≡ true → c < cardCount
   unfolding answerOf stateBy
   stop-card c e =
       let s : (hasCard (controlIn g .working) c && stopping cabinet (controlIn g) c) ≡ true =
@@ -98,13 +103,23 @@ stop-of g e =
     let d : count cardCount f ≡ 0 → ⊥ = eqb-false (count cardCount f) 0 n in
     count-some cardCount f (omega arith)
 
--- ---- a list of calls after a start
+-- ---- a list of calls that did not stop the store, from an image that is sound
+word-after : (g : Image) (z : State cabinet) (q : PlainList cabinet) → Sound current currentLaws g z q → (l : List NoisyCall) → NoStopBy current l g → (noise : ℕ → ℕ)
+    → answer state (noisy noise (imageAfter l g)) ≡ protection cabinet (plainProtected cabinet (plainAfter cabinet (imageCalls l) z q))
+word-after g z q s l runs noise =
+    let h : Image = imageAfter l g in
+    let y : State cabinet = rulesAfter cabinet (imageCalls l) z in
+    let p : PlainList cabinet = plainAfter cabinet (imageCalls l) z q in
+    let t : Sound current currentLaws (noisy noise h) y p = noise-sound current currentLaws noise h y p (sound-after current currentLaws l g z q s runs) in
+    answer-sound current currentLaws state (noisy noise h) y p t ∙ state-ready cabinet lawful (stateIn (noisy noise h)) y p (t .ready)
+
+-- from a start
 pub protected-by-plain-list-on-images : ProtectedByPlainListOnImages
 unfolding ProtectedByPlainListOnImages
-protected-by-plain-list-on-images m before e l runs noise =
-    let g : Image = imageAfter l (next (start m) before) in
-    let z : State cabinet = rulesAfter cabinet (imageCalls l) (zeroed cabinet m) in
-    let q : PlainList cabinet = plainAfter cabinet (imageCalls l) (zeroed cabinet m) (plainStart cabinet m) in
-    let s : Sound current currentLaws (noisy noise g) z q =
-    noise-sound current currentLaws noise g z q (sound-after current currentLaws l (next (start m) before) (zeroed cabinet m) (plainStart cabinet m) (start-sound current currentLaws m before e) runs) in
-    answer-sound current currentLaws state (noisy noise g) z q s ∙ state-ready cabinet lawful (stateIn (noisy noise g)) z q (s .ready)
+protected-by-plain-list-on-images m before e = word-after (next (start m) before) (zeroed cabinet m) (plainStart cabinet m) (start-sound current currentLaws m before e)
+
+-- from an image that the base's calls left
+pub protected-from-base : ProtectedFromBase
+unfolding ProtectedFromBase
+protected-from-base m before e l runs = word-after (imageAfterBy base l (nextBy base (start m) before)) (rulesThen base current olderFromMask m l) (plainThen base current olderFromMask m l)
+    (sound-from-base m before e l runs)

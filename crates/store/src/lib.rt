@@ -106,7 +106,7 @@ pub fn settle(image: &mut [u8]) -> Answer
     reorganise::settle(image)
 }
 
-// Whether the store is protected.
+// Protected exactly when failing any one working card would not stop the store.
 pub fn state(image: &[u8]) -> Answer
     ensures { λ r. ⌜ Done (asked Call.State) (now (image .entry)) r (now (image .entry)) ⌝ }
 {
