@@ -5,3 +5,4 @@ pub mod Claims
 pub mod Rails
 pub mod GoesOn
 pub mod Protection
+pub mod MoveLists

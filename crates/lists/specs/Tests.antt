@@ -23,7 +23,7 @@ module _ {A : Type 0} where
   keepIf f (x ∷ l) = cond (f x) (x ∷ keepIf f l) (keepIf f l)
 
   -- the lists that f gives of the elements, one behind the other
-  abbrev pub concatMap : (A → List ℕ) → List A → List ℕ
+  abbrev pub concatMap : {B : Type 0} → (A → List B) → List A → List B
   concatMap f [] = []
   concatMap f (x ∷ l) = f x ++ concatMap f l
 
@@ -35,6 +35,11 @@ module _ {A : Type 0} where
 -- the number c is an element
 abbrev pub elem : ℕ → List ℕ → Bool
 elem c l = any (eqb c) l
+
+-- the numbers below n, rising
+abbrev pub numbersBelow : ℕ → List ℕ
+numbersBelow zero = []
+numbersBelow (suc n) = numbersBelow n ++ (n ∷ [])
 
 -- no number stands twice
 abbrev pub distinct : List ℕ → Bool

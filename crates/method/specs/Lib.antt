@@ -7,3 +7,4 @@ pub mod PlainList
 pub mod OneRecordList
 pub mod Growth
 pub mod Protection
+pub mod MoveList

@@ -1,0 +1,75 @@
+-- The moves that let settle succeed, for the service tablet (document 02, A.3): the list, and what its call answers.
+-- Assumes nothing.
+use Prim.Native.Nat.{_<_, ℕ}
+use lib.Dec.{ltb}
+use lib.ListN.{length}
+use mathlib.Core.Bool.{Bool, _&&_, cond, not, true}
+use mathlib.Core.List.{List, map}
+use mathlib.Core.Path.{_≡_}
+use Rattle.lists.specs.Tests.{any, anyBelow, concatMap, elem, keepIf, numbersBelow}
+use Rattle.method.specs.Changes.{Control}
+use Rattle.method.specs.Parameters.{Parameters}
+use Rattle.method.specs.Rules.{Call, View, anyLocked, move, newestSites, settledAt}
+
+-- An entry of the list: the card that a block moves from, and the block.
+pub record Entry : Type 0 where
+  pub card : ℕ
+  pub block : ℕ
+
+abbrev pub entryAt : ℕ → ℕ → Entry
+entryAt b c = record { card = c; block = b }
+
+-- What the call answers: the number of moves, 'none', or a refusal.
+pub data ListAnswer : Type 0 where
+  listed : ℕ → ListAnswer
+  noList : ListAnswer
+  notListed : ℕ → ListAnswer
+
+module _ (P : Parameters) where
+  open Parameters P using (cards, blocks, held)
+
+  -- The card holds the block and is none of its newest sites.
+  abbrev pub isStray : Control P → View P → ℕ → ℕ → Bool
+  isStray k v b c = held (v c b) && not (elem c (newestSites P k b))
+
+  -- The card is the lowest that holds the block.
+  abbrev pub isLowest : View P → ℕ → ℕ → Bool
+  isLowest v b c = held (v c b) && not (anyBelow c (λ x. held (v x b)))
+
+  -- A block that must still move, since settle's condition is not met by it, moves from every card that is none of its
+  -- newest sites. Where only newest sites hold it one of them sends: the lowest.
+  unfoldable pub isOrigin : Control P → View P → ℕ → ℕ → Bool
+  isOrigin k v b c =
+      not (settledAt P k v b) && cond (anyBelow cards (isStray k v b)) (isStray k v b c) (isLowest v b c)
+
+  -- The moves of a block, cards rising.
+  unfoldable pub movesOf : Control P → View P → ℕ → List Entry
+  movesOf k v b = map (entryAt b) (keepIf (isOrigin k v b) (numbersBelow cards))
+
+  -- The list: blocks rising and then cards rising.
+  unfoldable pub moveList : Control P → View P → List Entry
+  moveList k v = concatMap (movesOf k v) (numbersBelow (blocks (k .setting)))
+
+  -- A card that a block would move from has a locked record in that block.
+  unfoldable pub anyMoveLocked : Control P → View P → Bool
+  anyMoveLocked k v = any (λ e. anyLocked P (v (e .card) (e .block))) (moveList k v)
+
+  -- 'none' where one is locked, whatever the length of the lent list; a lent list shorter than needed is refused 16.
+  unfoldable pub listAnswer : Control P → View P → ℕ → ListAnswer
+  listAnswer k v room =
+      cond (anyMoveLocked k v) noList (
+      cond (ltb room (length (moveList k v))) (notListed 16) (listed (length (moveList k v))))
+
+  -- The call that an entry stands for.
+  abbrev pub asMove : Entry → Call P
+  asMove e = move (e .card) (e .block)
+
+  -- ---- what the statements say of it
+  -- A block that must still move has a locked record on a card that it would move from.
+  pub record LockedMove (k : Control P) (v : View P) : Type 0 where
+    pub card : ℕ
+    pub block : ℕ
+    pub is-card : card < cards
+    pub is-block : block < blocks (k .setting)
+    pub moves-from : isOrigin k v block card ≡ true
+    pub locked-there : anyLocked P (v card block) ≡ true
