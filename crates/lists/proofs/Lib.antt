@@ -1,5 +1,6 @@
 pub mod Bools
 pub mod Lists
+pub mod Numbers
 pub mod Counts
 pub mod Cases
 pub mod Tabulate

@@ -138,7 +138,7 @@ fn without_first(mask: u8) -> u8
 }
 
 // Member number i, in rising order: the first once i members are taken off.
-fn nth_member(mask: u8, i: u8) -> u8
+pub fn nth_member(mask: u8, i: u8) -> u8
     requires { ⌜ i < length (members (byte mask)) ⌝ }
     ensures { λ r. ⌜ r ≡ getD (members (byte mask)) i 0 ⌝ }
 {

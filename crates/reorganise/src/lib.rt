@@ -3,7 +3,7 @@ ghost use Rattle.promise.specs.Promise.{Done, asked};
 ghost use Rattle.promise.specs.declared.Call.{Call};
 
 mod loading;
-mod looking;
+pub mod looking;
 mod moving;
 mod protection;
 mod settling;

@@ -13,6 +13,7 @@ use native.Mathlib.Omega.{arith}
 use Rattle.lists.specs.Tests.{In, concatMap, keepIf}
 use Rattle.lists.proofs.Bools.{split}
 use Rattle.lists.proofs.Cases.{by-eq}
+use Rattle.lists.proofs.Numbers.{concat-append, keep-append}
 use Rattle.image.specs.Layout.{blockAddress, blockCount, cardCount}
 use Rattle.mask.specs.Masks.{byte, hasCard}
 use Rattle.mask.specs.Placements.{Placement, Usable, sitesOf}
@@ -62,14 +63,6 @@ module _ (h : Holders) (s : Sound h) (p : ℕ → Bool) (c : ℕ) where
   push-no lacking = (record { sound = s; are = rw lacking (sym (append-nil (cardsOf h))) }, omega arith)
 
 -- ---- lists
-keep-append : (f : ℕ → Bool) (l m : List ℕ) → keepIf f (l ++ m) ≡ keepIf f l ++ keepIf f m
-keep-append f [] m = refl
-keep-append f (x ∷ l) m = go (f x) (keep-append f l m)
-  where
-    go : (t : Bool) → keepIf f (l ++ m) ≡ keepIf f l ++ keepIf f m → cond t (x ∷ keepIf f (l ++ m)) (keepIf f (l ++ m)) ≡ cond t (x ∷ keepIf f l) (keepIf f l) ++ keepIf f m
-    go true e = ap (λ (r : List ℕ). x ∷ r) e
-    go false e = e
-
 keep-keep : (f g : ℕ → Bool) (l : List ℕ) → keepIf f (keepIf g l) ≡ keepIf (λ c. g c && f c) l
 keep-keep f g [] = refl
 keep-keep f g (x ∷ l) = go (g x) (keep-keep f g l)
@@ -78,10 +71,6 @@ keep-keep f g (x ∷ l) = go (g x) (keep-keep f g l)
         → keepIf f (cond t (x ∷ keepIf g l) (keepIf g l)) ≡ cond (t && f x) (x ∷ keepIf (λ c. g c && f c) l) (keepIf (λ c. g c && f c) l)
     go true e = ap (λ (r : List ℕ). cond (f x) (x ∷ r) r) e
     go false e = e
-
-concat-append : {A : Type 0} (f : A → List ℕ) (l : List A) (x : A) → concatMap f (l ++ (x ∷ [])) ≡ concatMap f l ++ f x
-concat-append f [] x = append-nil (f x)
-concat-append f (y ∷ l) x = ap (λ (r : List ℕ). f y ++ r) (concat-append f l x) ∙ sym (append-assoc (f y) (concatMap f l) (f x))
 
 -- two cards pushed are the two sites pushed
 pub push-two : (p : ℕ → Bool) (sites l m n : List ℕ) (x y : ℕ) → x ∷ y ∷ [] ≡ sites

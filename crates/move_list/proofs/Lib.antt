@@ -1,0 +1,3 @@
+pub mod OriginMasks
+pub mod FoundMoves
+pub mod MovePlans
