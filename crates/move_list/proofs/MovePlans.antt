@@ -2,15 +2,17 @@
 use Prim.Native.Nat.{_+_, _-_, _<_, _≤_, suc, zero, ℕ}
 use borrow.Author.Tests.{eq-eqb, ltb-false, ne-eqb}
 use lib.Dec.{eqb, ltb}
-use lib.ListN.{List·getD-eq-default, drop, getD, length, length-append}
+use lib.ListN.{List·getD-eq-default, drop, getD, length, length-append, take}
 use mathlib.Core.Bool.{Bool, cond, false, not, true}
-use mathlib.Core.List.{List, [], _++_, _∷_, map}
+use lib.Seq.{take-length, take-suc}
+use mathlib.Core.List.{List, [], _++_, _∷_, map, map-append}
 use mathlib.Core.Logic.{_≢_, _⊎_, inl, inr}
 use mathlib.Core.Path.{_∙_, _≡_, ap, ap₂, refl, sym}
 use native.Mathlib.Numerals.{add-one}
 use native.Mathlib.Omega.{arith}
 use Rattle.lists.specs.Tests.{concatMap, numbersBelow}
 use Rattle.lists.proofs.Bools.{split}
+use Rattle.lists.proofs.Cases.{by-eq}
 use Rattle.lists.proofs.Numbers.{concat-append, getD-concat}
 use Rattle.image.specs.Layout.{blockCount}
 use Rattle.mask.specs.Masks.{byte, members, size}
@@ -25,7 +27,11 @@ use Rattle.cabinet_rules.specs.MoveLists.{listAnswerOn, listRefusal, movesOn, u
 use Rattle.promise.specs.Given.{Given, viewOf}
 use Rattle.promise.proofs.Finish.{form-row, refusal-rules}
 use Rattle.reorganise.proofs.States.{state-rows}
-use Rattle.move_list.specs.Plans.{Finds, Plans, moveAt, moveFor, movesAt, movesIn, refusedPlan}
+use Rattle.move_list.specs.Plans.{Finds, Plans, answerBy, firstMoves, moveAt, moveFor, movesAt, movesIn, refusedPlan, storedBy}
+use Rattle.move_list.specs.Promise.{ListDone, filledBy, listAfter, shownList}
+use Rattle.move_list.specs.declared.Listed.{Listed}
+use Rattle.move_list.specs.declared.Listed.the-variants.{Moves, None, Refused}
+use Rattle.move_list.specs.declared.Move.{Move}
 use Rattle.move_list.proofs.FoundMoves.{length-map}
 use Rattle.move_list.specs.declared.Plan.{Plan}
 
@@ -96,3 +102,90 @@ unfolding countBelow movesIn moveAt
 move-beyond origins n b left hb e =
     let z : n ≡ countBelow origins blockCount + left = e ∙ ap (λ (k : ℕ). countBelow origins k + left) hb in
     sym (ap moveFor (List·getD-eq-default (movesIn origins) (entryAt 0 0) (omega (arith, z))))
+
+-- ---- the answer, and the lent list after it
+-- the first moves, as many as there are, are all
+first-taken : (l : List Entry) (n : ℕ) → n ≤ length l → firstMoves l n ≡ map moveFor (take n l)
+unfolding moveAt
+first-taken l zero h = refl
+first-taken l (suc n) h =
+    ap (λ (r : List Move). r ++ (moveAt l n ∷ [])) (first-taken l n (omega arith))
+    ∙ sym (ap (map moveFor) (take-suc l n (entryAt 0 0) (omega arith)) ∙ map-append moveFor (take n l) (getD l n (entryAt 0 0) ∷ []))
+
+first-all : (l : List Entry) (n : ℕ) → n ≡ length l → firstMoves l n ≡ map moveFor l
+first-all l n e = first-taken l n (omega (arith, e)) ∙ ap (λ (k : ℕ). map moveFor (take k l)) e ∙ ap (map moveFor) (take-length l)
+
+-- no more entries are filled than there is room for
+pub stored-le : (p : Plan) (room : ℕ) → storedBy p room ≤ room
+unfolding storedBy
+stored-le p room = go (not (eqb (p .refusal) 0)) (p .locked) (split (ltb room (p .count)))
+  where
+    go : (a b : Bool) → (ltb room (p .count) ≡ true) ⊎ (ltb room (p .count) ≡ false) → cond a 0 (cond b 0 (cond (ltb room (p .count)) 0 (p .count))) ≤ room
+    go true b c = omega arith
+    go false true c = omega arith
+    go false false (inl e) = rw e (omega arith)
+    go false false (inr e) = rw e (ltb-false room (p .count) e)
+
+module _ (p : Plan) (g : Image) (plans : Plans p g) (lent : List Move) where
+  abbrev room : ℕ
+  room = length lent
+
+  abbrev moves : List Entry
+  moves = movesIn (p .origins)
+
+  -- What the code leaves in the lent list.
+  abbrev pub leftBy : List Move
+  leftBy = firstMoves moves (storedBy p room) ++ drop (storedBy p room) lent
+
+  -- from what is answered and how many entries are filled, by the code and by the rules
+  done-by : (x : Listed) (n : ℕ) (y : ListAnswer) → answerBy p room ≡ x → storedBy p room ≡ n → listAnswerOn room g ≡ y → shownList x ≡ y
+      → firstMoves moves n ++ drop n lent ≡ filledBy y (map moveFor (movesOn g)) lent → ListDone g lent (answerBy p room) leftBy
+  unfolding listAfter
+  done-by x n y a s l e f = record {
+    answers = ap shownList a ∙ e ∙ sym l;
+    fills = ap (λ (k : ℕ). firstMoves moves k ++ drop k lent) s ∙ f ∙ sym (ap (λ (z : ListAnswer). filledBy z (map moveFor (movesOn g)) lent) l);
+  }
+
+  refused-done : p .refusal ≢ 0 → ListDone g lent (answerBy p room) leftBy
+  unfolding answerBy storedBy listAnswerOn
+  refused-done d = done-by (Refused (p .refusal)) 0 (notListed (p .refusal)) (rw (ne-eqb (p .refusal) 0 d)) (rw (ne-eqb (p .refusal) 0 d))
+      (ap (λ (n : ℕ). unlessRefusedList n (listAnswer cabinet (controlIn g) (viewOf g) room)) (sym (plans .refusal-is)) ∙ go (p .refusal) d) refl refl
+    where
+      go : (n : ℕ) → n ≢ 0 → unlessRefusedList n (listAnswer cabinet (controlIn g) (viewOf g) room) ≡ notListed n
+      go zero d = absurd (d refl)
+      go (suc n) d = refl
+
+  module _ (clear : p .refusal ≡ 0) where
+    f : Finds p g
+    f = plans .finds clear
+
+    by-rules : listAnswerOn room g ≡ cond (p .locked) noList (cond (ltb room (length (movesOn g))) (notListed 16) (listed (length (movesOn g))))
+    unfolding listAnswerOn listAnswer
+    by-rules = rw (sym (plans .refusal-is) ∙ clear)
+        (ap (λ (t : Bool). cond t noList (cond (ltb room (length (movesOn g))) (notListed 16) (listed (length (movesOn g))))) (sym (f .locked-is)))
+
+    locked-done : p .locked ≡ true → ListDone g lent (answerBy p room) leftBy
+    unfolding answerBy storedBy
+    locked-done e = done-by None 0 noList (rw (eq-eqb (p .refusal) 0 clear, e)) (rw (eq-eqb (p .refusal) 0 clear, e)) (by-rules ∙ rw e) refl refl
+
+    module _ (free : p .locked ≡ false) where
+      by-count : listAnswerOn room g ≡ cond (ltb room (p .count)) (notListed 16) (listed (p .count))
+      by-count = by-rules ∙ rw free (ap (λ (n : ℕ). cond (ltb room n) (notListed 16) (listed n)) (sym (f .count-is free)))
+
+      short-done : ltb room (p .count) ≡ true → ListDone g lent (answerBy p room) leftBy
+      unfolding answerBy storedBy
+      short-done e = done-by (Refused 16) 0 (notListed 16) (rw (eq-eqb (p .refusal) 0 clear, free, e)) (rw (eq-eqb (p .refusal) 0 clear, free, e)) (by-count ∙ rw e) refl refl
+
+      filled-done : ltb room (p .count) ≡ false → ListDone g lent (answerBy p room) leftBy
+      unfolding answerBy storedBy
+      filled-done e = done-by (Moves (p .count)) (p .count) (listed (p .count)) (rw (eq-eqb (p .refusal) 0 clear, free, e)) (rw (eq-eqb (p .refusal) 0 clear, free, e)) (by-count ∙ rw e) refl
+          (ap (λ (l : List Move). l ++ drop (p .count) lent) (first-all moves (p .count) (f .count-is free ∙ ap length (sym (f .moves-are free))) ∙ ap (map moveFor) (f .moves-are free)))
+
+  -- The promise of the call.
+  pub list-done : ListDone g lent (answerBy p room) leftBy
+  list-done = by-eq (ListDone g lent (answerBy p room) leftBy) (p .refusal) 0 (λ e. accepted e (split (p .locked)) (split (ltb room (p .count)))) refused-done
+    where
+      accepted : p .refusal ≡ 0 → (p .locked ≡ true) ⊎ (p .locked ≡ false) → (ltb room (p .count) ≡ true) ⊎ (ltb room (p .count) ≡ false) → ListDone g lent (answerBy p room) leftBy
+      accepted e (inl l) c = locked-done e l
+      accepted e (inr l) (inl c) = short-done e l c
+      accepted e (inr l) (inr c) = filled-done e l c
