@@ -1,2 +1,3 @@
 pub mod OneRecordList
 pub mod Protection
+mod MoveRows

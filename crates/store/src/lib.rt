@@ -4,6 +4,9 @@
 ghost use Rattle.command.specs.Meaning.{Obeyed};
 ghost use Rattle.promise.specs.Promise.{Done, asked};
 ghost use Rattle.promise.specs.declared.Call.{Call};
+
+pub mod moves;
+
 use command::Reading;
 use image::Block;
 use image::Card;

@@ -39,9 +39,11 @@ loop-again : tie.Need-loop-again Inv-loop μ-loop
 loop-again c =
     let h = c .before in
     let l = h .before .before in
-    let a = l .before .before .args in
-    (omega arith, one-more (holdsAt (a .image .now) (byte (a .working)) (a .block .0)) (l .loop .held) (c .with-if .result) (l .loop .c) (omega arith) (l .loop .inv .1)
-    (h .holds .result) (h .holds .ensures) (c .with-if .ensures))
+    let a = l .before .before .args in (
+      omega arith,
+      one-more (holdsAt (a .image .now) (byte (a .working)) (a .block .0)) (l .loop .held) (c .with-if .result) (l .loop .c) (omega arith) (l .loop .inv .1)
+          (h .holds .result) (h .holds .ensures) (c .with-if .ensures),
+    )
 
 returns : tie.Need-returns Inv-loop μ-loop
 returns c =
