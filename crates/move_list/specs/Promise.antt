@@ -1,8 +1,9 @@
 -- The promise of the call that lists moves (document 02, A.3). Assumes nothing.
-use Prim.Native.Nat.{ℕ}
-use lib.ListN.{drop, length}
+use Prim.Native.Nat.{_*_, ℕ}
+use lib.ListN.{drop, length, replicate}
 use mathlib.Core.List.{List, _++_, map}
 use mathlib.Core.Path.{_≡_}
+use Rattle.image.specs.Layout.{blockCount, cardCount}
 use Rattle.method.specs.MoveList.{Entry, ListAnswer, listed, noList, notListed}
 use Rattle.cabinet_rules.specs.Images.{Image}
 use Rattle.cabinet_rules.specs.MoveLists.{listAnswerOn, movesOn}
@@ -26,6 +27,16 @@ filledBy (notListed n) moves lent = lent
 
 unfoldable pub listAfter : Image → List Move → List Move
 listAfter g lent = filledBy (listAnswerOn (length lent) g) (map moveFor (movesOn g)) lent
+
+-- A list that has room for every list of moves: every block from every card.
+abbrev pub mostMoves : ℕ
+mostMoves = cardCount * blockCount
+
+abbrev pub blankMove : Move
+blankMove = record { 0 = record { 0 = 0 }; 1 = record { 0 = 0 } }
+
+unfoldable pub blankList : List Move
+blankList = replicate mostMoves blankMove
 
 -- The call on an image with a lent list answered a and left the list filled.
 pub record ListDone (g : Image) (lent : List Move) (a : Listed) (filled : List Move) : Type 0 where

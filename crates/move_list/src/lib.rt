@@ -1,8 +1,8 @@
 // The moves that let settle succeed, for the service tablet (document 02, A.3): what is found of them in one pass over
 // the card tables, the n-th of them, and their number.
 ghost use mathlib.Core.Path.{_≡_};
-ghost use lib.ListN.{getD};
 ghost use Rattle.move_list.specs.Plans.{Plans, answerBy, moveAt, movesIn, storedBy};
+ghost use Rattle.move_list.specs.Promise.{blankList};
 
 mod finding;
 mod origins;
@@ -27,6 +27,12 @@ pub enum Listed {
     Refused(u8),
 }
 
+// What the call answers, beside a list that has room for every list of moves.
+pub struct AllMoves {
+    pub listed: Listed,
+    pub moves: [Move; MOST_MOVES],
+}
+
 // What is found in an image: why the call is refused, or 0; whether a move is locked; and, where neither, the number of
 // moves and for each block the mask of the cards that it moves from.
 pub struct Plan {
@@ -34,6 +40,24 @@ pub struct Plan {
     pub locked: bool,
     pub count: u16,
     pub origins: [u8; BLOCK_COUNT],
+}
+
+// A list that has room for every list of moves.
+pub fn blank() -> [Move; MOST_MOVES]
+    ensures { λ r. ⌜ r ≡ blankList ⌝ }
+{
+    [Move(Card(0), Block(0)); MOST_MOVES]
+}
+
+impl AllMoves {
+    pub fn new(listed: Listed, moves: [Move; MOST_MOVES]) -> AllMoves
+        ensures { λ r. ⌜ (r .listed ≡ listed) × (r .moves ≡ moves) ⌝ }
+    {
+        AllMoves {
+            listed: listed,
+            moves: moves,
+        }
+    }
 }
 
 // What is found in an image: one pass over its tables.

@@ -1,3 +1,4 @@
 pub mod OneRecordList
 pub mod Protection
 mod MoveRows
+mod LocalArray

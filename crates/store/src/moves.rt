@@ -4,7 +4,8 @@ ghost use mathlib.Core.Path.{_≡_};
 ghost use Prim.Native.Nat.{_≤_};
 ghost use lib.ListN.{drop, length};
 ghost use Rattle.move_list.specs.Plans.{firstMoves, movesIn};
-ghost use Rattle.move_list.specs.Promise.{ListDone};
+ghost use Rattle.move_list.specs.Promise.{ListDone, blankList};
+use move_list::AllMoves;
 use move_list::Listed;
 use move_list::Move;
 use move_list::Plan;
@@ -31,4 +32,14 @@ pub fn list(image: &[u8], list: &mut [Move]) -> Listed
     let n = plan.stored(room);
     fill(plan, list, n);
     plan.answer(room)
+}
+
+// The same with plain parameters, in a list that has room for every list of moves: its callers hold no reference to an
+// entry.
+pub fn all(image: &[u8]) -> AllMoves
+    ensures { λ r. ⌜ ListDone (now (image .entry)) blankList (r .listed) (r .moves) ⌝ }
+{
+    let mut moves = move_list::blank();
+    let listed = list(image, &mut moves);
+    AllMoves::new(listed, moves)
 }

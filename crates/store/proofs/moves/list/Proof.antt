@@ -39,7 +39,7 @@ use prog.Memory.{Memory}
 use prog.Routine.{Routine}
 use prog.Wp.{Calls, Env, Heap, Loops, Tables, WpFn}
 use sound.WpLaws.{FmC, WpFn-mono, fmOf}
-use types.Kit.{!, Given, Item, Sq, _$_, _∵_, _⊛_, atRet, await, by, done, drop, feqL, fjoin, frame, fsplit, join, keep, later, move, pick, qed, raw, rewrite, runs, some, split, suffices, use0, use1, use2, ‵, ⋆}
+use types.Kit.{ !, Given, Item, Sq, _$_, _∵_, _⊛_, atRet, await, by, done, drop, feqL, fjoin, frame, fsplit, join, keep, later, move, pick, qed, raw, rewrite, runs, some, split, suffices, use0, use1, use2, ‵, ⋆}
 use types.Part.{agg, look-in, sub, whole}
 use types.Run.{addr, alloc0, alloc1, and-then, assigns, enter, fld, forget, free0, free1, from, hop, init, land, load, look, no-more, of-opd, params1, pass0, pass1, returns, stop}
 use Rattle.method.specs.MoveList.{Entry}
