@@ -4,10 +4,14 @@ pub mod ProtectionExamples
 pub mod Lawful
 pub mod After
 pub mod Form
+pub mod FormLaws
+pub mod Shows
 pub mod Sound
 pub mod OneRecordList
 pub mod FormStays
 pub mod GoesOn
 pub mod Base
 pub mod Rails
+pub mod Running
 pub mod Protection
+pub mod MoveLists

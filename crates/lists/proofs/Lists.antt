@@ -1,13 +1,13 @@
 -- Laws of tests over lists, and of membership. Assumes nothing.
 use mathlib.Core.Path.{_≡_, ap, refl, sym, _∙_}
 use mathlib.Core.Logic.{_⊎_, inl, inr}
-use mathlib.Core.Bool.{Bool, true, false, not, _&&_, _||_, cond}
+use mathlib.Core.Bool.{Bool, true, false, cond}
 use mathlib.Core.List.{List, [], _∷_, _++_, append-assoc, append-nil, map, reverse, reverse-cons, reverseAux}
 use Prim.Native.Nat.{ℕ}
 use lib.Dec.{eqb}
 use borrow.Author.Tests.{eqb-true}
 use Rattle.lists.specs.Tests.{any, all, keepIf, concatMap, In, elem}
-use Rattle.lists.proofs.Bools.{tf, and-l, and-r, and-in, or-cases, or-l, or-r, never-true, same-test, split, eqb-self}
+use Rattle.lists.proofs.Bools.{tf, and-l, and-r, and-in, or-cases, or-l, or-r, never-true, same-test, eqb-self}
 
 module _ {A : Type 0} where
   pub any-in : (f : A → Bool) (l : List A) (x : A) → In x l → f x ≡ true → any f l ≡ true

@@ -1,15 +1,15 @@
 -- The move list is the shortest, the proof: any list of moves after which every block is settled has at least as many entries. Assumes
 -- nothing.
-use Prim.Native.Nat.{_<_, _≤_, suc, zero, ℕ}
-use borrow.Author.Tests.{eq-eqb, eqb-true}
+use Prim.Native.Nat.{_<_, _≤_, ℕ}
+use borrow.Author.Tests.{eqb-true}
 use lib.Dec.{eqb}
 use lib.ListN.{length, length-map}
-use mathlib.Core.Bool.{Bool, _&&_, cond, false, not, true}
+use mathlib.Core.Bool.{Bool, false, not, true}
 use mathlib.Core.List.{List, [], _∷_, map}
 use mathlib.Core.Logic.{_⊎_, inl, inr}
 use mathlib.Core.Path.{_∙_, _≡_, ap, fun-ext, refl}
 use native.Mathlib.Omega.{arith}
-use Rattle.lists.specs.Tests.{In, allBelow, anyBelow, count, elem, keepIf, numbersBelow, oneIf, sumBelow}
+use Rattle.lists.specs.Tests.{In, anyBelow, count, elem, keepIf, numbersBelow, oneIf, sumBelow}
 use Rattle.lists.proofs.Bools.{and-l, and-r, eqb-self, never-true, not-is, split, tf}
 use Rattle.lists.proofs.Counts.{all-below, below-all, count-none}
 use Rattle.lists.proofs.Lists.{keep-in, map-in}

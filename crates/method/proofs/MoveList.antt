@@ -1,7 +1,7 @@
 -- The move list, the proofs: its moves settle every block, and 'none' is answered exactly where one of them is locked and then no list of
 -- moves settles. Assumes nothing.
-use Prim.Native.Nat.{_<_, suc, zero, ℕ}
-use borrow.Author.Tests.{eq-eqb, lt-ltb, ltb-true}
+use Prim.Native.Nat.{_<_, ℕ}
+use borrow.Author.Tests.{ltb-true}
 use lib.Dec.{eqb, ltb}
 use lib.ListN.{length}
 use mathlib.Core.Bool.{Bool, _&&_, cond, false, not, true}
@@ -9,16 +9,16 @@ use mathlib.Core.List.{List, map}
 use mathlib.Core.Logic.{_⊎_, inl, inr}
 use mathlib.Core.Path.{_∙_, _≡_, ap, refl, subst, sym}
 use native.Mathlib.Omega.{arith}
-use Rattle.lists.specs.Tests.{In, any, anyBelow, concatMap, elem, keepIf, numbersBelow}
-use Rattle.lists.proofs.Bools.{and-in, and-l, and-r, is-not, never-true, not-is, split, tf}
+use Rattle.lists.specs.Tests.{In, anyBelow, elem, keepIf, numbersBelow}
+use Rattle.lists.proofs.Bools.{and-in, and-l, and-r, is-not, not-is, split, tf}
 use Rattle.lists.proofs.Counts.{all-below, all-fails, any-below, any-below-out, below-none}
 use Rattle.lists.proofs.Lists.{any-in, any-none, any-out, concat-in, concat-out, in-keep, in-map, keep-in, map-in}
 use Rattle.lists.proofs.Numbers.{below-in, in-below, lowest-below}
 use Rattle.method.specs.Changes.{Control}
-use Rattle.method.specs.MoveList.{Entry, ListAnswer, LockedMove, anyMoveLocked, entryAt, isLowest, isOrigin, isStray}
+use Rattle.method.specs.MoveList.{Entry, LockedMove, anyMoveLocked, entryAt, isLowest, isOrigin, isStray}
 use Rattle.method.specs.MoveList.{listAnswer, listed, moveList, movesOf, noList, notListed}
 use Rattle.method.specs.Parameters.{Parameters}
-use Rattle.method.specs.Rules.{View, anyLocked, newestSites, settled, settledAt, visible}
+use Rattle.method.specs.Rules.{View, anyLocked, newestSites, settled, settledAt}
 use Rattle.method.specs.Slots.{Slot}
 use Rattle.method.proofs.Invariant.{Form, Invariant, held-seen, works-b}
 use Rattle.method.proofs.Laws.{Laws}

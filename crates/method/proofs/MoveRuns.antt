@@ -1,6 +1,6 @@
 -- What a list of moves, accepted or refused, keeps and brings about in a store that runs, and settle after it. Assumes nothing.
 use Prim.Native.Nat.{suc, zero, ℕ}
-use borrow.Author.Tests.{eq-eqb, eqb-true}
+use borrow.Author.Tests.{eqb-true}
 use lib.Dec.{eqb, ltb}
 use lib.ListN.{length}
 use mathlib.Core.Bool.{Bool, _&&_, _||_, cond, false, not, true}
@@ -14,7 +14,7 @@ use Rattle.lists.proofs.Lists.{all-in, all-out, elem-in, in-elem}
 use Rattle.method.specs.Changes.{Control}
 use Rattle.method.specs.MoveList.{Entry, asMove, entryAt}
 use Rattle.method.specs.Parameters.{Parameters}
-use Rattle.method.specs.Rules.{Answer, State, View, act, anyLocked, answerOf, guarded, move, newestSites, nextState}
+use Rattle.method.specs.Rules.{State, View, act, anyLocked, guarded, move, newestSites, nextState}
 use Rattle.method.specs.Rules.{plan, refusal, refused, retired, row, settle, settled, settledAt, visible}
 use Rattle.method.proofs.Invariant.{Form, held-seen}
 use Rattle.method.proofs.Keeping.{nextView}
