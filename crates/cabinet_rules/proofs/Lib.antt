@@ -1,6 +1,7 @@
 pub mod Examples
 pub mod RailExamples
 pub mod ProtectionExamples
+pub mod MoveListExamples
 pub mod Lawful
 pub mod After
 pub mod Form
