@@ -71,6 +71,7 @@ module _ (g : Image) (form : controlForm g ≡ true) where
   unfolding membersOk
   usable-active p m = leb-true leastMembers (size (p .mask)) (and-l (leb leastMembers (size (p .mask))) (isWithinEither (p .mask) (controlIn g .working) (controlIn g .failed)) (members-of p m))
 
+  -- the newest is active
   pub newest-usable : Usable (controlIn g .newest)
   newest-usable = usable-active (controlIn g .newest) (in-right (controlIn g .older) (controlIn g .newest ∷ []) (controlIn g .newest) (inl refl))
 
@@ -102,12 +103,13 @@ module _ (g : Image) (form : controlForm g ≡ true) where
       go (inl on) = rw (on, works-not-failed c on)
       go (inr off) = rw (off, rw off at (known-member p c m h))
 
-  -- while the store runs, every member of the newest placement works, so every site of it
+  -- while the store runs, every member of the newest placement works
   newest-member-works : controlIn g .stopped ≡ false → (c : ℕ) → hasCard (controlIn g .newest .mask) c ≡ true → hasCard (controlIn g .working) c ≡ true
   unfolding isWithin
   newest-member-works running c h = imp-out (hasCard (controlIn g .newest .mask) c) (hasCard (controlIn g .working) c)
       (below-all cardCount (λ x. not (hasCard (controlIn g .newest .mask) x) || hasCard (controlIn g .working) x) c (rw running at (clauses .newest-works)) (has-card (controlIn g .newest .mask) c h)) h
 
+  -- and so every site of it
   pub newest-site-works : controlIn g .stopped ≡ false → (b c : ℕ) → b < blockCount → elem c (sitesOf (controlIn g .newest) b) ≡ true → hasCard (controlIn g .working) c ≡ true
   newest-site-works running b c hb e = newest-member-works running c (site-member (controlIn g .newest) b c newest-usable e)
 

@@ -33,6 +33,7 @@ use Rattle.cabinet_rules.proofs.Shows.{Shows, answer-shows, next-shows,
 use Rattle.cabinet_rules.proofs.Sound.{Sound, sound-after, sound-shows, start-sound}
 
 -- ---- moves on an image that shows a running store
+-- The first call of a list, and the calls behind it.
 headOf : Call cabinet → List (Call cabinet) → Call cabinet
 headOf d [] = d
 headOf d (c ∷ l) = c
@@ -117,6 +118,7 @@ no-shorter-list g room n e l entries a noise m done =
     met false q = let z : _≡_ {A = ℕ} 0 1 = cc in absurd (omega arith)
 
 -- ---- 'none'
+-- It is answered exactly where a block that must still move has a locked record on a card that it would move from.
 pub none-by-lock : NoneByLock
 unfolding NoneByLock listAnswerOn
 none-by-lock g room clear =

@@ -90,6 +90,7 @@ module _ (D : Delivery) (W : DeliveryLaws D) where
       let p : look P s c b ≡ v c b = ap (λ (f : View P). f c b) (d .same-look) in
       rw t at p
 
+  -- a card and a block that can be seen are in range
   pub visible-card : (k : PartOf D) (c b : ℕ) → visible P k c b ≡ true → c < cardCount
   visible-card k c b e = has-card (k .working) c (and-l (hasCard (k .working) c) (ltb b blockCount) e)
 

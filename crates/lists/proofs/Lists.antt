@@ -49,7 +49,7 @@ module _ {A : Type 0} where
       go (inl q) = inl (inr q)
       go (inr q) = inr q
 
-  -- an element that is kept passes the test and was there, and one that was there and passes is kept
+  -- an element that is kept passes the test and was there
   pub in-keep : (f : A → Bool) (l : List A) (x : A) → In x (keepIf f l) → (f x ≡ true) × In x l
   in-keep f [] x m = absurd m
   in-keep f (y ∷ l) x m = go (f y) refl m (in-keep f l x)
@@ -59,6 +59,7 @@ module _ {A : Type 0} where
       go true e (inr h) ih = (ih h .0, inr (ih h .1))
       go false e h ih = (ih h .0, inr (ih h .1))
 
+  -- one that was there and passes is kept
   pub keep-in : (f : A → Bool) (l : List A) (x : A) → f x ≡ true → In x l → In x (keepIf f l)
   keep-in f [] x p m = m
   keep-in f (y ∷ l) x p (inl e) = go (f y) (rw e at p)
@@ -104,6 +105,7 @@ module _ {A : Type 0} where
   all-in f [] h = refl
   all-in f (x ∷ l) h = and-in (f x) (all f l) (h x (inl refl)) (all-in f l (λ y m. h y (inr m)))
 
+  -- of two lists, one behind the other, the kept elements stand so too
   pub keep-append : (f : A → Bool) (l m : List A) → keepIf f (l ++ m) ≡ keepIf f l ++ keepIf f m
   keep-append f [] m = refl
   keep-append f (x ∷ l) m = go (f x) (keep-append f l m)
@@ -121,8 +123,8 @@ module _ {A : Type 0} where
       go (inr (inl e)) ih = inl e
       go (inr (inr e)) ih = absurd e
 
--- an element of the lists that f gives, one behind the other
 module _ {A B : Type 0} (f : A → List B) where
+  -- an element of the lists that f gives, one behind the other, is in one of them
   pub concat-out : (l : List A) (c : B) → In c (concatMap f l) → (p : A) × In p l × In c (f p)
   concat-out [] c m = absurd m
   concat-out (p ∷ l) c m = go (in-cases (f p) (concatMap f l) c m) (concat-out l c)
@@ -131,6 +133,7 @@ module _ {A B : Type 0} (f : A → List B) where
       go (inl i) ih = (p, inl refl, i)
       go (inr i) ih = (ih i .0, inr (ih i .1), ih i .2)
 
+  -- and an element of one of them is in all of them together
   pub concat-in : (l : List A) (c : B) (p : A) → In p l → In c (f p) → In c (concatMap f l)
   concat-in [] c p m e = absurd m
   concat-in (q ∷ l) c p (inl i) e = in-left (f q) (concatMap f l) c (rw i at e)

@@ -10,10 +10,11 @@ use mathlib.Core.Path.{_∙_, _≡_, ap, refl}
 use native.Mathlib.Omega.{arith}
 use Rattle.lists.specs.Tests.{In, anyBelow, concatMap, count, keepIf, numbersBelow, oneIf, sumBelow}
 use Rattle.lists.proofs.Bools.{and-in, and-l, and-r, is-not, never-true, not-is, or-cases, split, tf}
-use Rattle.lists.proofs.Counts.{all-below, but, count-none}
+use Rattle.lists.proofs.Counts.{all-below, but, count-above, count-but, count-mono, count-none}
+use Rattle.lists.proofs.Cases.{lt-or-ge}
 use Rattle.lists.proofs.Lists.{concat-more, in-cases, in-left, in-right, keep-append}
 
--- Its elements are the numbers below the bound.
+-- Every number below the bound is an element.
 pub below-in : (n i : ℕ) → i < n → In i (numbersBelow n)
 below-in zero i h = absurd (omega arith)
 below-in (suc n) i h = go (split (eqb i n)) (below-in n i)
@@ -22,6 +23,7 @@ below-in (suc n) i h = go (split (eqb i n)) (below-in n i)
     go (inl p) ih = in-right (numbersBelow n) (n ∷ []) i (inl (eqb-true i n p))
     go (inr p) ih = let d : i ≡ n → ⊥ = eqb-false i n p in in-left (numbersBelow n) (n ∷ []) i (ih (omega arith))
 
+-- And every element is below the bound.
 pub in-below : (n i : ℕ) → In i (numbersBelow n) → i < n
 in-below zero i m = absurd m
 in-below (suc n) i m = go (in-cases (numbersBelow n) (n ∷ []) i m) (in-below n i)
@@ -96,7 +98,10 @@ pub count-in : (n : ℕ) (f : ℕ → Bool) (l : List ℕ) → ((i : ℕ) → i 
 count-in n f [] h =
     let e : count n f ≡ 0 = eqb-true (count n f) 0 (count-none n f ∙ all-below n (λ i. not (f i)) (λ i b. is-not (f i) (never-true (f i) (h i b)))) in
     omega arith
-count-in n f (x ∷ l) h = let r : count n (but f x) ≤ length l = count-in n (but f x) l others in let o : count n f ≤ suc (count n (but f x)) = one n in omega arith
+count-in n f (x ∷ l) h =
+    let r : count n (but f x) ≤ length l = count-in n (but f x) l others in
+    let o : count n f ≤ suc (count n (but f x)) = one (lt-or-ge x n) (split (f x)) in
+    omega arith
   where
     others : (i : ℕ) → i < n → but f x i ≡ true → In i l
     others i b e = go (h i b (and-l (f i) (not (eqb i x)) e))
@@ -105,31 +110,14 @@ count-in n f (x ∷ l) h = let r : count n (but f x) ≤ length l = count-in n (
         go (inl p) = tf (eqb i x) (eq-eqb i x p) (not-is (eqb i x) (and-r (f i) (not (eqb i x)) e))
         go (inr m) = m
 
-    below : (j : ℕ) → j ≤ x → count j f ≤ count j (but f x)
-    below zero b = omega arith
-    below (suc j) b = rw (ne-eqb j x (λ e. omega arith)) (last (f j) (below j (omega arith)))
-      where
-        last : (t : Bool) → count j f ≤ count j (but f x) → oneIf t + count j f ≤ oneIf (t && true) + count j (but f x)
-        last true ih = omega arith
-        last false ih = omega arith
+    one : (x < n) ⊎ (n ≤ x) → (f x ≡ true) ⊎ (f x ≡ false) → count n f ≤ suc (count n (but f x))
+    one (inl b) (inl p) = let e : count n f ≡ suc (count n (but f x)) = count-but n f x p b in omega arith
+    one (inl b) (inr p) =
+        let e : count n f ≤ count n (but f x) = count-mono n f (but f x) (λ i q. and-in (f i) (not (eqb i x)) q (is-not (eqb i x) (ne-eqb i x (λ z. tf (f x) (rw z at q) p)))) in
+        omega arith
+    one (inr b) p = let e : count n f ≡ count n (but f x) = count-above n f x b in omega arith
 
-    one : (m : ℕ) → count m f ≤ suc (count m (but f x))
-    one zero = omega arith
-    one (suc m) = go (split (eqb m x)) (one m)
-      where
-        here : (t : Bool) → count m f ≤ count m (but f x) → oneIf t + count m f ≤ suc (oneIf (t && false) + count m (but f x))
-        here true a = omega arith
-        here false a = omega arith
-
-        there : (t : Bool) → count m f ≤ suc (count m (but f x)) → oneIf t + count m f ≤ suc (oneIf (t && true) + count m (but f x))
-        there true a = omega arith
-        there false a = omega arith
-
-        go : (eqb m x ≡ true) ⊎ (eqb m x ≡ false) → count m f ≤ suc (count m (but f x)) → oneIf (f m) + count m f ≤ suc (oneIf (but f x m) + count m (but f x))
-        go (inl p) ih = let e : m ≡ x = eqb-true m x p in rw p (here (f m) (below m (omega arith)))
-        go (inr p) ih = rw p (there (f m) ih)
-
--- Where some number below n passes, there is a lowest one, and it is one alone.
+-- Where some number below n passes, there is a lowest one.
 pub lowest-below : (n : ℕ) (f : ℕ → Bool) → anyBelow n f ≡ true → (i : ℕ) × (i < n) × ((f i && not (anyBelow i f)) ≡ true)
 lowest-below zero f e = tf false e refl
 lowest-below (suc n) f e = go (split (anyBelow n f)) (lowest-below n f)
@@ -142,6 +130,7 @@ lowest-below (suc n) f e = go (split (anyBelow n f)) (lowest-below n f)
         pick (inl z) = z
         pick (inr z) = tf (anyBelow n f) z p
 
+-- And it is one alone.
 pub lowest-once : (n : ℕ) (f : ℕ → Bool) → count n (λ i. f i && not (anyBelow i f)) ≤ oneIf (anyBelow n f)
 lowest-once zero f = omega arith
 lowest-once (suc n) f = go (f n) (anyBelow n f) (lowest-once n f)

@@ -47,7 +47,7 @@ module _ (P : Parameters) (k : Control P) (v : View P) where
       concat-in (λ b. map (entryAt b) (keepIf (isOrigin P k v b) (numbersBelow cards))) (numbersBelow (blocks (k .setting))) (entryAt b c) b (below-in (blocks (k .setting)) b hb)
       (map-in (entryAt b) (keepIf (isOrigin P k v b) (numbersBelow cards)) c (keep-in (isOrigin P k v b) (numbersBelow cards) c e (below-in cards c hc)))
 
-  -- A card that a block moves from holds it, and the block is not settled.
+  -- A card that a block moves from holds it.
   pub origin-holds : (b c : ℕ) → isOrigin P k v b c ≡ true → held (v c b) ≡ true
   unfolding isOrigin
   origin-holds b c e = go (anyBelow cards (isStray P k v b)) (and-r (not (settledAt P k v b)) (cond (anyBelow cards (isStray P k v b)) (isStray P k v b c) (isLowest P v b c)) e)
@@ -56,11 +56,12 @@ module _ (P : Parameters) (k : Control P) (v : View P) where
       go true h = and-l (held (v c b)) (not (elem c (newestSites P k b))) h
       go false h = and-l (held (v c b)) (not (anyBelow c (λ x. held (v x b)))) h
 
+  -- A block that moves from a card is not settled.
   pub origin-unsettled : (b c : ℕ) → isOrigin P k v b c ≡ true → settledAt P k v b ≡ false
   unfolding isOrigin
   origin-unsettled b c e = not-is (settledAt P k v b) (and-l (not (settledAt P k v b)) (cond (anyBelow cards (isStray P k v b)) (isStray P k v b c) (isLowest P v b c)) e)
 
-  -- 'None' would be answered exactly where a move of the list is locked.
+  -- Where the test of the list finds a lock, a block that must still move has it on a card that it would move from.
   pub locked-move : anyMoveLocked P k v ≡ true → LockedMove P k v
   unfolding anyMoveLocked
   locked-move e =
@@ -68,6 +69,7 @@ module _ (P : Parameters) (k : Control P) (v : View P) where
       let z = listed-entry (t .0) (t .1) in
       record { card = t .0 .card; block = t .0 .block; is-card = z .0; is-block = z .1; moves-from = z .2; locked-there = t .2 }
 
+  -- And where a block has such a lock, the test finds it.
   pub move-locked : LockedMove P k v → anyMoveLocked P k v ≡ true
   unfolding anyMoveLocked
   move-locked m = any-in (λ x. anyLocked P (v (x .card) (x .block))) (moveList P k v) (entryAt (m .block) (m .card)) (entry-listed (m .card) (m .block) (m .is-card) (m .is-block) (m .moves-from)) (m .locked-there)
@@ -84,7 +86,7 @@ module _ (P : Parameters) (k : Control P) (v : View P) (room : ℕ) where
       go false true p h = let z : _≡_ {A = ℕ} 0 1 = cc in absurd (omega arith)
       go false false p h = (p, cc)
 
-  -- 'None' is answered exactly where one of them is, whatever the room.
+  -- 'None' is answered only where one of them is locked.
   pub none-is : listAnswer P k v room ≡ noList → anyMoveLocked P k v ≡ true
   unfolding listAnswer
   none-is e = go (anyMoveLocked P k v) (ltb room (length (moveList P k v))) e
@@ -94,6 +96,7 @@ module _ (P : Parameters) (k : Control P) (v : View P) (room : ℕ) where
       go false true h = let z : _≡_ {A = ℕ} 0 1 = cc in absurd (omega arith)
       go false false h = let z : _≡_ {A = ℕ} 0 1 = cc in absurd (omega arith)
 
+  -- And there it is answered whatever the room.
   pub is-none : anyMoveLocked P k v ≡ true → listAnswer P k v room ≡ noList
   unfolding listAnswer
   is-none e = rw e
@@ -162,6 +165,7 @@ module _ (P : Parameters) (L : Laws P) where
             site x h (inl q) = (q, complete)
             site x h (inr q) = come x (stray-origin b x n (moves-no-new P L k form l v i x b q h) q) h
 
+    -- So settle's condition is met.
     pub list-settled : anyMoveLocked P k v ≡ false → settled P k (movedAll P L k (moveList P k v) v) ≡ true
     unfolding settled
     list-settled free = all-below (blocks (k .setting)) (settledAt P k (movedAll P L k (moveList P k v) v)) (λ b h. list-settles free b)

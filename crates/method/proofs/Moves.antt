@@ -1,13 +1,13 @@
 -- What one move, accepted or refused, keeps and brings about in a store that runs. Assumes nothing.
 use Prim.Native.Nat.{suc, zero, ℕ}
-use borrow.Author.Tests.{eqb-true, lt-ltb}
+use borrow.Author.Tests.{eq-eqb, eqb-true, lt-ltb}
 use lib.Dec.{eqb, ltb}
 use mathlib.Core.Bool.{Bool, _&&_, cond, false, not, true}
 use mathlib.Core.Logic.{_⊎_, inl, inr}
 use mathlib.Core.Path.{_∙_, _≡_, ap, refl, subst, sym}
 use native.Mathlib.Omega.{arith}
 use Rattle.lists.specs.Tests.{elem}
-use Rattle.lists.proofs.Bools.{and-in, and-l, and-r, eqb-self, not-not-is, split, tf}
+use Rattle.lists.proofs.Bools.{and-in, and-l, and-r, eqb-self, never-true, not-not-is, split, tf}
 use Rattle.method.specs.Changes.{Control}
 use Rattle.method.specs.Parameters.{Parameters}
 use Rattle.method.specs.Rules.{View, act, anyLocked, guarded, move, moveWrites, newestSites, plan, refusal, row}
@@ -132,107 +132,83 @@ module _ (P : Parameters) (L : Laws P) where
     one : Cases
     one = one-move k form v idle c m
 
+    -- On each card a block is as before, or an accepted move was of it.
+    by-own : (G : Type 0) (x b : ℕ) → (w x b ≡ v x b → G) → (MoveDone k v c m w → b ≡ m → G) → G
+    by-own G x b same own = go one (split (eqb b m))
+      where
+        go : Cases → (eqb b m ≡ true) ⊎ (eqb b m ≡ false) → G
+        go (inr r) e = same (ap (λ (u : View P). u x b) (r .same-tables))
+        go (inl d) (inr n) = same (d .away x b n)
+        go (inl d) (inl e) = own d (eqb-true b m e)
+
     -- A move leaves the other blocks as they are.
     pub other-block : (x b : ℕ) → eqb b m ≡ false → w x b ≡ v x b
-    other-block x b n = go one
-      where
-        go : Cases → w x b ≡ v x b
-        go (inl d) = d .away x b n
-        go (inr r) = ap (λ (u : View P). u x b) (r .same-tables)
+    other-block x b n = by-own (w x b ≡ v x b) x b (λ e. e) (λ d p. tf (eqb b m) (eq-eqb b m p) n)
 
     -- What a card holds afterwards it held before, or it is a newest site and its copy has no locked slot.
     pub traced : (x b : ℕ) → held (w x b) ≡ true → (w x b ≡ v x b) ⊎ ((elem x (newestSites P k b) ≡ true) × (anyLocked P (w x b) ≡ false))
-    traced x b h = go one
+    traced x b h = by-own ((w x b ≡ v x b) ⊎ ((elem x (newestSites P k b) ≡ true) × (anyLocked P (w x b) ≡ false))) x b (λ e. inl e)
+        (λ d q. subst (λ (y : ℕ). (w x y ≡ v x y) ⊎ ((elem x (newestSites P k y) ≡ true) × (anyLocked P (w x y) ≡ false))) (sym q)
+        (here d (split (elem x (newestSites P k m))) (subst (λ (y : ℕ). held (w x y) ≡ true) q h)))
       where
-        go : Cases → (w x b ≡ v x b) ⊎ ((elem x (newestSites P k b) ≡ true) × (anyLocked P (w x b) ≡ false))
-        go (inr r) = inl (ap (λ (u : View P). u x b) (r .same-tables))
-        go (inl d) = at (split (eqb b m))
+        here : MoveDone k v c m w → (elem x (newestSites P k m) ≡ true) ⊎ (elem x (newestSites P k m) ≡ false) → held (w x m) ≡ true
+            → (w x m ≡ v x m) ⊎ ((elem x (newestSites P k m) ≡ true) × (anyLocked P (w x m) ≡ false))
+        here d (inl q) z = pick (held (v x m)) (d .at-site x q)
           where
-            here : (elem x (newestSites P k m) ≡ true) ⊎ (elem x (newestSites P k m) ≡ false) → held (w x m) ≡ true
-                → (w x m ≡ v x m) ⊎ ((elem x (newestSites P k m) ≡ true) × (anyLocked P (w x m) ≡ false))
-            here (inl q) z = pick (held (v x m)) (d .at-site x q)
-              where
-                pick : (y : Bool) → w x m ≡ cond y (v x m) (v c m) → (w x m ≡ v x m) ⊎ ((elem x (newestSites P k m) ≡ true) × (anyLocked P (w x m) ≡ false))
-                pick true o = inl o
-                pick false o = inr (q, ap (anyLocked P) o ∙ d .was-free)
-            here (inr q) z = pick (eqb x c) (d .at-other x q)
-              where
-                pick : (y : Bool) → w x m ≡ cond y empty (v x m) → (w x m ≡ v x m) ⊎ ((elem x (newestSites P k m) ≡ true) × (anyLocked P (w x m) ≡ false))
-                pick true o = tf (held (w x m)) z (ap held o ∙ held-empty)
-                pick false o = inl o
-
-            at : (eqb b m ≡ true) ⊎ (eqb b m ≡ false) → (w x b ≡ v x b) ⊎ ((elem x (newestSites P k b) ≡ true) × (anyLocked P (w x b) ≡ false))
-            at (inr n) = inl (d .away x b n)
-            at (inl e) =
-                let q : b ≡ m = eqb-true b m e in
-                subst (λ (y : ℕ). (w x y ≡ v x y) ⊎ ((elem x (newestSites P k y) ≡ true) × (anyLocked P (w x y) ≡ false))) (sym q)
-                (here (split (elem x (newestSites P k m))) (subst (λ (y : ℕ). held (w x y) ≡ true) q h))
+            pick : (y : Bool) → w x m ≡ cond y (v x m) (v c m) → (w x m ≡ v x m) ⊎ ((elem x (newestSites P k m) ≡ true) × (anyLocked P (w x m) ≡ false))
+            pick true o = inl o
+            pick false o = inr (q, ap (anyLocked P) o ∙ d .was-free)
+        here d (inr q) z = pick (eqb x c) (d .at-other x q)
+          where
+            pick : (y : Bool) → w x m ≡ cond y empty (v x m) → (w x m ≡ v x m) ⊎ ((elem x (newestSites P k m) ≡ true) × (anyLocked P (w x m) ≡ false))
+            pick true o = tf (held (w x m)) z (ap held o ∙ held-empty)
+            pick false o = inl o
 
     -- A newest site keeps what it holds.
     pub site-keeps : (x b : ℕ) → elem x (newestSites P k b) ≡ true → held (v x b) ≡ true → w x b ≡ v x b
-    site-keeps x b q h = go one (split (eqb b m))
-      where
-        go : Cases → (eqb b m ≡ true) ⊎ (eqb b m ≡ false) → w x b ≡ v x b
-        go (inr r) e = ap (λ (u : View P). u x b) (r .same-tables)
-        go (inl d) (inr n) = d .away x b n
-        go (inl d) (inl e) =
-            let p : b ≡ m = eqb-true b m e in
-            let hold : held (v x m) ≡ true = subst (λ (y : ℕ). held (v x y) ≡ true) p h in
-            let o : w x m ≡ cond (held (v x m)) (v x m) (v c m) = d .at-site x (subst (λ (y : ℕ). elem x (newestSites P k y) ≡ true) p q) in
-            subst (λ (y : ℕ). w x y ≡ v x y) (sym p) (rw hold at o)
+    site-keeps x b q h = by-own (w x b ≡ v x b) x b (λ e. e) (λ d p.
+        let hold : held (v x m) ≡ true = subst (λ (y : ℕ). held (v x y) ≡ true) p h in
+        let o : w x m ≡ cond (held (v x m)) (v x m) (v c m) = d .at-site x (subst (λ (y : ℕ). elem x (newestSites P k y) ≡ true) p q) in
+        subst (λ (y : ℕ). w x y ≡ v x y) (sym p) (rw hold at o))
 
     -- A card that is no newest site keeps what it holds unless it is the origin.
     pub stray-keeps : (x b : ℕ) → elem x (newestSites P k b) ≡ false → (eqb x c && eqb b m) ≡ false → w x b ≡ v x b
-    stray-keeps x b q n = go one (split (eqb b m))
-      where
-        go : Cases → (eqb b m ≡ true) ⊎ (eqb b m ≡ false) → w x b ≡ v x b
-        go (inr r) e = ap (λ (u : View P). u x b) (r .same-tables)
-        go (inl d) (inr e) = d .away x b e
-        go (inl d) (inl e) =
-            let p : b ≡ m = eqb-true b m e in
-            let o : w x m ≡ cond (eqb x c) empty (v x m) = d .at-other x (subst (λ (y : ℕ). elem x (newestSites P k y) ≡ false) p q) in
-            let off : eqb x c ≡ false = other (eqb x c) (rw e at n) in
-            subst (λ (y : ℕ). w x y ≡ v x y) (sym p) (rw off at o)
-          where
-            other : (t : Bool) → (t && true) ≡ false → t ≡ false
-            other true z = z
-            other false z = z
+    stray-keeps x b q n = by-own (w x b ≡ v x b) x b (λ e. e) (λ d p.
+        let o : w x m ≡ cond (eqb x c) empty (v x m) = d .at-other x (subst (λ (y : ℕ). elem x (newestSites P k y) ≡ false) p q) in
+        let off : eqb x c ≡ false = never-true (eqb x c) (λ t. tf (eqb x c && eqb b m) (and-in (eqb x c) (eqb b m) t (eq-eqb b m p)) n) in
+        subst (λ (y : ℕ). w x y ≡ v x y) (sym p) (rw off at o))
+
+    -- A block of which every copy has a locked slot stays as it is.
+    pub locked-stays : (b : ℕ) → ((x : ℕ) → held (v x b) ≡ true → anyLocked P (v x b) ≡ true) → (x : ℕ) → w x b ≡ v x b
+    locked-stays b locks x = by-own (w x b ≡ v x b) x b (λ e. e) (λ d p.
+        let l : anyLocked P (v c b) ≡ true = locks c (subst (λ (y : ℕ). held (v c y) ≡ true) (sym p) (d .was-held)) in
+        tf (anyLocked P (v c m)) (subst (λ (y : ℕ). anyLocked P (v c y) ≡ true) p l) (d .was-free))
 
     -- A block that all newest sites hold stays so, and an accepted move makes its block so.
     pub complete-keeps : (b : ℕ) → Complete k v b → Complete k w b
     complete-keeps b h x q = ap held (site-keeps x b q (h x q)) ∙ h x q
 
-    pub spreads : MoveDone k v c m w → Complete k w m
-    spreads d y q = pick (held (v y m)) refl (d .at-site y q)
+    pub spreads : MoveDone k v c m w → (b : ℕ) → b ≡ m → Complete k w b
+    spreads d b p = subst (λ (y : ℕ). Complete k w y) (sym p) (λ y q. pick y (held (v y m)) refl (d .at-site y q))
       where
-        pick : (t : Bool) → held (v y m) ≡ t → w y m ≡ cond t (v y m) (v c m) → held (w y m) ≡ true
-        pick true z o = ap held o ∙ z
-        pick false z o = ap held o ∙ d .was-held
+        pick : (y : ℕ) (t : Bool) → held (v y m) ≡ t → w y m ≡ cond t (v y m) (v c m) → held (w y m) ≡ true
+        pick y true z o = ap held o ∙ z
+        pick y false z o = ap held o ∙ d .was-held
 
     -- A block that a card holds is held there still, or by all newest sites.
     pub held-or-complete : (x b : ℕ) → held (v x b) ≡ true → (held (w x b) ≡ true) ⊎ Complete k w b
-    held-or-complete x b h = go one (split (eqb b m))
-      where
-        go : Cases → (eqb b m ≡ true) ⊎ (eqb b m ≡ false) → (held (w x b) ≡ true) ⊎ Complete k w b
-        go (inr r) e = inl (ap (λ (u : View P). held (u x b)) (r .same-tables) ∙ h)
-        go (inl d) (inl e) = inr (subst (λ (y : ℕ). Complete k w y) (sym (eqb-true b m e)) (spreads d))
-        go (inl d) (inr e) = inl (ap held (d .away x b e) ∙ h)
+    held-or-complete x b h = by-own ((held (w x b) ≡ true) ⊎ Complete k w b) x b (λ e. inl (ap held e ∙ h)) (λ d p. inr (spreads d b p))
 
     -- Settle's condition at a card and block is kept.
     pub in-place-keeps : (x b : ℕ) → InPlace k v x b → InPlace k w x b
-    in-place-keeps x b cell h = go (traced x b h)
+    in-place-keeps x b cell h = (go (traced x b h), by-own (Complete k w b) x b (λ e. complete-keeps b (was e .1)) (λ d p. spreads d b p))
       where
-        go : (w x b ≡ v x b) ⊎ ((elem x (newestSites P k b) ≡ true) × (anyLocked P (w x b) ≡ false)) → (elem x (newestSites P k b) ≡ true) × Complete k w b
-        go (inl e) = let z = cell (sym (ap held e) ∙ h) in (z .0, complete-keeps b (z .1))
-        go (inr s) = (s .0, complete one (split (eqb b m)))
-          where
-            was : w x b ≡ v x b → Complete k w b
-            was e = complete-keeps b (cell (sym (ap held e) ∙ h) .1)
+        was : w x b ≡ v x b → (elem x (newestSites P k b) ≡ true) × Complete k v b
+        was e = cell (sym (ap held e) ∙ h)
 
-            complete : Cases → (eqb b m ≡ true) ⊎ (eqb b m ≡ false) → Complete k w b
-            complete (inr r) e = was (ap (λ (u : View P). u x b) (r .same-tables))
-            complete (inl d) (inr n) = was (d .away x b n)
-            complete (inl d) (inl e) = subst (λ (y : ℕ). Complete k w y) (sym (eqb-true b m e)) (spreads d)
+        go : (w x b ≡ v x b) ⊎ ((elem x (newestSites P k b) ≡ true) × (anyLocked P (w x b) ≡ false)) → elem x (newestSites P k b) ≡ true
+        go (inl e) = was e .0
+        go (inr s) = s .0
 
     -- No move locks a slot.
     pub unlocked-keeps : (x b : ℕ) → Unlocked v x b → Unlocked w x b
@@ -255,19 +231,8 @@ module _ (P : Parameters) (L : Laws P) where
             why : (held (v c m) ≡ false) ⊎ (anyLocked P (v c m) ≡ true) → (elem c (newestSites P k m) ≡ true) × Complete k w m
             why (inl n) = tf (held (v c m)) was n
             why (inr l) = tf (anyLocked P (v c m)) l (f was)
-        go (inl d) h = (at (split (elem c (newestSites P k m))), spreads d)
+        go (inl d) h = (at (split (elem c (newestSites P k m))), spreads d m refl)
           where
             at : (elem c (newestSites P k m) ≡ true) ⊎ (elem c (newestSites P k m) ≡ false) → elem c (newestSites P k m) ≡ true
             at (inl q) = q
             at (inr q) = tf (held (w c m)) h (ap held (rw (eqb-self c) at (d .at-other c q)) ∙ held-empty)
-
-    -- A block of which every copy has a locked slot stays as it is.
-    pub locked-stays : (b : ℕ) → ((x : ℕ) → held (v x b) ≡ true → anyLocked P (v x b) ≡ true) → (x : ℕ) → w x b ≡ v x b
-    locked-stays b locks x = go one (split (eqb b m))
-      where
-        go : Cases → (eqb b m ≡ true) ⊎ (eqb b m ≡ false) → w x b ≡ v x b
-        go (inr r) e = ap (λ (u : View P). u x b) (r .same-tables)
-        go (inl d) (inr e) = d .away x b e
-        go (inl d) (inl e) =
-            let p : b ≡ m = eqb-true b m e in
-            tf (anyLocked P (v c m)) (subst (λ (y : ℕ). anyLocked P (v c y) ≡ true) p (locks c (subst (λ (y : ℕ). held (v c y) ≡ true) (sym p) (d .was-held)))) (d .was-free)
