@@ -76,17 +76,12 @@ module _ (P : Parameters) (k : Control P) (v : View P) where
 
 -- ---- the answer, read back
 module _ (P : Parameters) (k : Control P) (v : View P) (room : ℕ) where
-  -- Moves are listed where none of them is locked, and the number is theirs.
-  pub listed-is : (n : ℕ) → listAnswer P k v room ≡ listed n → (anyMoveLocked P k v ≡ false) × (n ≡ length (moveList P k v))
+  -- Where a move of the list is locked 'none' is answered, whatever the room.
+  pub is-none : anyMoveLocked P k v ≡ true → listAnswer P k v room ≡ noList
   unfolding listAnswer
-  listed-is n e = go (anyMoveLocked P k v) (ltb room (length (moveList P k v))) refl e
-    where
-      go : (t r : Bool) → anyMoveLocked P k v ≡ t → cond t noList (cond r (notListed 16) (listed (length (moveList P k v)))) ≡ listed n → (anyMoveLocked P k v ≡ false) × (n ≡ length (moveList P k v))
-      go true r p h = let z : _≡_ {A = ℕ} 0 1 = cc in absurd (omega arith)
-      go false true p h = let z : _≡_ {A = ℕ} 0 1 = cc in absurd (omega arith)
-      go false false p h = (p, cc)
+  is-none e = rw e
 
-  -- 'None' is answered only where one of them is locked.
+  -- 'None' is answered only there.
   pub none-is : listAnswer P k v room ≡ noList → anyMoveLocked P k v ≡ true
   unfolding listAnswer
   none-is e = go (anyMoveLocked P k v) (ltb room (length (moveList P k v))) e
@@ -96,10 +91,15 @@ module _ (P : Parameters) (k : Control P) (v : View P) (room : ℕ) where
       go false true h = let z : _≡_ {A = ℕ} 0 1 = cc in absurd (omega arith)
       go false false h = let z : _≡_ {A = ℕ} 0 1 = cc in absurd (omega arith)
 
-  -- And there it is answered whatever the room.
-  pub is-none : anyMoveLocked P k v ≡ true → listAnswer P k v room ≡ noList
+  -- Moves are listed where none of them is locked, and the number is theirs.
+  pub listed-is : (n : ℕ) → listAnswer P k v room ≡ listed n → (anyMoveLocked P k v ≡ false) × (n ≡ length (moveList P k v))
   unfolding listAnswer
-  is-none e = rw e
+  listed-is n e = go (anyMoveLocked P k v) (ltb room (length (moveList P k v))) refl e
+    where
+      go : (t r : Bool) → anyMoveLocked P k v ≡ t → cond t noList (cond r (notListed 16) (listed (length (moveList P k v)))) ≡ listed n → (anyMoveLocked P k v ≡ false) × (n ≡ length (moveList P k v))
+      go true r p h = let z : _≡_ {A = ℕ} 0 1 = cc in absurd (omega arith)
+      go false true p h = let z : _≡_ {A = ℕ} 0 1 = cc in absurd (omega arith)
+      go false false p h = (p, cc)
 
 module _ (P : Parameters) (L : Laws P) where
   open Parameters P using (cards, slots, blocks, blockOf, placeOf, has, held, slot)
