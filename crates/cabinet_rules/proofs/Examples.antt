@@ -33,7 +33,7 @@ answerNumbers (loaded n) = 10 ∷ n ∷ []
 answerNumbers (refused n) = 15 ∷ n ∷ []
 
 -- The state after a list of calls, and the answers of all of them.
-afterAll : List (Call cabinet) → State cabinet → State cabinet
+unfoldable pub afterAll : List (Call cabinet) → State cabinet → State cabinet
 afterAll [] s = s
 afterAll (c ∷ l) s = afterAll l (nextState cabinet c s)
 
@@ -42,7 +42,7 @@ answers [] s = []
 answers (c ∷ l) s = answerNumbers (answerOf cabinet c s) ∷ answers l (nextState cabinet c s)
 
 -- Before the first start: nothing is there.
-abbrev nothing : State cabinet
+abbrev pub nothing : State cabinet
 nothing = zeroed cabinet noCards
 
 abbrev pub lastOf : List (List ℕ) → List ℕ

@@ -31,8 +31,8 @@ use Rattle.cabinet_rules.specs.Images.{Image, answerBy, controlBy, isSta
 use Rattle.cabinet_rules.proofs.After.{after-control, length-after}
 use Rattle.cabinet_rules.proofs.Form.{currentLaws}
 use Rattle.cabinet_rules.proofs.Lawful.{DeliveryLaws, lawfulBy}
-use Rattle.cabinet_rules.proofs.Sound.{Sound, control-form, control-noisy, length-noisy, noise-sound}
-use Rattle.cabinet_rules.proofs.Sound.{refusal-sound, start-sound, step-sound}
+use Rattle.cabinet_rules.proofs.Shows.{control-form, control-noisy, length-noisy}
+use Rattle.cabinet_rules.proofs.Sound.{Sound, noise-sound, refusal-sound, start-sound, step-sound}
 
 later : (b : Bool) → (n : ℕ) × (row 3 b 4 ≡ suc n)
 later true = (2, refl)

@@ -2,15 +2,14 @@
 use Prim.Native.Nat.{_<_, suc, zero, ℕ}
 use borrow.Author.Tests.{eqb-false}
 use lib.Dec.{eqb}
-use lib.ListN.{getD, length}
 use mathlib.Core.Bool.{Bool, _&&_, false, not, true}
 use mathlib.Core.List.{List}
 use mathlib.Core.Path.{_∙_, _≡_, ap, fun-ext, refl, sym}
 use native.Mathlib.Omega.{arith}
 use Rattle.lists.specs.Tests.{allBelow, count}
-use Rattle.lists.proofs.Bools.{and-l, never-true, not-is, not-not-is, tf}
+use Rattle.lists.proofs.Bools.{and-l, never-true, not-is, tf}
 use Rattle.lists.proofs.Counts.{below-all, count-none, count-some}
-use Rattle.image.specs.Layout.{cardCount, imageSize}
+use Rattle.image.specs.Layout.{cardCount}
 use Rattle.mask.specs.Masks.{hasCard}
 use Rattle.mask.specs.Placements.{olderFromMask}
 use Rattle.mask.proofs.Masks.{has-card}
@@ -20,51 +19,44 @@ use Rattle.method.specs.PlainList.{PlainList, orRefused, plainProtected, plainS
 use Rattle.method.specs.Protection.{ProtectedByFails, noFailStops, protection}
 use Rattle.method.specs.Rules.{Call, State, answerOf, fail, look, protected, refusal, start, state, stopping, unprotected}
 use Rattle.method.proofs.Protection.{fail-stops, protected-by-fails, state-ready}
-use Rattle.method.proofs.Refusals.{row-clear}
-use Rattle.control.specs.ControlForm.{formOk}
 use Rattle.cabinet_rules.specs.Cabinet.{cabinet}
 use Rattle.cabinet_rules.specs.Claims.{NoStopBy, NoisyCall, imageAfter, imageAfterBy, imageCalls, noisy}
 use Rattle.cabinet_rules.specs.Delivery.{base, current}
 use Rattle.cabinet_rules.specs.GoesOn.{plainThen, rulesThen}
-use Rattle.cabinet_rules.specs.Images.{Image, answer, answerBy, controlIn, isStart, next, planOn, refusalBy, refusalOn, stateBy}
+use Rattle.cabinet_rules.specs.Images.{Image, answer, answerBy, controlIn, next, planOn, refusalBy, refusalOn, stateBy}
 use Rattle.cabinet_rules.specs.Images.{nextBy, stateIn}
 use Rattle.cabinet_rules.specs.Protection.{ProtectedByFailsOnImages, ProtectedByPlainListOnImages, ProtectedFromBase}
 use Rattle.cabinet_rules.specs.Protection.{noFailStopsOn}
 use Rattle.cabinet_rules.proofs.Base.{sound-from-base}
 use Rattle.cabinet_rules.proofs.Form.{currentLaws}
 use Rattle.cabinet_rules.proofs.Lawful.{lawful}
-use Rattle.cabinet_rules.proofs.Sound.{Sound, answer-rows, answer-sound, noise-sound, sound-after, start-sound}
+use Rattle.cabinet_rules.proofs.Running.{Running, running-image, running-shows}
+use Rattle.cabinet_rules.proofs.Shows.{answer-shows}
+use Rattle.cabinet_rules.proofs.Sound.{Sound, answer-sound, noise-sound, sound-after, start-sound}
 
 -- ---- an image of which state is not refused
 module _ (g : Image) (clear : refusalOn state g ≡ 0) where
-  long : eqb (length g) imageSize ≡ true
-  unfolding refusalBy
-  long = not-not-is (eqb (length g) imageSize) (row-clear (not (eqb (length g) imageSize)) 0 clear .0)
-
-  rest : refusalOn state g ≡ 0 → (formOk (λ n. getD g n 0) ≡ true) × (controlIn g .stopped ≡ false)
+  runs : Running g
   unfolding refusalBy refusal
-  rest e =
-      let r = row-clear (not (eqb (length g) imageSize)) 0 e .1 in
-      let f = row-clear (not (formOk (λ n. getD g n 0))) 1 r in
-      (not-not-is (formOk (λ n. getD g n 0)) (f .0), row-clear (controlIn g .stopped) 3 (f .1) .0)
+  runs = running-image g clear
 
-  answer-is : (c : Call cabinet) → isStart c ≡ false → answer c g ≡ answerOf cabinet c (stateIn g)
-  answer-is c late = answer-rows current currentLaws c g (unfold refusalBy in (rw (long, rest clear .0, late)))
+  answer-is : (c : Call cabinet) → answer c g ≡ answerOf cabinet c (stateIn g)
+  answer-is c = answer-shows current currentLaws c g (controlIn g) (look cabinet (stateIn g)) (running-shows g runs)
 
   -- only a fail of a card can answer 'stopped' there
   stop-card : (c : ℕ) → isStop cabinet (answer (fail c) g) ≡ true → c < cardCount
   unfolding answerOf stateBy
   stop-card c e =
       let s : (hasCard (controlIn g .working) c && stopping cabinet (controlIn g) c) ≡ true =
-      sym (fail-stops cabinet lawful (controlIn g) (look cabinet (stateIn g)) (rest clear .1) c) ∙ ap (isStop cabinet) (sym (answer-is (fail c) refl)) ∙ e in
+      sym (fail-stops cabinet lawful (controlIn g) (look cabinet (stateIn g)) (runs .running) c) ∙ ap (isStop cabinet) (sym (answer-is (fail c))) ∙ e in
       has-card (controlIn g .working) c (and-l (hasCard (controlIn g .working) c) (stopping cabinet (controlIn g) c) s)
 
 pub protected-by-fails-on-images : ProtectedByFailsOnImages
 unfolding ProtectedByFailsOnImages noFailStopsOn
-protected-by-fails-on-images g clear = answer-is g clear state refl
-    ∙ unfold ProtectedByFails stateBy in (protected-by-fails cabinet lawful (stateIn g) (rest g clear clear .1))
+protected-by-fails-on-images g clear = answer-is g clear state
+    ∙ unfold ProtectedByFails stateBy in (protected-by-fails cabinet lawful (stateIn g) (runs g clear .running))
     ∙ unfold noFailStops in
-    (ap (λ (f : ℕ → Bool). protection cabinet (allBelow cardCount (λ c. not (f c)))) (fun-ext (λ c. ap (isStop cabinet) (sym (answer-is g clear (fail c) refl)))))
+    (ap (λ (f : ℕ → Bool). protection cabinet (allBelow cardCount (λ c. not (f c)))) (fun-ext (λ c. ap (isStop cabinet) (sym (answer-is g clear (fail c))))))
 
 -- ---- what each of its two words says
 -- an accepted state answers a word; a refused one does not

@@ -6,7 +6,8 @@ use mathlib.Core.Bool.{false}
 use mathlib.Core.List.{List, map}
 use mathlib.Core.Path.{_≡_}
 use Rattle.mask.specs.Masks.{Byte}
-use Rattle.method.specs.MoveList.{Entry, ListAnswer, LockedMove, asMove, listAnswer, listed, moveList, noList, notListed}
+use Rattle.method.specs.MoveList.{Entry, ListAnswer, LockedMove, asMove, listAnswer, listed, moveList, noList}
+use Rattle.method.specs.MoveList.{notListed}
 use Rattle.method.specs.Rules.{look, ok, refused, retired, row, settle, start}
 use Rattle.control.specs.ControlForm.{controlForm, formRows}
 use Rattle.cabinet_rules.specs.Cabinet.{cabinet}

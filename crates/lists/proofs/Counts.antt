@@ -42,25 +42,26 @@ count-mono (suc n) f g h = go (f n) (g n) (h n) (count-mono n f g h)
 abbrev pub but : (ℕ → Bool) → ℕ → ℕ → Bool
 but f c x = f x && not (eqb x c)
 
+-- taking out one that is not counted
+pub count-above : (m : ℕ) (f : ℕ → Bool) (c : ℕ) → m ≤ c → count m f ≡ count m (but f c)
+count-above zero f c k = refl
+count-above (suc m) f c k = rw (ne-eqb m c (λ e. omega arith)) (ap₂ _+_ (keep (f m)) (count-above m f c (omega arith)))
+  where
+    keep : (b : Bool) → oneIf b ≡ oneIf (b && true)
+    keep true = refl
+    keep false = refl
+
 -- taking one out
 pub count-but : (n : ℕ) (f : ℕ → Bool) (c : ℕ) → f c ≡ true → c < n → count n f ≡ suc (count n (but f c))
 count-but zero f c p h = absurd (omega arith)
 count-but (suc n) f c p h = go (split (eqb n c)) (count-but n f c p)
   where
-    above : (m : ℕ) → m ≤ c → count m f ≡ count m (but f c)
-    above zero k = refl
-    above (suc m) k = rw (ne-eqb m c (λ e. omega arith)) (ap₂ _+_ (keep (f m)) (above m (omega arith)))
-      where
-        keep : (b : Bool) → oneIf b ≡ oneIf (b && true)
-        keep true = refl
-        keep false = refl
-
     go : (eqb n c ≡ true) ⊎ (eqb n c ≡ false) → (c < n → count n f ≡ suc (count n (but f c)))
         → count (suc n) f ≡ suc (count (suc n) (but f c))
     go (inl q) ih =
         let e : n ≡ c = eqb-true n c q in
         let t : f n ≡ true = rw e p in
-        let a : count n f ≡ count n (but f c) = above n (omega arith) in
+        let a : count n f ≡ count n (but f c) = count-above n f c (omega arith) in
         rw (q, t) (omega arith)
     go (inr q) ih =
         let d : n ≡ c → ⊥ = eqb-false n c q in

@@ -1,7 +1,7 @@
 pub mod Bools
 pub mod Lists
-pub mod Numbers
 pub mod Counts
+pub mod Numbers
 pub mod Cases
 pub mod Tabulate
 pub mod Segments

@@ -1,13 +1,15 @@
 -- Laws of tests over lists, and of membership. Assumes nothing.
 use mathlib.Core.Path.{_≡_, ap, refl, sym, _∙_}
 use mathlib.Core.Logic.{_⊎_, inl, inr}
-use mathlib.Core.Bool.{Bool, true, false, not, _&&_, _||_, cond}
-use mathlib.Core.List.{List, [], _∷_, _++_, map, reverse, reverse-cons, reverseAux}
-use Prim.Native.Nat.{ℕ}
+use mathlib.Core.Bool.{Bool, _||_, true, false, cond, or-assoc}
+use mathlib.Core.List.{List, [], _∷_, _++_, append-assoc, append-nil, map, reverse, reverse-cons, reverseAux}
+use Prim.Native.Nat.{_+_, ℕ}
+use native.Mathlib.Nat.{suc-add, zero-add}
 use lib.Dec.{eqb}
+use lib.ListN.{getD, length}
 use borrow.Author.Tests.{eqb-true}
 use Rattle.lists.specs.Tests.{any, all, keepIf, concatMap, In, elem}
-use Rattle.lists.proofs.Bools.{tf, and-l, and-r, and-in, or-cases, or-l, or-r, never-true, same-test, split, eqb-self}
+use Rattle.lists.proofs.Bools.{tf, and-l, and-r, and-in, or-cases, or-l, or-r, never-true, same-test, eqb-self}
 
 module _ {A : Type 0} where
   pub any-in : (f : A → Bool) (l : List A) (x : A) → In x l → f x ≡ true → any f l ≡ true
@@ -49,6 +51,30 @@ module _ {A : Type 0} where
       go (inl q) = inl (inr q)
       go (inr q) = inr q
 
+  -- an element that is kept passes the test and was there
+  pub in-keep : (f : A → Bool) (l : List A) (x : A) → In x (keepIf f l) → (f x ≡ true) × In x l
+  in-keep f [] x m = absurd m
+  in-keep f (y ∷ l) x m = go (f y) refl m (in-keep f l x)
+    where
+      go : (t : Bool) → f y ≡ t → In x (cond t (y ∷ keepIf f l) (keepIf f l)) → (In x (keepIf f l) → (f x ≡ true) × In x l) → (f x ≡ true) × In x (y ∷ l)
+      go true e (inl p) ih = (rw p e, inl p)
+      go true e (inr h) ih = (ih h .0, inr (ih h .1))
+      go false e h ih = (ih h .0, inr (ih h .1))
+
+  -- one that was there and passes is kept
+  pub keep-in : (f : A → Bool) (l : List A) (x : A) → f x ≡ true → In x l → In x (keepIf f l)
+  keep-in f [] x p m = m
+  keep-in f (y ∷ l) x p (inl e) = go (f y) (rw e at p)
+    where
+      go : (t : Bool) → t ≡ true → In x (cond t (y ∷ keepIf f l) (keepIf f l))
+      go true q = inl e
+      go false q = tf false q refl
+  keep-in f (y ∷ l) x p (inr m) = go (f y) (keep-in f l x p m)
+    where
+      go : (t : Bool) → In x (keepIf f l) → In x (cond t (y ∷ keepIf f l) (keepIf f l))
+      go true h = inr h
+      go false h = h
+
 pub elem-in : (c : ℕ) (l : List ℕ) → elem c l ≡ true → In c l
 elem-in c [] e = tf false e refl
 elem-in c (x ∷ l) e = go (or-cases (eqb c x) (elem c l) e) (elem-in c l)
@@ -61,25 +87,10 @@ pub in-elem : (c : ℕ) (l : List ℕ) → In c l → elem c l ≡ true
 in-elem c l m = any-in (eqb c) l c m (eqb-self c)
 
 pub elem-keep : (f : ℕ → Bool) (c : ℕ) (l : List ℕ) → elem c (keepIf f l) ≡ true → (f c ≡ true) × (elem c l ≡ true)
-elem-keep f c [] e = tf false e refl
-elem-keep f c (x ∷ l) e = go (split (f x)) (split (eqb c x)) (elem-keep f c l)
-  where
-    go : (f x ≡ true) ⊎ (f x ≡ false) → (eqb c x ≡ true) ⊎ (eqb c x ≡ false)
-        → (elem c (keepIf f l) ≡ true → (f c ≡ true) × (elem c l ≡ true)) → (f c ≡ true) × (elem c (x ∷ l) ≡ true)
-    go (inl p) (inl q) ih = (rw (eqb-true c x q) p, or-l (eqb c x) (elem c l) q)
-    go (inl p) (inr q) ih = let h = ih (rw q at (rw p at e)) in (h .0, or-r (eqb c x) (elem c l) (h .1))
-    go (inr p) q ih = let h = ih (rw p at e) in (h .0, or-r (eqb c x) (elem c l) (h .1))
+elem-keep f c l e = let h = in-keep f l c (elem-in c (keepIf f l) e) in (h .0, in-elem c l (h .1))
 
 pub keep-elem : (f : ℕ → Bool) (c : ℕ) (l : List ℕ) → f c ≡ true → elem c l ≡ true → elem c (keepIf f l) ≡ true
-keep-elem f c [] p e = e
-keep-elem f c (x ∷ l) p e = go (split (f x)) (or-cases (eqb c x) (elem c l) e) (keep-elem f c l p)
-  where
-    go : (f x ≡ true) ⊎ (f x ≡ false) → (eqb c x ≡ true) ⊎ (elem c l ≡ true)
-        → (elem c l ≡ true → elem c (keepIf f l) ≡ true) → elem c (keepIf f (x ∷ l)) ≡ true
-    go (inl q) (inl r) ih = rw q (or-l (eqb c x) (elem c (keepIf f l)) r)
-    go (inl q) (inr r) ih = rw q (or-r (eqb c x) (elem c (keepIf f l)) (ih r))
-    go (inr q) (inl r) ih = tf (f x) (rw (eqb-true c x r) at p) q
-    go (inr q) (inr r) ih = rw q (ih r)
+keep-elem f c l p e = in-elem c (keepIf f l) (keep-in f l c p (elem-in c l e))
 
 -- all the members of a list that is not empty have one value
 pub any-same : (f : ℕ → Bool) (b : Bool) (l : List ℕ) (c : ℕ) → elem c l ≡ true → ((x : ℕ) → elem x l ≡ true → f x ≡ b) → any f l ≡ b
@@ -96,6 +107,25 @@ module _ {A : Type 0} where
   all-in f [] h = refl
   all-in f (x ∷ l) h = and-in (f x) (all f l) (h x (inl refl)) (all-in f l (λ y m. h y (inr m)))
 
+  -- of two lists, one behind the other, the kept elements stand so too
+  pub keep-append : (f : A → Bool) (l m : List A) → keepIf f (l ++ m) ≡ keepIf f l ++ keepIf f m
+  keep-append f [] m = refl
+  keep-append f (x ∷ l) m = go (f x) (keep-append f l m)
+    where
+      go : (t : Bool) → keepIf f (l ++ m) ≡ keepIf f l ++ keepIf f m → cond t (x ∷ keepIf f (l ++ m)) (keepIf f (l ++ m)) ≡ cond t (x ∷ keepIf f l) (keepIf f l) ++ keepIf f m
+      go true e = ap (λ (r : List A). x ∷ r) e
+      go false e = e
+
+  -- some element of them passes a test
+  pub any-append : (f : A → Bool) (l m : List A) → any f (l ++ m) ≡ (any f l || any f m)
+  any-append f [] m = refl
+  any-append f (x ∷ l) m = ap (λ (t : Bool). f x || t) (any-append f l m) ∙ sym (or-assoc (f x) (any f l) (any f m))
+
+  -- an element of the second
+  pub getD-behind : (l m : List A) (i : ℕ) (d : A) → getD (l ++ m) (length l + i) d ≡ getD m i d
+  getD-behind [] m i d = ap (λ (k : ℕ). getD m k d) (zero-add i)
+  getD-behind (x ∷ l) m i d = ap (λ (k : ℕ). getD (x ∷ (l ++ m)) k d) (suc-add (length l) i) ∙ getD-behind l m i d
+
   pub in-reverse : (l : List A) (x : A) → In x (reverse l) → In x l
   in-reverse [] x m = m
   in-reverse (y ∷ l) x m = go (in-cases (reverse l) (y ∷ []) x (rw (reverse-cons y l) at m)) (in-reverse l x)
@@ -105,23 +135,33 @@ module _ {A : Type 0} where
       go (inr (inl e)) ih = inl e
       go (inr (inr e)) ih = absurd e
 
--- a number in the lists that f gives, one behind the other
-module _ {A : Type 0} (f : A → List ℕ) where
-  pub concat-out : (l : List A) (c : ℕ) → In c (concatMap f l) → (p : A) × In p l × (elem c (f p) ≡ true)
+module _ {A B : Type 0} (f : A → List B) where
+  -- an element of the lists that f gives, one behind the other, is in one of them
+  pub concat-out : (l : List A) (c : B) → In c (concatMap f l) → (p : A) × In p l × In c (f p)
   concat-out [] c m = absurd m
   concat-out (p ∷ l) c m = go (in-cases (f p) (concatMap f l) c m) (concat-out l c)
     where
-      go : In c (f p) ⊎ In c (concatMap f l) → (In c (concatMap f l) → (q : A) × In q l × (elem c (f q) ≡ true)) → (q : A) × In q (p ∷ l) × (elem c (f q) ≡ true)
-      go (inl i) ih = (p, inl refl, in-elem c (f p) i)
+      go : In c (f p) ⊎ In c (concatMap f l) → (In c (concatMap f l) → (q : A) × In q l × In c (f q)) → (q : A) × In q (p ∷ l) × In c (f q)
+      go (inl i) ih = (p, inl refl, i)
       go (inr i) ih = (ih i .0, inr (ih i .1), ih i .2)
 
-  pub concat-in : (l : List A) (c : ℕ) (p : A) → In p l → elem c (f p) ≡ true → In c (concatMap f l)
+  -- and an element of one of them is in all of them together
+  pub concat-in : (l : List A) (c : B) (p : A) → In p l → In c (f p) → In c (concatMap f l)
   concat-in [] c p m e = absurd m
-  concat-in (q ∷ l) c p (inl i) e = in-left (f q) (concatMap f l) c (elem-in c (f q) (rw i at e))
+  concat-in (q ∷ l) c p (inl i) e = in-left (f q) (concatMap f l) c (rw i at e)
   concat-in (q ∷ l) c p (inr i) e = in-right (f q) (concatMap f l) c (concat-in l c p i e)
+
+  -- of a list with one more element behind it
+  pub concat-more : (l : List A) (x : A) → concatMap f (l ++ (x ∷ [])) ≡ concatMap f l ++ f x
+  concat-more [] x = append-nil (f x)
+  concat-more (y ∷ l) x = ap (λ (r : List B). f y ++ r) (concat-more l x) ∙ sym (append-assoc (f y) (concatMap f l) (f x))
 
 -- the list of what f gives of each element
 module _ {A B : Type 0} (f : A → B) where
+  pub any-map : (g : B → Bool) (l : List A) → any g (map f l) ≡ any (λ x. g (f x)) l
+  any-map g [] = refl
+  any-map g (x ∷ l) = ap (λ (t : Bool). g (f x) || t) (any-map g l)
+
   pub map-in : (l : List A) (x : A) → In x l → In (f x) (map f l)
   map-in [] x m = absurd m
   map-in (y ∷ l) x (inl p) = inl (ap f p)

@@ -11,7 +11,7 @@ use Rattle.lists.specs.Tests.{In, any, concatMap, count, elem}
 use Rattle.lists.proofs.Bools.{and-in, and-l, and-r, eqb-self, never-true, not-is, not-not-is, or-l, same-test, split}
 use Rattle.lists.proofs.Bools.{tf}
 use Rattle.lists.proofs.Counts.{pigeon}
-use Rattle.lists.proofs.Lists.{any-none, any-out, any-same, concat-in, elem-keep, in-elem, in-right, keep-elem}
+use Rattle.lists.proofs.Lists.{any-none, any-out, any-same, concat-in, elem-in, elem-keep, in-elem, in-right, keep-elem}
 use Rattle.method.specs.Changes.{Control}
 use Rattle.method.specs.ControlPart.{active}
 use Rattle.method.specs.Parameters.{Parameters}
@@ -62,12 +62,17 @@ module _ (P : Parameters) where
 
 module _ (P : Parameters) (L : Laws P) where
   open Parameters P using (Placement, cards, copies, blocks, recInRange, blockOf, placeOf, has, mask, sites, held, slot)
+  open Parameters P using (empty)
   open Laws L using (rec-block, has-card, site-count, site-member, site-distinct, held-empty)
 
   -- ---- consequences
+  -- where what cannot be seen is empty, a card that holds a block can be seen
+  pub held-seen : (k : Control P) (v : View P) → ((c b : ℕ) → visible P k c b ≡ false → v c b ≡ empty) → (c b : ℕ) → held (v c b) ≡ true → visible P k c b ≡ true
+  held-seen k v idle c b h = not-not-is (visible P k c b) (never-true (not (visible P k c b)) (λ e. tf (held (v c b)) h (rw (idle c b (not-is (visible P k c b) e)) held-empty)))
+
   module _ (k : Control P) (v : View P) (records : ℕ → Slot) (i : Invariant P k v records) where
     pub works : (c b : ℕ) → held (v c b) ≡ true → visible P k c b ≡ true
-    works c b h = not-not-is (visible P k c b) (never-true (not (visible P k c b)) (λ e. tf (held (v c b)) h (rw (i .idle c b (not-is (visible P k c b) e)) held-empty)))
+    works = held-seen k v (i .idle)
 
     pub works-w : (c b : ℕ) → held (v c b) ≡ true → has (k .working) c ≡ true
     works-w c b h = and-l (has (k .working) c) (ltb b (blocks (k .setting))) (works c b h)
@@ -89,7 +94,7 @@ module _ (P : Parameters) (L : Laws P) where
         down : held (v c b) ≡ true → elem c (holders P k v b) ≡ true
         down h =
             let t = i .each b (works-b c b h) .trailed c h in
-            let m : elem c all-sites ≡ true = in-elem c all-sites (concat-in (λ p. sites (k .setting) p b) (active k) c (t .0) (t .1) (t .2)) in
+            let m : elem c all-sites ≡ true = in-elem c all-sites (concat-in (λ p. sites (k .setting) p b) (active k) c (t .0) (t .1) (elem-in c (sites (k .setting) (t .0) b) (t .2))) in
             let f : has (k .failed) c ≡ false = i .form .base .apart c (works-w c b h) in
             keep-elem (λ x. held (v x b)) c (trail P k b) h (keep-elem (λ x. not (has (k .failed) x)) c all-sites (rw f) m)
 

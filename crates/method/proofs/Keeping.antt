@@ -42,6 +42,14 @@ module _ (P : Parameters) (L : Laws P) where
     pub next-held : (c b : ℕ) → held (nextView k w v c b) ≡ true → held (updated (w c b) (v c b)) ≡ true
     next-held c b h = sym (ap held (next-seen c b (next-works c b h))) ∙ h
 
+  -- where what cannot be seen is empty, a call that writes nothing changes nothing
+  pub idle-view : (k : Control P) (v : View P) → ((c b : ℕ) → visible P k c b ≡ false → v c b ≡ empty) → nextView k (λ c b. none) v ≡ v
+  idle-view k v idle = fun-ext (λ c. fun-ext (λ b. go c b (split (visible P k c b))))
+    where
+      go : (c b : ℕ) → (visible P k c b ≡ true) ⊎ (visible P k c b ≡ false) → nextView k (λ c b. none) v c b ≡ v c b
+      go c b (inl e) = next-seen k (λ c b. none) v c b e
+      go c b (inr e) = next-idle k (λ c b. none) v c b e ∙ sym (idle c b e)
+
   -- one block that keeps its holders, with new slots
   module _ (k k′ : Control P) (v : View P) (records : ℕ → Slot) (w : ℕ → ℕ → Option Block) (records′ : ℕ → Slot) (b : ℕ)
       (old : BlockInv P (k .setting) (active k) (has (k .working)) v records b) (in-range′ : ltb b (blocks (k′ .setting)) ≡ true)
@@ -81,11 +89,7 @@ module _ (P : Parameters) (L : Laws P) where
 
   module _ (k : Control P) (v : View P) (records : ℕ → Slot) (i : Invariant P k v records) where
     pub same-view : nextView k (λ c b. none) v ≡ v
-    same-view = fun-ext (λ c. fun-ext (λ b. go c b (split (visible P k c b))))
-      where
-        go : (c b : ℕ) → (visible P k c b ≡ true) ⊎ (visible P k c b ≡ false) → nextView k (λ c b. none) v c b ≡ v c b
-        go c b (inl e) = next-seen k (λ c b. none) v c b e
-        go c b (inr e) = next-idle k (λ c b. none) v c b e ∙ sym (i .idle c b e)
+    same-view = idle-view k v (i .idle)
 
     -- nothing written, nothing changed
     pub unchanged : Invariant P k (nextView k (λ c b. none) v) records

@@ -12,5 +12,9 @@ pub mod Sight
 pub mod Run
 pub mod Reached
 pub mod Growth
+pub mod Moves
+pub mod MoveRuns
+pub mod MoveList
+pub mod MoveCounts
 pub mod Protection
 pub mod ProtectionCounts

@@ -33,7 +33,7 @@ module _ (P : Parameters) (L : Laws P) where
   beside-plan : (s : State P) (k : Control P) (v : View P) → Beside s k v → (c : Call P) → plan P c (s .control) (look P s) ≡ plan P c k v
   beside-plan s k v b c = ap₂ (λ (x : Control P) (y : View P). plan P c x y) (b .same-control) (b .same-look)
 
-  beside-next : (s : State P) (k : Control P) (v : View P) → Beside s k v → (c : Call P) → Beside (nextState P c s) (plan P c k v .after) (nextView P L (plan P c k v .after) (plan P c k v .write) v)
+  pub beside-next : (s : State P) (k : Control P) (v : View P) → Beside s k v → (c : Call P) → Beside (nextState P c s) (plan P c k v .after) (nextView P L (plan P c k v .after) (plan P c k v .write) v)
   unfolding nextState
   beside-next s k v b c = record {
     same-control = unfold apply in ap (λ (p : Plan P). p .after) (beside-plan s k v b c);
@@ -48,7 +48,7 @@ module _ (P : Parameters) (L : Laws P) where
     same-look = look-disturb P L g s (rw (b .same-control) (i .form .base .apart)) ∙ b .same-look;
   }
 
-  beside-answer : (s : State P) (k : Control P) (v : View P) → Beside s k v → (c : Call P) → answerOf P c s ≡ plan P c k v .answer
+  pub beside-answer : (s : State P) (k : Control P) (v : View P) → Beside s k v → (c : Call P) → answerOf P c s ≡ plan P c k v .answer
   unfolding answerOf
   beside-answer s k v b c = ap (λ (p : Plan P). p .answer) (beside-plan s k v b c)
 

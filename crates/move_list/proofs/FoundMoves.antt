@@ -2,7 +2,7 @@
 use Prim.Native.Nat.{_+_, _<_, _≤_, suc, zero, ℕ}
 use borrow.Author.Tests.{eq-eqb}
 use lib.Dec.{eqb, ltb}
-use lib.ListN.{getD, length, length-append, set}
+use lib.ListN.{getD, length, length-append, length-map, set}
 use lib.Seq.{getD-set-other, getD-set-same}
 use mathlib.Core.Bool.{Bool, _&&_, cond, false, not, true}
 use mathlib.Core.List.{List, [], _++_, _∷_, map}
@@ -14,7 +14,8 @@ use Rattle.lists.specs.Tests.{any, anyBelow, concatMap, elem, keepIf, numbersBe
 use Rattle.lists.proofs.Bools.{and-l, and-r, and-when, tf}
 use Rattle.lists.proofs.Cases.{by-eq}
 use Rattle.lists.proofs.Counts.{any-below}
-use Rattle.lists.proofs.Numbers.{any-concat-below, any-keep-below, any-map, concat-append}
+use Rattle.lists.proofs.Lists.{any-map, concat-more}
+use Rattle.lists.proofs.Numbers.{any-concat-below, any-keep-below}
 use Rattle.image.specs.Layout.{blockCount, cardCount}
 use Rattle.mask.specs.Masks.{byte, hasCard, members, size}
 use Rattle.mask.specs.Placements.{AreSites, siteList}
@@ -37,10 +38,6 @@ use Rattle.reorganise.specs.Reorganise.{blockSettled}
 use Rattle.reorganise.proofs.Looks.{newest-are}
 use Rattle.move_list.specs.Origins.{AreMembers, originOf}
 use Rattle.move_list.specs.Plans.{Finds, movesAt, movesIn}
-
-pub length-map : {A B : Type 0} (f : A → B) (l : List A) → length (map f l) ≡ length l
-length-map f [] = refl
-length-map f (x ∷ l) = ap suc (length-map f l)
 
 -- The cards that block b of an image must move from, and its moves, by the rules.
 abbrev pub origin : Image → ℕ → ℕ → Bool
@@ -83,12 +80,12 @@ module _ (g : Image) (b from : ℕ) (hb : b < blockCount) (m : AreMembers from (
   moves-are-members = ap (λ (f : ℕ → Bool). map (entryAt b) (keepIf f (numbersBelow cardCount))) (fun-ext (λ c. sym (m c)))
 
   pub count-of-block : length (movesOfBlock g b) ≡ size (byte from)
-  count-of-block = ap length moves-are-members ∙ length-map (entryAt b) (members (byte from)) ∙ size-members (byte from)
+  count-of-block = ap length moves-are-members ∙ length-map (members (byte from)) (entryAt b) ∙ size-members (byte from)
 
   -- one is locked where a member's copy has a locked slot
   pub locked-of-block : anyBelow cardCount (λ c. hasCard (byte from) c && anyLockedIn (blockIn g c b)) ≡ any (λ e. anyLocked cabinet (viewOf g (e .card) (e .block))) (movesOfBlock g b)
   unfolding movesOf anyLockedIn anyLocked
-  locked-of-block = sym (any-map (λ (e : Entry). anyLocked cabinet (viewOf g (e .card) (e .block))) (entryAt b) (keepIf (origin g b) (numbersBelow cardCount))
+  locked-of-block = sym (any-map (entryAt b) (λ (e : Entry). anyLocked cabinet (viewOf g (e .card) (e .block))) (keepIf (origin g b) (numbersBelow cardCount))
       ∙ any-keep-below (origin g b) (λ c. anyLocked cabinet (viewOf g c b)) cardCount
       ∙ ap (anyBelow cardCount) (fun-ext (λ c. and-when (origin g b c) (anyLocked cabinet (viewOf g c b)) (anyLockedIn (blockIn g c b)) (seen c) ∙ ap (λ (t : Bool). t && anyLockedIn (blockIn g c b)) (sym (m c)))))
     where
@@ -114,7 +111,7 @@ count-none g = refl
 pub count-more : (g : Image) (b from : ℕ) → b < blockCount → AreMembers from (origin g b) → length (movesBelow g b) + size (byte from) ≡ length (movesBelow g (b + 1))
 unfolding movesBelow
 count-more g b from hb m = sym (ap (λ (n : ℕ). length (concatMap (movesOfBlock g) (numbersBelow n))) (add-one b)
-    ∙ ap length (concat-append (movesOfBlock g) (numbersBelow b) b) ∙ length-append (concatMap (movesOfBlock g) (numbersBelow b)) (movesOfBlock g b)
+    ∙ ap length (concat-more (movesOfBlock g) (numbersBelow b) b) ∙ length-append (concatMap (movesOfBlock g) (numbersBelow b)) (movesOfBlock g b)
     ∙ ap (λ (n : ℕ). length (concatMap (movesOfBlock g) (numbersBelow b)) + n) (count-of-block g b from hb m))
 
 pub masks-more : (g : Image) (origins : List ℕ) (b from : ℕ) → b < length origins → MasksBelow g origins b → AreMembers from (origin g b) → MasksBelow g (set origins b from) (b + 1)
@@ -145,7 +142,7 @@ all-moves g origins n e below = concat-below blockCount (λ b h. sym (moves-are-
   where
     concat-below : (m : ℕ) → ((b : ℕ) → b < m → movesAt origins b ≡ movesOfBlock g b) → concatMap (movesAt origins) (numbersBelow m) ≡ concatMap (movesOfBlock g) (numbersBelow m)
     concat-below zero h = refl
-    concat-below (suc m) h = concat-append (movesAt origins) (numbersBelow m) m ∙ ap₂ _++_ (concat-below m (λ b l. h b (omega arith))) (h m (omega arith)) ∙ sym (concat-append (movesOfBlock g) (numbersBelow m) m)
+    concat-below (suc m) h = concat-more (movesAt origins) (numbersBelow m) m ∙ ap₂ _++_ (concat-below m (λ b l. h b (omega arith))) (h m (omega arith)) ∙ sym (concat-more (movesOfBlock g) (numbersBelow m) m)
 
 all-counted : (g : Image) (n count : ℕ) → n ≡ blockCount → count ≡ length (movesBelow g n) → count ≡ length (movesOn g)
 unfolding movesBelow moveList

@@ -2,7 +2,7 @@
 use Prim.Native.Nat.{_+_, _-_, _<_, _≤_, suc, zero, ℕ}
 use borrow.Author.Tests.{eq-eqb, ltb-false, ne-eqb}
 use lib.Dec.{eqb, ltb}
-use lib.ListN.{List·getD-eq-default, drop, getD, length, length-append, take}
+use lib.ListN.{List·getD-eq-default, drop, getD, length, length-append, length-map, take}
 use mathlib.Core.Bool.{Bool, cond, false, not, true}
 use lib.Seq.{take-length, take-suc}
 use mathlib.Core.List.{List, [], _++_, _∷_, map, map-append}
@@ -13,7 +13,8 @@ use native.Mathlib.Omega.{arith}
 use Rattle.lists.specs.Tests.{concatMap, numbersBelow}
 use Rattle.lists.proofs.Bools.{split}
 use Rattle.lists.proofs.Cases.{by-eq}
-use Rattle.lists.proofs.Numbers.{concat-append, getD-concat}
+use Rattle.lists.proofs.Lists.{concat-more}
+use Rattle.lists.proofs.Numbers.{getD-concat}
 use Rattle.image.specs.Layout.{blockCount}
 use Rattle.mask.specs.Masks.{byte, members, size}
 use Rattle.mask.proofs.Masks.{size-members}
@@ -32,7 +33,6 @@ use Rattle.move_list.specs.Promise.{ListDone, filledBy, listAfter, shown
 use Rattle.move_list.specs.declared.Listed.{Listed}
 use Rattle.move_list.specs.declared.Listed.the-variants.{Moves, None, Refused}
 use Rattle.move_list.specs.declared.Move.{Move}
-use Rattle.move_list.proofs.FoundMoves.{length-map}
 use Rattle.move_list.specs.declared.Plan.{Plan}
 
 -- ---- why the call is refused: by the rows of a state
@@ -70,7 +70,7 @@ getD-map f (x ∷ l) zero d e h = refl
 getD-map f (x ∷ l) (suc i) d e h = getD-map f l i d e (omega arith)
 
 length-moves : (origins : List ℕ) (b : ℕ) → length (movesAt origins b) ≡ size (byte (getD origins b 0))
-length-moves origins b = length-map (entryAt b) (members (byte (getD origins b 0))) ∙ size-members (byte (getD origins b 0))
+length-moves origins b = length-map (members (byte (getD origins b 0))) (entryAt b) ∙ size-members (byte (getD origins b 0))
 
 pub none-below : (origins : List ℕ) (n : ℕ) → n ≡ countBelow origins 0 + n
 unfolding countBelow
@@ -82,7 +82,7 @@ pub below-next : (origins : List ℕ) (n b left here : ℕ) → n ≡ countBelow
 unfolding countBelow
 below-next origins n b left here e h le =
     let z : countBelow origins (b + 1) ≡ countBelow origins b + here =
-    ap (countBelow origins) (add-one b) ∙ ap length (concat-append (movesAt origins) (numbersBelow b) b)
+    ap (countBelow origins) (add-one b) ∙ ap length (concat-more (movesAt origins) (numbersBelow b) b)
     ∙ length-append (concatMap (movesAt origins) (numbersBelow b)) (movesAt origins b) ∙ ap (λ (k : ℕ). countBelow origins b + k) (length-moves origins b ∙ sym h) in
     omega (arith, z, e, le)
 

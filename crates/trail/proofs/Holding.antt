@@ -13,7 +13,7 @@ use native.Mathlib.Omega.{arith}
 use Rattle.lists.specs.Tests.{In, concatMap, keepIf}
 use Rattle.lists.proofs.Bools.{split}
 use Rattle.lists.proofs.Cases.{by-eq}
-use Rattle.lists.proofs.Numbers.{concat-append, keep-append}
+use Rattle.lists.proofs.Lists.{concat-more, keep-append}
 use Rattle.image.specs.Layout.{blockAddress, blockCount, cardCount}
 use Rattle.mask.specs.Masks.{byte, hasCard}
 use Rattle.mask.specs.Placements.{Placement, Usable, sitesOf}
@@ -135,7 +135,7 @@ module _ (k : Control) (g : Image) (given : Given k g) where
       let l = placementsIn (placementIn k) i in
       let sites : Placement → List ℕ = λ p. sitesOf p b in
       sym (ap (λ (l : List Placement). keepIf (holdsSeen g b) (keepIf (notFailed g) (concatMap sites l))) (ap (placementsIn (placementIn k)) (add-one i) ∙ sym (placements-more (placementIn k) i))
-      ∙ ap (λ (l : List ℕ). keepIf (holdsSeen g b) (keepIf (notFailed g) l)) (concat-append sites l p)
+      ∙ ap (λ (l : List ℕ). keepIf (holdsSeen g b) (keepIf (notFailed g) l)) (concat-more sites l p)
       ∙ ap (keepIf (holdsSeen g b)) (keep-append (notFailed g) (concatMap sites l) (sitesOf p b))
       ∙ keep-append (holdsSeen g b) (keepIf (notFailed g) (concatMap sites l)) (keepIf (notFailed g) (sitesOf p b))
       ∙ ap (λ (r : List ℕ). firstHolders g b k i ++ r) (keep-keep (holdsSeen g b) (notFailed g) (sitesOf p b) ∙ ap (λ (f : ℕ → Bool). keepIf f (sitesOf p b)) (fun-ext (λ c. test-is b c hb))))

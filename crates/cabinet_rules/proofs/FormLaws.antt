@@ -1,0 +1,168 @@
+-- What the control form of an image gives, clause by clause, and that the control part of a running store that has it meets what the theorem
+-- asks. Assumes nothing.
+use Prim.Native.Nat.{_+_, _-_, _<_, _≤_, suc, ℕ}
+use borrow.Author.Tests.{eqb-true, leb-true, lt-ltb, ltb-true}
+use lib.Dec.{eqb, leb, ltb}
+use lib.ListN.{getD, length}
+use mathlib.Core.Bool.{Bool, _&&_, _||_, cond, false, not, true}
+use mathlib.Core.List.{List, [], _∷_, reverse}
+use mathlib.Core.Logic.{_⊎_, inl, inr}
+use mathlib.Core.Option.{none, some}
+use mathlib.Core.Path.{_∙_, _≡_, ap, refl, sym}
+use native.Mathlib.Omega.{arith}
+use Rattle.lists.specs.Tests.{In, elem}
+use Rattle.lists.proofs.Bools.{and-l, and-r, imp-out, not-is, split, tf}
+use Rattle.lists.proofs.Counts.{any-below-out, below-all}
+use Rattle.lists.proofs.Lists.{all-out, in-right}
+use Rattle.image.specs.Layout.{blockCount, cardCount, tranBound}
+use Rattle.mask.specs.Masks.{Byte, areApart, hasCard, isOneMore, isWithin, isWithinEither, size, withCard}
+use Rattle.mask.specs.Placements.{Placement, Usable, leastMembers, sitesOf}
+use Rattle.mask.proofs.Masks.{byte-path, has-card, has-with}
+use Rattle.mask.proofs.SiteLaws.{site-member}
+use Rattle.method.specs.ControlPart.{active, isOpen}
+use Rattle.method.specs.Rules.{lost}
+use Rattle.method.specs.Slots.{isSome}
+use Rattle.method.proofs.Capacity.{Chain, ControlInv, OneMore}
+use Rattle.method.proofs.Invariant.{Form}
+use Rattle.control.specs.ControlBytes.{controlOf, countIn, homeIn, placementAt}
+use Rattle.control.specs.ControlForm.{controlForm, fourthOk, homeOk, isSafe, membersOk}
+use Rattle.control.proofs.RoundTrip.{Clauses, form-count, form-part, part-clauses}
+use Rattle.control.proofs.Struct.{length-placements}
+use Rattle.cabinet_rules.specs.Cabinet.{cabinet, mostPlaced, tranOk}
+use Rattle.cabinet_rules.specs.Images.{Image, controlIn}
+use Rattle.cabinet_rules.proofs.Form.{safe-is}
+use Rattle.cabinet_rules.proofs.Lawful.{lawful}
+
+-- a mask that is one more than another: the card that it has besides
+one-more : (d : Byte) (newest third : Placement) → isOneMore d (newest .mask) (third .mask) ≡ true → OneMore cabinet lawful d newest third
+unfolding isOneMore
+one-more d newest third e =
+    let t = any-below-out cardCount (λ c. hasCard d c && (not (hasCard (newest .mask) c) && eqb (third .mask .0) (withCard (newest .mask) c .0))) e in
+    let x : ℕ = t .0 in
+    let r : (not (hasCard (newest .mask) x) && eqb (third .mask .0) (withCard (newest .mask) x .0)) ≡ true = and-r (hasCard d x) _ (t .2) in
+    let same : third .mask ≡ withCard (newest .mask) x =
+    byte-path (third .mask) (withCard (newest .mask) x) (eqb-true (third .mask .0) (withCard (newest .mask) x .0) (and-r (not (hasCard (newest .mask) x)) (eqb (third .mask .0) (withCard (newest .mask) x .0)) r)) in
+    record {
+      extra = x;
+      extra-failed = and-l (hasCard d x) _ (t .2);
+      extra-new = not-is (hasCard (newest .mask) x) (and-l (not (hasCard (newest .mask) x)) (eqb (third .mask .0) (withCard (newest .mask) x .0)) r);
+      extra-is = λ y. ap (λ (m : Byte). hasCard m y) same ∙ has-with (newest .mask) x y (lt-ltb x cardCount (t .1));
+    }
+
+-- at most four placements: with four, the newest was added by a failure
+few-steps : (d : Byte) (newest : Placement) (l : List Placement) → length l ≤ mostPlaced → fourthOk d newest l ≡ true
+    → (j : ℕ) × Chain cabinet lawful d j newest (reverse l) × (suc (length l) ≤ mostPlaced + j)
+unfolding fourthOk
+few-steps d newest [] h e = (0, tt, omega arith)
+few-steps d newest (a ∷ []) h e = (0, tt, omega arith)
+few-steps d newest (a ∷ b ∷ []) h e = (0, tt, omega arith)
+few-steps d newest (a ∷ b ∷ p ∷ []) h e = (1, (one-more d newest p e, tt), omega arith)
+few-steps d newest (a ∷ b ∷ p ∷ q ∷ l) h e = absurd (omega arith)
+
+module _ (g : Image) (form : controlForm g ≡ true) where
+  clauses : Clauses (controlIn g)
+  clauses = part-clauses (controlIn g) (form-part (λ n. getD g n 0) form)
+
+  members-of : (p : Placement) → In p (active (controlIn g)) → membersOk (controlIn g .working) (controlIn g .failed) p ≡ true
+  members-of p m = all-out (membersOk (controlIn g .working) (controlIn g .failed)) (active (controlIn g)) p (clauses .members) m
+
+  -- an active placement has as many members as copies
+  pub usable-active : (p : Placement) → In p (active (controlIn g)) → Usable p
+  unfolding membersOk
+  usable-active p m = leb-true leastMembers (size (p .mask)) (and-l (leb leastMembers (size (p .mask))) (isWithinEither (p .mask) (controlIn g .working) (controlIn g .failed)) (members-of p m))
+
+  -- the newest is active
+  pub newest-usable : Usable (controlIn g .newest)
+  newest-usable = usable-active (controlIn g .newest) (in-right (controlIn g .older) (controlIn g .newest ∷ []) (controlIn g .newest) (inl refl))
+
+  -- and each of its members works or has failed
+  pub known-member : (p : Placement) (c : ℕ) → In p (active (controlIn g)) → hasCard (p .mask) c ≡ true → (hasCard (controlIn g .working) c || hasCard (controlIn g .failed) c) ≡ true
+  unfolding membersOk isWithinEither
+  known-member p c m h = imp-out (hasCard (p .mask) c) (hasCard (controlIn g .working) c || hasCard (controlIn g .failed) c)
+      (below-all cardCount (λ x. not (hasCard (p .mask) x) || (hasCard (controlIn g .working) x || hasCard (controlIn g .failed) x)) c
+      (and-r (leb leastMembers (size (p .mask))) (isWithinEither (p .mask) (controlIn g .working) (controlIn g .failed)) (members-of p m)) (has-card (p .mask) c h)) h
+
+  -- a card that works has not failed
+  pub works-not-failed : (c : ℕ) → hasCard (controlIn g .working) c ≡ true → hasCard (controlIn g .failed) c ≡ false
+  unfolding areApart
+  works-not-failed c on = go (hasCard (controlIn g .failed) c) (below-all cardCount (λ x. not (hasCard (controlIn g .working) x && hasCard (controlIn g .failed) x)) c (clauses .apart) (has-card (controlIn g .working) c on))
+    where
+      go : (d : Bool) → not (hasCard (controlIn g .working) c && d) ≡ true → d ≡ false
+      go true e = tf (not (hasCard (controlIn g .working) c && true)) e (rw on)
+      go false e = refl
+
+  -- so a site of an active placement has not failed exactly where it works
+  pub site-works : (p : Placement) (b c : ℕ) → In p (active (controlIn g)) → b < blockCount → elem c (sitesOf p b) ≡ true
+      → not (hasCard (controlIn g .failed) c) ≡ hasCard (controlIn g .working) c
+  site-works p b c m hb e = go (split (hasCard (controlIn g .working) c))
+    where
+      h : hasCard (p .mask) c ≡ true
+      h = site-member p b c (usable-active p m) e
+
+      go : (hasCard (controlIn g .working) c ≡ true) ⊎ (hasCard (controlIn g .working) c ≡ false) → not (hasCard (controlIn g .failed) c) ≡ hasCard (controlIn g .working) c
+      go (inl on) = rw (on, works-not-failed c on)
+      go (inr off) = rw (off, rw off at (known-member p c m h))
+
+  -- while the store runs, every member of the newest placement works
+  newest-member-works : controlIn g .stopped ≡ false → (c : ℕ) → hasCard (controlIn g .newest .mask) c ≡ true → hasCard (controlIn g .working) c ≡ true
+  unfolding isWithin
+  newest-member-works running c h = imp-out (hasCard (controlIn g .newest .mask) c) (hasCard (controlIn g .working) c)
+      (below-all cardCount (λ x. not (hasCard (controlIn g .newest .mask) x) || hasCard (controlIn g .working) x) c (rw running at (clauses .newest-works)) (has-card (controlIn g .newest .mask) c h)) h
+
+  -- and so every site of it
+  pub newest-site-works : controlIn g .stopped ≡ false → (b c : ℕ) → b < blockCount → elem c (sitesOf (controlIn g .newest) b) ≡ true → hasCard (controlIn g .working) c ≡ true
+  newest-site-works running b c hb e = newest-member-works running c (site-member (controlIn g .newest) b c newest-usable e)
+
+  -- and no active placement is lost
+  pub not-lost : controlIn g .stopped ≡ false → (p : Placement) → In p (active (controlIn g)) → lost cabinet (controlIn g) p ≡ false
+  not-lost running p m = not-is (lost cabinet (controlIn g) p)
+      (sym (safe-is (controlIn g .working) (controlIn g .failed) p)
+      ∙ all-out (isSafe (controlIn g .working) (controlIn g .failed)) (active (controlIn g)) p (rw running at (clauses .safe)) m)
+
+  -- ---- a store that runs
+  -- its control part has the form that the theorem asks for
+  pub running-form : controlIn g .stopped ≡ false → Form cabinet (controlIn g)
+  running-form running = record {
+    base = record {
+      running = running;
+      apart = works-not-failed;
+      known = λ p c m h d. rest (hasCard (controlIn g .working) c) (hasCard (controlIn g .failed) c) (known-member p c m h) d;
+      sound = usable-active;
+      safe = not-lost running;
+    };
+    newWorks = newest-member-works running;
+  }
+    where
+      rest : (w d : Bool) → (w || d) ≡ true → d ≡ false → w ≡ true
+      rest true d e n = refl
+      rest false d e n = tf d e n
+
+  -- an open transaction has its number in range
+  open-in-range : (t : ℕ) → isOpen (controlIn g) t ≡ true → tranOk t ≡ true
+  unfolding controlOf
+  open-in-range t o = go (tranOk t) o
+    where
+      go : (r : Bool) → isSome (cond r (homeIn (getD g (t + 7) 0)) none) ≡ true → r ≡ true
+      go true e = refl
+      go false e = tf false e refl
+
+  home-works : (t h : ℕ) → controlIn g .home t ≡ some h → hasCard (controlIn g .working) h ≡ true
+  unfolding homeOk
+  home-works t h e =
+      let in-range : t < tranBound = ltb-true t tranBound (and-r (ltb 0 t) (ltb t tranBound) (open-in-range t (ap isSome e))) in
+      let home : homeOk (controlIn g .stopped) (controlIn g .working) (controlIn g .home t) ≡ true = clauses .home t in-range in
+      and-r (not (controlIn g .stopped)) (hasCard (controlIn g .working) h) (sym (ap (homeOk (controlIn g .stopped) (controlIn g .working)) e) ∙ home)
+
+  few-older : length (controlIn g .older) ≤ mostPlaced
+  unfolding controlOf
+  few-older =
+      let n : ℕ = countIn (getD g 0 0) in
+      let c : n ≤ 4 = form-count (λ n. getD g n 0) form .1 in
+      let l : length (controlIn g .older) ≡ n - 1 = length-placements (placementAt (λ n. getD g n 0)) (n - 1) in
+      omega (arith, c, l)
+
+  -- and homes work and the placements are few
+  pub running-inv : ControlInv cabinet lawful (controlIn g)
+  running-inv =
+      let f = few-steps (controlIn g .failed) (controlIn g .newest) (controlIn g .older) few-older (clauses .fourth) in
+      record { homes = home-works; opens = open-in-range; room = record { steps = f .0; chain = f .1; few = f .2 } }

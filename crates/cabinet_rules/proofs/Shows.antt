@@ -1,0 +1,182 @@
+-- An image that shows a running store: it has the right length, its control bytes are those of a control part k that meets the form, and of
+-- its tables a view v can be seen. Noise on failed cards and calls keep this. Assumes nothing.
+use Prim.Native.Nat.{_+_, _<_, suc, zero, ℕ}
+use borrow.Author.Tests.{eq-eqb, le-leb, lt-leb, ltb-true}
+use lib.Dec.{ltb}
+use lib.ListN.{getD, length}
+use mathlib.Core.Bool.{Bool, _&&_, cond, false, not, true}
+use mathlib.Core.List.{[]}
+use mathlib.Core.Logic.{_⊎_, inl, inr}
+use mathlib.Core.Path.{_∙_, _≡_, ap, fun-ext, refl, sym}
+use native.Mathlib.Omega.{arith}
+use Rattle.lists.proofs.Bools.{and-l, and-r, split}
+use Rattle.lists.proofs.Tabulate.{at-tabulate, length-tabulate}
+use Rattle.image.specs.Layout.{blockAddress, blockCount, cardCount, controlSize, imageSize}
+use Rattle.mask.specs.Masks.{Byte, hasCard}
+use Rattle.mask.proofs.Masks.{has-card}
+use Rattle.slot.specs.Blocks.{emptyBlock}
+use Rattle.slot.proofs.Blocks.{block-ext, byte-in}
+use Rattle.method.specs.Parameters.{Parameters}
+use Rattle.method.specs.PlainList.{orRefused}
+use Rattle.method.specs.Rules.{Call, State, View, act, answerOf, apply, guarded, look, nextState, plan, refusal}
+use Rattle.method.specs.Rules.{row, updated, visible}
+use Rattle.method.proofs.Capacity.{ControlInv}
+use Rattle.method.proofs.Invariant.{Form}
+use Rattle.method.proofs.Laws.{Laws}
+use Rattle.method.proofs.Run.{Beside}
+use Rattle.cabinet_rules.specs.Cabinet.{rulesOf}
+use Rattle.cabinet_rules.specs.Claims.{noisy, noisyByte}
+use Rattle.cabinet_rules.specs.Delivery.{Delivery, PartOf}
+use Rattle.cabinet_rules.specs.Images.{Image, after, answerBy, blockIn, controlBy, controlIn, isStart}
+use Rattle.cabinet_rules.specs.Images.{nextBy, planBy, refusalBy, stateBy, unlessRefusedImage}
+use Rattle.cabinet_rules.proofs.After.{after-block, after-control, card-of, length-after}
+use Rattle.cabinet_rules.proofs.Lawful.{DeliveryLaws, lawfulBy}
+
+-- ---- noise on failed cards is not seen
+pub length-noisy : (noise : ℕ → ℕ) (g : Image) → length (noisy noise g) ≡ length g
+unfolding noisy
+length-noisy noise g = length-tabulate (length g) (noisyByte noise g)
+
+pub control-noisy : (noise : ℕ → ℕ) (g : Image) (n : ℕ) → n < controlSize → n < length g → getD (noisy noise g) n 0 ≡ getD g n 0
+unfolding noisy noisyByte
+control-noisy noise g n h l = at-tabulate (length g) (noisyByte noise g) n l ∙ rw (lt-leb controlSize n h)
+
+block-noisy : (noise : ℕ → ℕ) (g : Image) (c b : ℕ) → length g ≡ imageSize → c < cardCount → b < blockCount → hasCard (controlIn g .failed) c ≡ false
+    → blockIn (noisy noise g) c b ≡ blockIn g c b
+unfolding noisy noisyByte
+block-noisy noise g c b long hc hb off = block-ext (blockIn (noisy noise g) c b) (blockIn g c b) (λ j l.
+    byte-in (λ i. getD (noisy noise g) (blockAddress c b + i) 0) j l
+    ∙ at-tabulate (length g) (noisyByte noise g) (blockAddress c b + j) (omega arith)
+    ∙ rw (card-of c b j hb l, off, le-leb controlSize (blockAddress c b + j) (omega arith)) (sym (byte-in (λ i. getD g (blockAddress c b + i) 0) j l)))
+
+module _ (D : Delivery) (W : DeliveryLaws D) where
+  abbrev P : Parameters
+  P = rulesOf D
+
+  abbrev L : Laws P
+  L = lawfulBy D (W .sites)
+
+  pub record Shows (g : Image) (k : PartOf D) (v : View P) : Type 0 where
+    pub long : length g ≡ imageSize
+    pub wrote : (n : ℕ) → n < controlSize → getD g n 0 ≡ D .bytes k n
+    pub form : Form P k
+    pub full : ControlInv P L k
+    pub idle : (c b : ℕ) → visible P k c b ≡ false → v c b ≡ emptyBlock
+    pub beside : Beside P L (stateBy D g) k v
+
+  -- ---- what is read of an image whose control bytes were written from k
+  module _ (k : PartOf D) (f : Form P k) (u : ControlInv P L k) (g : Image) (w : (n : ℕ) → n < controlSize → getD g n 0 ≡ D .bytes k n) where
+    control-read : controlBy D g ≡ k
+    control-read = W .control .reads k f u (λ n. getD g n 0) w
+
+    pub control-form : D .form (λ n. getD g n 0) ≡ true
+    control-form = W .control .formed k f u (λ n. getD g n 0) w
+
+    -- the store that the image shows is beside k and the view v where its visible blocks are v's
+    beside-of : (v : View P) → ((c b : ℕ) → visible P k c b ≡ false → v c b ≡ emptyBlock)
+        → ((c b : ℕ) → visible P k c b ≡ true → blockIn g c b ≡ v c b) → Beside P L (stateBy D g) k v
+    unfolding stateBy look
+    beside-of v idle same = record { same-control = control-read; same-look = fun-ext (λ c. fun-ext (λ b. rw control-read (go c b (split (visible P k c b))))) }
+      where
+        go : (c b : ℕ) → (visible P k c b ≡ true) ⊎ (visible P k c b ≡ false) → cond (visible P k c b) (blockIn g c b) emptyBlock ≡ v c b
+        go c b (inl e) = rw e (same c b e)
+        go c b (inr e) = rw e (sym (idle c b e))
+
+  -- a visible block of a store that is beside k and v is v's
+  beside-block : (s : State P) (k : PartOf D) (v : View P) → Beside P L s k v → (c b : ℕ) → visible P k c b ≡ true → s .block c b ≡ v c b
+  unfolding look
+  beside-block s k v d c b e =
+      let t : visible P (s .control) c b ≡ true = rw (d .same-control) e in
+      let p : look P s c b ≡ v c b = ap (λ (f : View P). f c b) (d .same-look) in
+      rw t at p
+
+  -- a card and a block that can be seen are in range
+  pub visible-card : (k : PartOf D) (c b : ℕ) → visible P k c b ≡ true → c < cardCount
+  visible-card k c b e = has-card (k .working) c (and-l (hasCard (k .working) c) (ltb b blockCount) e)
+
+  pub visible-number : (k : PartOf D) (c b : ℕ) → visible P k c b ≡ true → b < blockCount
+  visible-number k c b e = ltb-true b blockCount (and-r (hasCard (k .working) c) (ltb b blockCount) e)
+
+  -- an image that has k's control bytes and, where blocks are visible, the blocks of a store that is beside k and v
+  module _ (k : PartOf D) (f : Form P k) (u : ControlInv P L k) (v : View P) (idle : (c b : ℕ) → visible P k c b ≡ false → v c b ≡ emptyBlock)
+      (s : State P) (d : Beside P L s k v) (g : Image) (long : length g ≡ imageSize)
+      (low : (n : ℕ) → n < controlSize → getD g n 0 ≡ D .bytes k n)
+      (same : (c b : ℕ) → visible P k c b ≡ true → blockIn g c b ≡ s .block c b) where
+    pub shows-of : Shows g k v
+    shows-of = record {
+      long = long;
+      wrote = low;
+      form = f;
+      full = u;
+      idle = idle;
+      beside = beside-of k f u g low v idle (λ c b e. same c b e ∙ beside-block s k v d c b e);
+    }
+
+  -- ---- noise on failed cards is not seen
+  pub noise-shows : (noise : ℕ → ℕ) (g : Image) (k : PartOf D) (v : View P) → Shows g k v → Shows (noisy noise g) k v
+  unfolding stateBy
+  noise-shows noise g k v s = shows-of k (s .form) (s .full) v (s .idle) (stateBy D g) (s .beside) (noisy noise g) (length-noisy noise g ∙ s .long)
+      (λ n h. control-noisy noise g n h (omega (arith, s .long)) ∙ s .wrote n h)
+      (λ c b e. block-noisy noise g c b (s .long) (visible-card k c b e) (visible-number k c b e) (off c b e))
+    where
+      off : (c b : ℕ) → visible P k c b ≡ true → hasCard (controlIn g .failed) c ≡ false
+      off c b e =
+          ap (λ (m : Byte). hasCard m c) (sym (W .control .same-failed (λ n. getD g n 0)) ∙ ap (λ (x : PartOf D). x .failed) (s .beside .same-control))
+          ∙ s .form .base .apart c (and-l (hasCard (k .working) c) (ltb b blockCount) e)
+
+  -- ---- a call
+  -- there only the rows from 3 on can refuse
+  pub refusal-shows : (c : Call P) (g : Image) (k : PartOf D) (v : View P) → Shows g k v → refusalBy D c g ≡ refusal P c (controlBy D g) (look P (stateBy D g))
+  unfolding refusalBy
+  refusal-shows c g k v s = rw (eq-eqb (length g) imageSize (s .long), control-form k (s .form) (s .full) g (s .wrote)) (go (isStart c))
+    where
+      go : (b : Bool) → row 2 (not b && false) (refusal P c (controlBy D g) (look P (stateBy D g))) ≡ refusal P c (controlBy D g) (look P (stateBy D g))
+      go true = refl
+      go false = refl
+
+  -- there the answer is that of the rules on the state that the image shows
+  answer-rows : (c : Call P) (g : Image) → refusalBy D c g ≡ refusal P c (controlBy D g) (look P (stateBy D g)) → answerBy D c g ≡ answerOf P c (stateBy D g)
+  unfolding answerBy answerOf plan stateBy
+  answer-rows c g e = ap (λ (n : ℕ). orRefused P n (planBy D c g .answer)) e ∙ go (refusal P c (controlBy D g) (look P (stateBy D g)))
+    where
+      go : (n : ℕ) → orRefused P n (planBy D c g .answer) ≡ guarded P n (controlBy D g) (planBy D c g) .answer
+      go zero = refl
+      go (suc n) = refl
+
+  pub answer-shows : (c : Call P) (g : Image) (k : PartOf D) (v : View P) → Shows g k v → answerBy D c g ≡ answerOf P c (stateBy D g)
+  answer-shows c g k v s = answer-rows c g (refusal-shows c g k v s)
+
+  -- a refused call changes no state
+  next-refused : (c : Call P) (s : State P) (n : ℕ) → refusal P c (s .control) (look P s) ≡ suc n → nextState P c s ≡ s
+  unfolding nextState apply plan
+  next-refused c s n e = rw e
+
+  -- the control part and the blocks after an accepted call
+  next-control : (c : Call P) (s : State P) → refusal P c (s .control) (look P s) ≡ 0 → nextState P c s .control ≡ act P c (s .control) (look P s) .after
+  unfolding nextState apply plan
+  next-control c s e = rw e
+
+  next-block : (c : Call P) (s : State P) → refusal P c (s .control) (look P s) ≡ 0 → (x b : ℕ)
+      → nextState P c s .block x b ≡ updated (act P c (s .control) (look P s) .write x b) (s .block x b)
+  unfolding nextState apply plan
+  next-block c s e x b = rw e
+
+  -- the image after a call shows what the rules' state after it is beside
+  pub next-shows : (c : Call P) (g : Image) (k k′ : PartOf D) (v v′ : View P) → Shows g k v → Form P k′ → ControlInv P L k′
+      → ((x b : ℕ) → visible P k′ x b ≡ false → v′ x b ≡ emptyBlock) → Beside P L (nextState P c (stateBy D g)) k′ v′ → Shows (nextBy D c g) k′ v′
+  unfolding nextBy
+  next-shows c g k k′ v v′ s f u idle d = rw (refusal-shows c g k v s) (go (refusal P c (controlBy D g) (look P (stateBy D g))) refl)
+    where
+      go : (n : ℕ) → refusal P c (controlBy D g) (look P (stateBy D g)) ≡ n
+          → Shows (unlessRefusedImage n g (after (D .bytes (planBy D c g .after)) (planBy D c g .write) g)) k′ v′
+      go zero e = accepted (unfold stateBy in e)
+        where
+          accepted : refusal P c (stateBy D g .control) (look P (stateBy D g)) ≡ 0 → Shows (after (D .bytes (planBy D c g .after)) (planBy D c g .write) g) k′ v′
+          accepted e = shows-of k′ f u v′ idle (nextState P c (stateBy D g)) d (after (D .bytes (planBy D c g .after)) (planBy D c g .write) g)
+              (length-after (D .bytes (planBy D c g .after)) (planBy D c g .write) g)
+              (λ n h. after-control (D .bytes (planBy D c g .after)) (planBy D c g .write) g n h ∙ ap (λ (x : PartOf D). D .bytes x n) (unfold stateBy in (sym (next-control c (stateBy D g) e)) ∙ d .same-control))
+              (λ x b y. after-block (D .bytes (planBy D c g .after)) (planBy D c g .write) g x b (visible-card k′ x b y) (visible-number k′ x b y) ∙ unfold stateBy in (sym (next-block c (stateBy D g) e x b)))
+      go (suc n) e =
+          let d′ : Beside P L (stateBy D g) k′ v′ = rw (next-refused c (stateBy D g) n (unfold stateBy in e)) at d in
+          let p : k ≡ k′ = sym (s .beside .same-control) ∙ d′ .same-control in
+          record { long = s .long; wrote = λ n h. s .wrote n h ∙ ap (λ (x : PartOf D). D .bytes x n) p; form = f; full = u; idle = idle; beside = d′ }
