@@ -21,7 +21,7 @@ use Rattle.method.specs.Protection.{ProtectedByFails, noFailStops, protection}
 use Rattle.method.specs.Rules.{Call, State, answerOf, fail, look, protected, refusal, start, state, stopping, unprotected}
 use Rattle.method.proofs.Protection.{fail-stops, protected-by-fails, state-ready}
 use Rattle.method.proofs.Refusals.{row-clear}
-use Rattle.control.specs.ControlForm.{formOk}
+use Rattle.control_form.specs.ControlForm.{formOk}
 use Rattle.cabinet_rules.specs.Cabinet.{cabinet}
 use Rattle.cabinet_rules.specs.Claims.{NoStopBy, NoisyCall, imageAfter, imageAfterBy, imageCalls, noisy}
 use Rattle.cabinet_rules.specs.Delivery.{base, current}

@@ -8,7 +8,7 @@ use mathlib.Core.Path.{_≡_}
 use Rattle.mask.specs.Masks.{Byte}
 use Rattle.method.specs.MoveList.{Entry, ListAnswer, LockedMove, asMove, listAnswer, listed, moveList, noList, notListed}
 use Rattle.method.specs.Rules.{look, ok, refused, retired, row, settle, start}
-use Rattle.control.specs.ControlForm.{controlForm, formRows}
+use Rattle.control_form.specs.ControlForm.{controlForm, formRows}
 use Rattle.cabinet_rules.specs.Cabinet.{cabinet}
 use Rattle.cabinet_rules.specs.Claims.{NoStopBy, NoisyCall, NoisyCallBy, imageAfter, imageAfterBy, imageCalls}
 use Rattle.cabinet_rules.specs.Claims.{noisy}

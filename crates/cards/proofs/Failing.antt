@@ -23,9 +23,9 @@ use Rattle.method.specs.ControlPart.{active, added, begunAt, closed, halted, is
 use Rattle.method.specs.Rules.{act, dropHeld, fail, look, lost, lostOf, placed, refusal, stopping, stops}
 use Rattle.method.specs.Rules.{unplaced, writing}
 use Rattle.control.specs.ControlBytes.{Part}
-use Rattle.control.specs.ControlForm.{formRefusal, fourthOk, isSafe}
+use Rattle.control_form.specs.ControlForm.{formRefusal, fourthOk, isSafe}
 use Rattle.control.specs.Meaning.{Is, meaning, newestMask, placementIn}
-use Rattle.control.proofs.RoundTrip.{form-part, part-clauses}
+use Rattle.control_form.proofs.RoundTrip.{form-part, part-clauses}
 use Rattle.control.proofs.Struct.{length-placements, newest-mask-is}
 use Rattle.cabinet_rules.specs.Cabinet.{cabinet, mostPlaced}
 use Rattle.cabinet_rules.specs.Images.{Image, controlIn, planOn, stateIn}

@@ -13,7 +13,6 @@ ghost use Rattle.promise.specs.declared.Call.{Call};
 ghost use Rattle.cards.specs.Clearing.{cleared};
 use control::Control;
 use control::codec;
-use control::form;
 use image::Card;
 use mask::Placement;
 use promise::Answer;
@@ -88,7 +87,7 @@ fn fit_refusal(k: Control, card: Card) -> u8
 pub fn fit(image: &mut [u8], card: Card) -> Answer
     ensures { λ r. ⌜ Done (asked (Call.Fit card)) (now (image .entry)) r (now (image .exit)) ⌝ }
 {
-    let found = form::read(image);
+    let found = control_form::read(image);
     if found.refusal != 0 {
         return Answer::Refused(found.refusal);
     }
@@ -124,7 +123,7 @@ fn withdraw_refusal(k: Control, card: Card) -> u8
 pub fn withdraw(image: &mut [u8], card: Card) -> Answer
     ensures { λ r. ⌜ Done (asked (Call.Withdraw card)) (now (image .entry)) r (now (image .exit)) ⌝ }
 {
-    let found = form::read(image);
+    let found = control_form::read(image);
     if found.refusal != 0 {
         return Answer::Refused(found.refusal);
     }
@@ -175,7 +174,7 @@ fn place_refusal(k: Control, mask: u8) -> u8
 pub fn place(image: &mut [u8], mask: u8) -> Answer
     ensures { λ r. ⌜ Done (asked (Call.Place mask)) (now (image .entry)) r (now (image .exit)) ⌝ }
 {
-    let found = form::read(image);
+    let found = control_form::read(image);
     if found.refusal != 0 {
         return Answer::Refused(found.refusal);
     }
@@ -194,7 +193,7 @@ pub fn place(image: &mut [u8], mask: u8) -> Answer
 pub fn fail(image: &mut [u8], card: Card) -> Answer
     ensures { λ r. ⌜ Done (asked (Call.Fail card)) (now (image .entry)) r (now (image .exit)) ⌝ }
 {
-    let found = form::read(image);
+    let found = control_form::read(image);
     if found.refusal != 0 {
         return Answer::Refused(found.refusal);
     }
@@ -204,7 +203,7 @@ pub fn fail(image: &mut [u8], card: Card) -> Answer
         return Answer::Refused(refusal);
     }
     let marked = k.mark_failed(card);
-    if !form::all_safe(marked) {
+    if !control_form::all_safe(marked) {
         tables::end_held(image, marked.working, false, tables::all_open(k));
         codec::write(image, marked.halt());
         return Answer::Stopped;

@@ -20,8 +20,8 @@ use Rattle.slot.specs.Blocks.{emptyBlock, isHeld}
 use Rattle.slot.proofs.Blocks.{held-empty}
 use Rattle.method.specs.ControlPart.{active}
 use Rattle.method.specs.Rules.{look, lost}
-use Rattle.control.specs.ControlForm.{controlForm, isSafe, membersOk}
-use Rattle.control.proofs.RoundTrip.{Clauses, form-part, part-clauses}
+use Rattle.control_form.specs.ControlForm.{controlForm, isSafe, membersOk}
+use Rattle.control_form.proofs.RoundTrip.{Clauses, form-part, part-clauses}
 use Rattle.cabinet_rules.specs.Cabinet.{cabinet}
 use Rattle.cabinet_rules.specs.Images.{Image, blockIn, controlIn, stateBy, stateIn}
 use Rattle.cabinet_rules.proofs.Form.{safe-is}

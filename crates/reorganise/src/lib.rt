@@ -16,7 +16,7 @@ use promise::Answer;
 pub fn move_block(image: &mut [u8], card: Card, block: Block) -> Answer
     ensures { λ r. ⌜ Done (asked (Call.Move card block)) (now (image .entry)) r (now (image .exit)) ⌝ }
 {
-    let found = control::form::read(image);
+    let found = control_form::read(image);
     if found.refusal != 0 {
         return Answer::Refused(found.refusal);
     }
@@ -32,7 +32,7 @@ pub fn move_block(image: &mut [u8], card: Card, block: Block) -> Answer
 pub fn settle(image: &mut [u8]) -> Answer
     ensures { λ r. ⌜ Done (asked Call.Settle) (now (image .entry)) r (now (image .exit)) ⌝ }
 {
-    let found = control::form::read(image);
+    let found = control_form::read(image);
     if found.refusal != 0 {
         return Answer::Refused(found.refusal);
     }
@@ -50,7 +50,7 @@ pub fn settle(image: &mut [u8]) -> Answer
 pub fn state(image: &[u8]) -> Answer
     ensures { λ r. ⌜ Done (asked Call.State) (now (image .entry)) r (now (image .entry)) ⌝ }
 {
-    let found = control::form::read(image);
+    let found = control_form::read(image);
     if found.refusal != 0 {
         return Answer::Refused(found.refusal);
     }
@@ -69,7 +69,7 @@ pub fn state(image: &[u8]) -> Answer
 pub fn load(image: &[u8], card: Card) -> Answer
     ensures { λ r. ⌜ Done (asked (Call.Load card)) (now (image .entry)) r (now (image .entry)) ⌝ }
 {
-    let found = control::form::read(image);
+    let found = control_form::read(image);
     if found.refusal != 0 {
         return Answer::Refused(found.refusal);
     }

@@ -8,7 +8,7 @@ ghost use Rattle.method.specs.Protection.{withstands};
 ghost use Rattle.control.specs.Meaning.{Counted, meaning};
 ghost use Rattle.cabinet_rules.specs.Cabinet.{cabinet};
 use control::Control;
-use control::form::COPIES;
+use control_form::COPIES;
 
 // A placement with this mask withstands the failure of any one of its working cards: with one failed member more they
 // are still fewer than copies, and it has more working members than copies.

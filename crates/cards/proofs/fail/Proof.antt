@@ -25,8 +25,8 @@ use Rattle.control.proofs.Control.close_at.Reads as close-at-reads
 use Rattle.control.proofs.Control.halt.Reads as halt-reads
 use Rattle.control.proofs.Control.mark_failed.Reads as mark-failed-reads
 use Rattle.control.proofs.codec.write.Reads as write-reads
-use Rattle.control.proofs.form.all_safe.Reads as all-safe-reads
-use Rattle.control.proofs.form.read.Reads as read-reads
+use Rattle.control_form.proofs.all_safe.Reads as all-safe-reads
+use Rattle.control_form.proofs.read.Reads as read-reads
 use Rattle.mask.proofs.has.Reads as has-reads
 use Rattle.mask.proofs.without_card.Reads as without-card-reads
 use Rattle.tables.proofs.all_open.Reads as all-open-reads

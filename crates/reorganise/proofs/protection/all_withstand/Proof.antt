@@ -8,7 +8,7 @@ use native.Mathlib.Omega.{arith}
 use Rattle.lists.specs.Tests.{allBelow}
 use Rattle.lists.proofs.Counts.{all-more}
 use Rattle.method.specs.Protection.{withstands}
-use Rattle.control.proofs.Checks.{every-passed, one-fails, placementTest}
+use Rattle.control_form.proofs.Checks.{every-passed, one-fails, placementTest}
 use Rattle.cabinet_rules.specs.Cabinet.{cabinet}
 use Rattle.reorganise.proofs.protection.all_withstand.Statement.{statement}
 use Rattle.reorganise.proofs.protection.all_withstand.Tie as tie
