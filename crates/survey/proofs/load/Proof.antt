@@ -8,10 +8,10 @@ use Rattle.promise.specs.declared.Answer.the-variants.{Loaded}
 use Rattle.promise.proofs.Finish.{by-form, by-look, by-rules, given, given-whole}
 use Rattle.promise.specs.Rows.{cardRows}
 use Rattle.promise.proofs.SharedRows.{card-accepted}
-use Rattle.reorganise.proofs.Loads.{load-plan, load-rows}
+use Rattle.survey.proofs.Loads.{load-plan, load-rows}
 use borrow.Author.Needs.{needs}
-use Rattle.reorganise.proofs.load.Statement.{statement}
-use Rattle.reorganise.proofs.load.Tie as tie
+use Rattle.survey.proofs.load.Statement.{statement}
+use Rattle.survey.proofs.load.Tie as tie
 
 read-requires : tie.Need-read-requires
 read-requires c κs = search needs

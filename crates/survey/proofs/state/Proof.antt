@@ -5,10 +5,10 @@ use native.Mathlib.Omega.{arith}
 use Rattle.method.specs.Rules.{state}
 use Rattle.promise.specs.declared.Answer.the-variants.{Protected, Unprotected}
 use Rattle.promise.proofs.Finish.{by-form, by-look, by-rules, given}
-use Rattle.reorganise.proofs.States.{state-plan, state-rows}
+use Rattle.survey.proofs.States.{state-plan, state-rows}
 use borrow.Author.Needs.{needs}
-use Rattle.reorganise.proofs.state.Statement.{statement}
-use Rattle.reorganise.proofs.state.Tie as tie
+use Rattle.survey.proofs.state.Statement.{statement}
+use Rattle.survey.proofs.state.Tie as tie
 
 read-requires : tie.Need-read-requires
 read-requires c κs = search needs

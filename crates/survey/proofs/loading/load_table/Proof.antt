@@ -7,10 +7,10 @@ use Rattle.image.specs.Layout.{blockCount, slotCount}
 use Rattle.method.specs.Rules.{committedIn}
 use Rattle.cabinet_rules.specs.Cabinet.{cabinet}
 use Rattle.cabinet_rules.specs.Images.{blockIn}
-use Rattle.reorganise.specs.Reorganise.{loadBelow}
-use Rattle.reorganise.proofs.Loads.{load-more, load-none}
-use Rattle.reorganise.proofs.loading.load_table.Statement.{statement}
-use Rattle.reorganise.proofs.loading.load_table.Tie as tie
+use Rattle.survey.specs.Loads.{loadBelow}
+use Rattle.survey.proofs.Loads.{load-more, load-none}
+use Rattle.survey.proofs.loading.load_table.Statement.{statement}
+use Rattle.survey.proofs.loading.load_table.Tie as tie
 
 abbrev Inv-loop : tie.InvT-loop
 Inv-loop image card n₀ b₀ n b = (b ≤ blockCount) × (n ≤ slotCount * b) × (n ≡ loadBelow image (card .0) b)

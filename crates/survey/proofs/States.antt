@@ -15,12 +15,15 @@ use Rattle.cabinet_rules.proofs.Lawful.{lawful}
 use Rattle.promise.specs.Given.{Given, rowsOn}
 use Rattle.promise.proofs.Finish.{form-good}
 use Rattle.promise.proofs.View.{not-lost, works-not-failed}
-use Rattle.reorganise.proofs.Looks.{stopped-is}
 
 module _ (k : Control) (g : Image) (is : Given k g) where
+  stopped-is : k .stopped ≡ controlIn g .stopped
+  unfolding meaning
+  stopped-is = ap (λ (p : Part). p .stopped) (is .is .means)
+
   pub state-rows : row 4 (k .stopped) 0 ≡ rowsOn state g
   unfolding refusal
-  state-rows = ap (λ (t : Bool). row 4 t 0) (stopped-is k g is)
+  state-rows = ap (λ (t : Bool). row 4 t 0) stopped-is
 
   -- by counts over the active placements of a store that runs
   counted : controlIn g .stopped ≡ false → isProtected cabinet (controlIn g) ≡ all (withstands cabinet tt (controlIn g .working) (controlIn g .failed)) (active (controlIn g))
@@ -32,5 +35,5 @@ module _ (k : Control) (g : Image) (is : Given k g) where
   unfolding act
   state-plan t run e =
       let word : isProtected cabinet (controlIn g) ≡ t =
-      counted (sym (stopped-is k g is) ∙ run) ∙ sym (e ∙ ap (λ (p : Part). all (withstands cabinet tt (p .working) (p .failed)) (active p)) (is .is .means)) in
+      counted (sym stopped-is ∙ run) ∙ sym (e ∙ ap (λ (p : Part). all (withstands cabinet tt (p .working) (p .failed)) (active p)) (is .is .means)) in
       ap (λ (t : Bool). unwritten cabinet (protection cabinet t) (controlIn g)) word

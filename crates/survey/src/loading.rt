@@ -5,7 +5,7 @@ ghost use Rattle.image.specs.Layout.{Whole, blockCount, cardCount, slotCount};
 ghost use Rattle.method.specs.Rules.{committedIn};
 ghost use Rattle.cabinet_rules.specs.Cabinet.{cabinet};
 ghost use Rattle.cabinet_rules.specs.Images.{blockIn};
-ghost use Rattle.reorganise.specs.Reorganise.{loadBelow};
+ghost use Rattle.survey.specs.Loads.{loadBelow};
 use image::BLOCK_COUNT;
 use image::Block;
 use image::Card;

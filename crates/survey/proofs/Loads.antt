@@ -16,7 +16,7 @@ use Rattle.cabinet_rules.specs.Images.{Image, blockIn, controlIn, planOn}
 use Rattle.promise.specs.Given.{rowsOn, viewOf}
 use Rattle.promise.specs.Rows.{cardRows}
 use Rattle.promise.proofs.View.{look-on}
-use Rattle.reorganise.specs.Reorganise.{loadBelow}
+use Rattle.survey.specs.Loads.{loadBelow}
 
 -- ---- a block
 count-le : (n : ℕ) (f : ℕ → Bool) → count n f ≤ n

@@ -7,8 +7,8 @@ use native.Mathlib.Omega.{arith}
 use Rattle.image.specs.Layout.{copyCount}
 use Rattle.mask.specs.Masks.{common}
 use Rattle.method.specs.Protection.{withstands}
-use Rattle.reorganise.proofs.protection.withstands.Statement.{statement}
-use Rattle.reorganise.proofs.protection.withstands.Tie as tie
+use Rattle.survey.proofs.protection.withstands.Statement.{statement}
+use Rattle.survey.proofs.protection.withstands.Tie as tie
 
 common-requires : tie.Need-common-requires
 common-requires c κs = search needs

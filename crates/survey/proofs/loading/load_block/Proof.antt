@@ -8,10 +8,10 @@ use Rattle.image.specs.Layout.{slotCount}
 use Rattle.slot.specs.Blocks.{committedCount, isHeld, ofList}
 use Rattle.cabinet_rules.specs.Images.{blockIn}
 use Rattle.promise.proofs.Laid.{of-block}
-use Rattle.reorganise.proofs.Loads.{committed-held, committed-le}
+use Rattle.survey.proofs.Loads.{committed-held, committed-le}
 use borrow.Author.Needs.{needs}
-use Rattle.reorganise.proofs.loading.load_block.Statement.{statement}
-use Rattle.reorganise.proofs.loading.load_block.Tie as tie
+use Rattle.survey.proofs.loading.load_block.Statement.{statement}
+use Rattle.survey.proofs.loading.load_block.Tie as tie
 
 is-held-requires : tie.Need-is-held-requires
 is-held-requires c κs = search needs

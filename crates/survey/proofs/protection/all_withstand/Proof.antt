@@ -10,8 +10,8 @@ use Rattle.lists.proofs.Counts.{all-more}
 use Rattle.method.specs.Protection.{withstands}
 use Rattle.control_form.proofs.Checks.{every-passed, one-fails, placementTest}
 use Rattle.cabinet_rules.specs.Cabinet.{cabinet}
-use Rattle.reorganise.proofs.protection.all_withstand.Statement.{statement}
-use Rattle.reorganise.proofs.protection.all_withstand.Tie as tie
+use Rattle.survey.proofs.protection.all_withstand.Statement.{statement}
+use Rattle.survey.proofs.protection.all_withstand.Tie as tie
 
 abbrev Inv-loop : tie.InvT-loop
 Inv-loop k i₀ i = (i ≤ k .count) × (allBelow i (placementTest (withstands cabinet tt) k) ≡ true)

@@ -14,12 +14,12 @@ use Rattle.promise.specs.declared.Answer.the-variants.{Stopped, Placed, Unplace
 use Rattle.promise.proofs.Laid.{whole-laid, write-control}
 use Rattle.promise.proofs.SharedRows.{card-accepted}
 use Rattle.promise.proofs.Finish.{form-long, by-form, by-rules, by-plan, by-both}
-use Rattle.cards.proofs.Failing.{fail-rows, stop-is, dropped, halted-is, stops-plan, placed-plan, unplaced-plan, closed-is, added-is, room, newest-is}
+use Rattle.failure.proofs.Failing.{fail-rows, stop-is, dropped, halted-is, stops-plan, placed-plan, unplaced-plan, closed-is, added-is, room, newest-is}
 use borrow.Author.Needs.{needs}
-use Rattle.cards.proofs.fail.Statement.{statement}
-use Rattle.cards.proofs.fail.Tie as tie
-use Rattle.cards.proofs.fail.Reads as reads
-use Rattle.cards.proofs.fail.Lts as lts
+use Rattle.failure.proofs.fail.Statement.{statement}
+use Rattle.failure.proofs.fail.Tie as tie
+use Rattle.failure.proofs.fail.Reads as reads
+use Rattle.failure.proofs.fail.Lts as lts
 use Rattle.control.proofs.Control.add.Reads as add-reads
 use Rattle.control.proofs.Control.close_at.Reads as close-at-reads
 use Rattle.control.proofs.Control.halt.Reads as halt-reads
