@@ -1,11 +1,11 @@
 #!/bin/sh
 # Makes the stored command files and their listings anew, from fixed seeds:
-# crates/file_KIND/stdin and crates/file_KIND/stdout.
+# tests/listings/KIND/stdin and stdout.
 set -eu
 cd "$(dirname "$0")"
 cargo build --release --offline --quiet
 while read -r kind seed count; do
-    folder=../crates/file_$kind
+    folder=../tests/listings/$kind
     mkdir -p "$folder"
     target/release/generate "$kind" "$seed" "$count" > "$folder/stdin"
     target/release/listing < "$folder/stdin" > "$folder/stdout"
@@ -23,4 +23,4 @@ refusals 110 3000
 pairs 111 3000
 sweep 112 3000
 LIST
-target/release/count ../crates/file_*/stdin
+target/release/count ../tests/listings/*/stdin

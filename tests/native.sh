@@ -29,7 +29,7 @@ build_archive() (
 
 # lists COMMAND..: it prints the stored listing of every stored command file.
 lists() {
-    for folder in "$root"/crates/cabinet "$root"/crates/file_*; do
+    for folder in "$root"/crates/cabinet "$root"/tests/listings/*; do
         "$@" <"$folder/stdin" >"$scratch/listing" && cmp "$scratch/listing" "$folder/stdout" || return 1
     done
 }
@@ -57,7 +57,7 @@ listing() {
 
 calls() {
     build "$root/tests/calls.c" || return 1
-    for file in "$root"/crates/cabinet/stdin "$root"/crates/file_*/stdin; do
+    for file in "$root"/crates/cabinet/stdin "$root"/tests/listings/*/stdin; do
         "$program" <"$file" || return 1
     done
 }

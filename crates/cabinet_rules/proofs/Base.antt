@@ -20,7 +20,7 @@ use Rattle.method.proofs.Capacity.{ControlInv}
 use Rattle.method.proofs.Growth.{control-inv-grown, form-grown}
 use Rattle.method.proofs.Invariant.{Form}
 use Rattle.control.specs.ControlBytes.{controlByte, controlOf, marksFrom}
-use Rattle.control.specs.ControlForm.{formOk}
+use Rattle.control_form.specs.ControlForm.{formOk}
 use Rattle.cabinet_rules.specs.Cabinet.{cabinet, rulesOf}
 use Rattle.cabinet_rules.specs.Claims.{NoStopBy, NoisyCallBy, imageAfterBy}
 use Rattle.cabinet_rules.specs.Delivery.{PartOf, base, masksAlone, olderPart, current}

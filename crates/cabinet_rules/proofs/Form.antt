@@ -25,8 +25,8 @@ use Rattle.method.specs.Rules.{lost, lostOf}
 use Rattle.method.proofs.Capacity.{Chain, ControlInv, bounded, chain-map}
 use Rattle.method.proofs.Invariant.{Form}
 use Rattle.control.specs.ControlBytes.{Part, controlByte, countIn}
-use Rattle.control.specs.ControlForm.{countOk, formOk, fourthOk, homeOk, isSafe, membersOk, partOk, zeroFieldsOk}
-use Rattle.control.proofs.RoundTrip.{read-control, read-count}
+use Rattle.control_form.specs.ControlForm.{countOk, formOk, fourthOk, homeOk, isSafe, membersOk, partOk, zeroFieldsOk}
+use Rattle.control_form.proofs.RoundTrip.{read-control, read-count}
 use Rattle.cabinet_rules.specs.Cabinet.{cabinet, mostPlaced, tranOk}
 use Rattle.cabinet_rules.specs.Delivery.{current}
 use Rattle.cabinet_rules.proofs.Lawful.{ControlLaws, DeliveryLaws, lawful, siteLaws}

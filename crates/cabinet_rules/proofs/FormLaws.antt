@@ -25,8 +25,8 @@ use Rattle.method.specs.Slots.{isSome}
 use Rattle.method.proofs.Capacity.{Chain, ControlInv, OneMore}
 use Rattle.method.proofs.Invariant.{Form}
 use Rattle.control.specs.ControlBytes.{controlOf, countIn, homeIn, placementAt}
-use Rattle.control.specs.ControlForm.{controlForm, fourthOk, homeOk, isSafe, membersOk}
-use Rattle.control.proofs.RoundTrip.{Clauses, form-count, form-part, part-clauses}
+use Rattle.control_form.specs.ControlForm.{controlForm, fourthOk, homeOk, isSafe, membersOk}
+use Rattle.control_form.proofs.RoundTrip.{Clauses, form-count, form-part, part-clauses}
 use Rattle.control.proofs.Struct.{length-placements}
 use Rattle.cabinet_rules.specs.Cabinet.{cabinet, mostPlaced, tranOk}
 use Rattle.cabinet_rules.specs.Images.{Image, controlIn}

@@ -23,7 +23,7 @@ use Rattle.method.proofs.Capacity.{ControlInv}
 use Rattle.method.proofs.Invariant.{Form}
 use Rattle.method.proofs.Laws.{Laws}
 use Rattle.method.proofs.StopRule.{stop-same}
-use Rattle.control.specs.ControlForm.{formRefusal, formRows}
+use Rattle.control_form.specs.ControlForm.{formRefusal, formRows}
 use Rattle.cabinet_rules.specs.Cabinet.{cabinet, rulesOf, tranOk}
 use Rattle.cabinet_rules.specs.Claims.{ControlFormStays, NoisyCallBy, imageAfter, imageAfterBy, noisy}
 use Rattle.cabinet_rules.specs.Delivery.{Delivery, PartOf, current}

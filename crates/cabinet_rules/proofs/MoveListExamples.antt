@@ -15,7 +15,7 @@ use Rattle.method.specs.Rules.{Call, State, act, answerOf, anyLocked, apply, be
 use Rattle.method.specs.Rules.{fail, holders, isProtected, layBlock, lockHolders, look, lostOf, move, moveWrites, nextState}
 use Rattle.method.specs.Rules.{place, plan, refusal, settle, settled, settledAt, start, stopping, store, trail}
 use Rattle.control.specs.ControlBytes.{controlByte, controlOf}
-use Rattle.control.specs.ControlForm.{countOk, formOk, fourthOk, homeOk, isSafe, membersOk, partOk, zeroFieldsOk}
+use Rattle.control_form.specs.ControlForm.{countOk, formOk, fourthOk, homeOk, isSafe, membersOk, partOk, zeroFieldsOk}
 use Rattle.cabinet_rules.specs.Cabinet.{cabinet, placeRows, startRow}
 use Rattle.cabinet_rules.specs.Images.{Image}
 use Rattle.cabinet_rules.specs.MoveLists.{listAnswerOn}

@@ -11,8 +11,8 @@ use Rattle.slot.specs.Blocks.{emptyBlock}
 use Rattle.method.specs.Rules.{look, row, visible}
 use Rattle.method.proofs.Refusals.{row-clear}
 use Rattle.method.proofs.Run.{Beside}
-use Rattle.control.specs.ControlForm.{controlForm, formRows}
-use Rattle.control.proofs.RoundTrip.{control-back}
+use Rattle.control_form.specs.ControlForm.{controlForm, formRows}
+use Rattle.control_form.proofs.RoundTrip.{control-back}
 use Rattle.cabinet_rules.specs.Cabinet.{cabinet}
 use Rattle.cabinet_rules.specs.Delivery.{current}
 use Rattle.cabinet_rules.specs.Images.{Image, controlIn, stateBy, stateIn}

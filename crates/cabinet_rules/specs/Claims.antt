@@ -11,7 +11,7 @@ use Rattle.mask.specs.Masks.{Byte, hasCard}
 use Rattle.method.specs.OneRecordList.{Observation, isLast, observe, runPlain, zeroed}
 use Rattle.method.specs.PlainList.{plainStart}
 use Rattle.method.specs.Rules.{Call, ok, start}
-use Rattle.control.specs.ControlForm.{formRefusal}
+use Rattle.control_form.specs.ControlForm.{formRefusal}
 use Rattle.cabinet_rules.specs.Cabinet.{cabinet, rulesOf}
 use Rattle.cabinet_rules.specs.Delivery.{Delivery, current}
 use Rattle.cabinet_rules.specs.Images.{Image, answer, answerBy, cardAt, controlIn, next, nextBy}

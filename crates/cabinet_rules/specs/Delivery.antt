@@ -7,7 +7,7 @@ use Rattle.mask.specs.Masks.{Byte}
 use Rattle.mask.specs.Placements.{Placement, chainedSites, fromMask, olderFromMask, sitesOf}
 use Rattle.method.specs.ControlPart.{ControlPart, part}
 use Rattle.control.specs.ControlBytes.{Part, Setting, controlByte, controlOf}
-use Rattle.control.specs.ControlForm.{formOk}
+use Rattle.control_form.specs.ControlForm.{formOk}
 
 pub record Delivery : Type 1 where
   pub Placement : Type 0

@@ -8,7 +8,7 @@ use Rattle.method.specs.OneRecordList.{runPlain, zeroed}
 use Rattle.method.specs.Parameters.{Parameters}
 use Rattle.method.specs.PlainList.{PlainList, plainStart}
 use Rattle.method.specs.Rules.{State, ok, start}
-use Rattle.control.specs.ControlForm.{formRefusal}
+use Rattle.control_form.specs.ControlForm.{formRefusal}
 use Rattle.cabinet_rules.specs.Cabinet.{rulesOf}
 use Rattle.cabinet_rules.specs.Claims.{NoStopBy, NoisyCall, NoisyCallBy, imageAfter, imageAfterBy}
 use Rattle.cabinet_rules.specs.Claims.{imageCallsBy, runImageBy}

@@ -13,7 +13,7 @@ use Rattle.method.specs.PlainList.{orRefused}
 use Rattle.method.specs.Rules.{Answer, Call, Plan, State, act, begin, commit, delete, fail, fit, get, load, look, move}
 use Rattle.method.specs.Rules.{place, refusal, rollback, settle, start, state, store, updated, withdraw}
 use Rattle.control.specs.ControlBytes.{Part}
-use Rattle.control.specs.ControlForm.{formRows}
+use Rattle.control_form.specs.ControlForm.{formRows}
 use Rattle.cabinet_rules.specs.Cabinet.{cabinet, rulesOf}
 use Rattle.cabinet_rules.specs.Delivery.{Delivery, PartOf, current}
 

@@ -9,7 +9,7 @@ use Rattle.mask.specs.Masks.{Byte}
 use Rattle.method.specs.MoveList.{Entry, ListAnswer, LockedMove, asMove, listAnswer, listed, moveList, noList}
 use Rattle.method.specs.MoveList.{notListed}
 use Rattle.method.specs.Rules.{look, ok, refused, retired, row, settle, start}
-use Rattle.control.specs.ControlForm.{controlForm, formRows}
+use Rattle.control_form.specs.ControlForm.{controlForm, formRows}
 use Rattle.cabinet_rules.specs.Cabinet.{cabinet}
 use Rattle.cabinet_rules.specs.Claims.{NoStopBy, NoisyCall, NoisyCallBy, imageAfter, imageAfterBy, imageCalls}
 use Rattle.cabinet_rules.specs.Claims.{noisy}

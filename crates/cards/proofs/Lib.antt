@@ -2,4 +2,3 @@ pub mod Searches
 pub mod Tables
 pub mod Rows
 pub mod Plans
-pub mod Failing

@@ -15,7 +15,7 @@ use Rattle.mask.specs.Placements.{Placement}
 use Rattle.method.specs.ControlPart.{active}
 use Rattle.method.specs.Rules.{inActive}
 use Rattle.control.specs.Meaning.{Counted, maskIn, meaning}
-use Rattle.control.proofs.Checks.{every-passed, one-fails, placementTest}
+use Rattle.control_form.proofs.Checks.{every-passed, one-fails, placementTest}
 use Rattle.cabinet_rules.specs.Cabinet.{cabinet}
 use Rattle.tables.specs.Tables.{setBelow, setOf}
 use Rattle.control.specs.declared.Control.{Control as Struct}

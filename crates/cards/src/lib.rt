@@ -1,4 +1,4 @@
-// start, fit, withdraw, place and fail: which cards there are and which of them the records are placed on.
+// start, fit, withdraw and place: which cards there are and which of them the records are placed on.
 ghost use mathlib.Core.Path.{_≡_};
 ghost use Rattle.image.specs.Layout.{Whole};
 ghost use Rattle.method.specs.Rules.{inActive, refusal, fit, withdraw, place};
@@ -13,7 +13,6 @@ ghost use Rattle.promise.specs.declared.Call.{Call};
 ghost use Rattle.cards.specs.Clearing.{cleared};
 use control::Control;
 use control::codec;
-use control::form;
 use image::Card;
 use mask::Placement;
 use promise::Answer;
@@ -88,7 +87,7 @@ fn fit_refusal(k: Control, card: Card) -> u8
 pub fn fit(image: &mut [u8], card: Card) -> Answer
     ensures { λ r. ⌜ Done (asked (Call.Fit card)) (now (image .entry)) r (now (image .exit)) ⌝ }
 {
-    let found = form::read(image);
+    let found = control_form::read(image);
     if found.refusal != 0 {
         return Answer::Refused(found.refusal);
     }
@@ -124,7 +123,7 @@ fn withdraw_refusal(k: Control, card: Card) -> u8
 pub fn withdraw(image: &mut [u8], card: Card) -> Answer
     ensures { λ r. ⌜ Done (asked (Call.Withdraw card)) (now (image .entry)) r (now (image .exit)) ⌝ }
 {
-    let found = form::read(image);
+    let found = control_form::read(image);
     if found.refusal != 0 {
         return Answer::Refused(found.refusal);
     }
@@ -175,7 +174,7 @@ fn place_refusal(k: Control, mask: u8) -> u8
 pub fn place(image: &mut [u8], mask: u8) -> Answer
     ensures { λ r. ⌜ Done (asked (Call.Place mask)) (now (image .entry)) r (now (image .exit)) ⌝ }
 {
-    let found = form::read(image);
+    let found = control_form::read(image);
     if found.refusal != 0 {
         return Answer::Refused(found.refusal);
     }
@@ -186,37 +185,4 @@ pub fn place(image: &mut [u8], mask: u8) -> Answer
     }
     codec::write(image, k.add(mask));
     Answer::Ok
-}
-
-// The card no longer works and is marked failed. Where an active placement is then lost, every open transaction is
-// rolled back and the store stops. Otherwise what was begun there is rolled back, and if the card was in the newest
-// placement one without it is added.
-pub fn fail(image: &mut [u8], card: Card) -> Answer
-    ensures { λ r. ⌜ Done (asked (Call.Fail card)) (now (image .entry)) r (now (image .exit)) ⌝ }
-{
-    let found = form::read(image);
-    if found.refusal != 0 {
-        return Answer::Refused(found.refusal);
-    }
-    let k = found.control;
-    let refusal = promise::rows::card_refusal(k, card);
-    if refusal != 0 {
-        return Answer::Refused(refusal);
-    }
-    let marked = k.mark_failed(card);
-    if !form::all_safe(marked) {
-        tables::end_held(image, marked.working, false, tables::all_open(k));
-        codec::write(image, marked.halt());
-        return Answer::Stopped;
-    }
-    tables::end_held(image, marked.working, false, tables::begun_at(k, card));
-    let closed = marked.close_at(card);
-    let newest = k.newest_mask();
-    if mask::has(newest, card) {
-        let mask = mask::without_card(newest, card);
-        codec::write(image, closed.add(mask));
-        return Answer::Placed(mask);
-    }
-    codec::write(image, closed);
-    Answer::Unplaced
 }

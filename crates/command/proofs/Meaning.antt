@@ -12,7 +12,7 @@ use borrow.Author.Tests.{le-leb, le-ltb, lt-leb}
 use Rattle.lists.proofs.Cases.{lt-or-ge}
 use Rattle.image.specs.Layout.{blockCount, imageSize}
 use Rattle.control.specs.ControlBytes.{controlByte}
-use Rattle.control.specs.ControlForm.{controlForm, formRows}
+use Rattle.control_form.specs.ControlForm.{controlForm, formRows}
 use Rattle.method.specs.Changes.{Control}
 use Rattle.method.specs.PlainList.{orRefused}
 use Rattle.method.specs.Rules.{View, move, refusal, refused, row}

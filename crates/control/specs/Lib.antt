@@ -1,3 +1,2 @@
 pub mod ControlBytes
-pub mod ControlForm
 pub mod Meaning

@@ -1,31 +1,18 @@
 -- What the code's struct means: the rules' control part. Assumes nothing.
 use mathlib.Core.Path.{_≡_}
-use mathlib.Core.Bool.{Bool, _||_, cond}
+use mathlib.Core.Bool.{cond}
 use mathlib.Core.List.{List, [], _∷_}
 use Prim.Native.Nat.{ℕ, zero, suc, _-_, _/_, _^_, _≤_}
-use lib.Dec.{eqb, leb, ltb}
+use lib.Dec.{leb}
 use lib.ListN.{getD}
-use Rattle.lists.specs.Tests.{allBelow}
 use Rattle.lists.specs.Tabulate.{tabulate}
 use Rattle.lists.specs.Segments.{splice}
 use Rattle.image.specs.Layout.{controlSize}
 use Rattle.mask.specs.Masks.{byte}
 use Rattle.mask.specs.Placements.{Placement}
 use Rattle.method.specs.ControlPart.{isCard}
-use Rattle.control.specs.ControlBytes.{
-  Part,
-  homeByte,
-  controlByte,
-  countIn,
-  homeIn,
-  homeOf,
-  keptAs,
-  placementsIn,
-  controlOf,
-}
-use Rattle.control.specs.ControlForm.{formRefusal}
+use Rattle.control.specs.ControlBytes.{Part, controlByte, countIn, homeIn, homeOf, keptAs, placementsIn}
 use Rattle.control.specs.declared.Control.{Control}
-use Rattle.control.specs.declared.Found.{Found}
 
 -- The n elements of l from index a, written out.
 abbrev pub rowOf : List ℕ → ℕ → ℕ → List ℕ
@@ -85,27 +72,10 @@ pub record Is (k : Control) (part : Part) : Type 0 where
 unfoldable pub keptHome : ℕ → ℕ → ℕ
 keptHome c b = cond (isCard (homeIn b) c) 0 b
 
--- Every number from a on and below e passes the test.
-unfoldable pub allFrom : ℕ → ℕ → (ℕ → Bool) → Bool
-allFrom a e f = allBelow e (λ n. ltb n a || f n)
-
 -- The bits of a byte from bit i on.
 unfoldable pub bitsFrom : ℕ → ℕ
 bitsFrom i = 255 / 2 ^ i
 
--- Byte n is zero.
-unfoldable pub isZeroAt : List ℕ → ℕ → Bool
-isZeroAt l n = eqb (getD l n 0) 0
-
--- Byte n is a transaction's as it is written: all zero when not open, and else zero behind the home card.
-unfoldable pub isHomeAt : List ℕ → ℕ → Bool
-isHomeAt l n = eqb (getD l n 0) (homeByte (homeIn (getD l n 0)))
-
 -- The image with a whole new control part.
 unfoldable pub putControl : List ℕ → Part → List ℕ
 putControl image part = splice image 0 (tabulate controlSize (controlByte part))
-
--- What reading an image finds: row 1 or 2 of the refusal table, or else 0 and the control part that the bytes show.
-pub record Reads (image : List ℕ) (r : Found) : Type 0 where
-  pub refusal-is : r .refusal ≡ formRefusal image
-  pub good : r .refusal ≡ 0 → Is (r .control) (controlOf (λ n. getD image n 0))

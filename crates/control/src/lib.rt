@@ -20,7 +20,6 @@ ghost use Rattle.method.specs.ControlPart.{
 ghost use Rattle.control.specs.Meaning.{meaning, mostActive, newestMask, placementIn, keptHome, Counted, Is};
 
 pub mod codec;
-pub mod form;
 
 use codec::FIELD;
 use codec::OPEN;
@@ -49,12 +48,6 @@ pub struct Control {
     pub failed: u8,
     pub marks: u8,
     pub homes: [u8; TRAN_COUNT],
-}
-
-// Row 1 or 2 of the refusal table, or else 0 and the control part.
-pub struct Found {
-    pub refusal: u8,
-    pub control: Control,
 }
 
 impl Control {

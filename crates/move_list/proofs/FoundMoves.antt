@@ -4,14 +4,14 @@ use borrow.Author.Tests.{eq-eqb}
 use lib.Dec.{eqb, ltb}
 use lib.ListN.{getD, length, length-append, length-map, set}
 use lib.Seq.{getD-set-other, getD-set-same}
-use mathlib.Core.Bool.{Bool, _&&_, cond, false, not, true}
+use mathlib.Core.Bool.{Bool, _&&_, false, true}
 use mathlib.Core.List.{List, [], _++_, _∷_, map}
 use mathlib.Core.Logic.{_⊎_, inl, inr}
 use mathlib.Core.Path.{_∙_, _≡_, ap, ap₂, fun-ext, refl, sym}
 use native.Mathlib.Numerals.{add-one}
 use native.Mathlib.Omega.{arith}
-use Rattle.lists.specs.Tests.{any, anyBelow, concatMap, elem, keepIf, numbersBelow}
-use Rattle.lists.proofs.Bools.{and-l, and-r, and-when, tf}
+use Rattle.lists.specs.Tests.{any, anyBelow, concatMap, keepIf, numbersBelow}
+use Rattle.lists.proofs.Bools.{and-l, and-when, tf}
 use Rattle.lists.proofs.Cases.{by-eq}
 use Rattle.lists.proofs.Counts.{any-below}
 use Rattle.lists.proofs.Lists.{any-map, concat-more}
@@ -22,9 +22,9 @@ use Rattle.mask.specs.Placements.{AreSites, siteList}
 use Rattle.mask.specs.declared.Sites.{Sites}
 use Rattle.mask.proofs.Masks.{size-members}
 use Rattle.slot.specs.Blocks.{anyLocked as anyLockedIn, isHeld}
-use Rattle.method.specs.MoveList.{Entry, anyMoveLocked, entryAt, isLowest, isOrigin, isStray, moveList, movesOf}
-use Rattle.method.specs.Rules.{View, anyLocked, newestSites, settledAt}
-use Rattle.control.specs.ControlBytes.{Part}
+use Rattle.method.specs.MoveList.{Entry, anyMoveLocked, entryAt, isOrigin, moveList, movesOf}
+use Rattle.method.proofs.MoveList.{origin-holds}
+use Rattle.method.specs.Rules.{anyLocked, settledAt}
 use Rattle.control.specs.Meaning.{meaning}
 use Rattle.control.specs.declared.Control.{Control}
 use Rattle.cabinet_rules.specs.Cabinet.{cabinet}
@@ -54,25 +54,6 @@ module _ (k : Control) (g : Image) (is : Given k g) where
   unfolding originOf isOrigin settledAt blockSettled
   origin-is b h s at held m c = ap₂ (λ (l : List ℕ) (f : ℕ → Bool). originOf l f c) (at .listed ∙ newest-are k g is b) (fun-ext (λ x. m x ∙ holds-seen k g is b x h))
 
--- a card that a block moves from holds it
-origin-held : (g : Image) (b c : ℕ) → origin g b c ≡ true → isHeld (viewOf g c b) ≡ true
-unfolding isOrigin
-origin-held g b c e = go (isHeld (v c b)) (anyBelow cardCount stray) (not (elem c (newestSites cabinet k b))) (not (anyBelow c (λ x. isHeld (v x b))))
-    (and-r (not (settledAt cabinet k v b)) (cond (anyBelow cardCount stray) (stray c) (isLowest cabinet v b c)) e)
-  where
-    k : Part
-    k = controlIn g
-
-    v : View cabinet
-    v = viewOf g
-
-    stray : ℕ → Bool
-    stray = isStray cabinet k v b
-
-    go : (h t u w : Bool) → cond t (h && u) (h && w) ≡ true → h ≡ true
-    go h true u w e = and-l h u e
-    go h false u w e = and-l h w e
-
 module _ (g : Image) (b from : ℕ) (hb : b < blockCount) (m : AreMembers from (origin g b)) where
   -- its moves are of the members of the mask
   pub moves-are-members : movesOfBlock g b ≡ map (entryAt b) (members (byte from))
@@ -90,7 +71,7 @@ module _ (g : Image) (b from : ℕ) (hb : b < blockCount) (m : AreMembers from (
       ∙ ap (anyBelow cardCount) (fun-ext (λ c. and-when (origin g b c) (anyLocked cabinet (viewOf g c b)) (anyLockedIn (blockIn g c b)) (seen c) ∙ ap (λ (t : Bool). t && anyLockedIn (blockIn g c b)) (sym (m c)))))
     where
       seen : (c : ℕ) → origin g b c ≡ true → anyLocked cabinet (viewOf g c b) ≡ anyLockedIn (blockIn g c b)
-      seen c e = ap (anyLocked cabinet) (look-on g c b (and-l _ _ (sym (held-look g c b hb) ∙ origin-held g b c e)) hb)
+      seen c e = ap (anyLocked cabinet) (look-on g c b (and-l _ _ (sym (held-look g c b hb) ∙ origin-holds cabinet (controlIn g) (viewOf g) b c e)) hb)
 
 -- ---- all blocks
 -- The moves of the first n blocks, and whether one of block b is locked.

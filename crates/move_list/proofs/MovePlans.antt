@@ -20,14 +20,14 @@ use Rattle.mask.specs.Masks.{byte, members, size}
 use Rattle.mask.proofs.Masks.{size-members}
 use Rattle.method.specs.MoveList.{Entry, ListAnswer, anyMoveLocked, entryAt, listAnswer, listed, noList, notListed}
 use Rattle.method.specs.Rules.{refusal, state}
-use Rattle.control.specs.ControlForm.{formRefusal}
+use Rattle.control_form.specs.ControlForm.{formRefusal}
 use Rattle.control.specs.declared.Control.{Control}
 use Rattle.cabinet_rules.specs.Cabinet.{cabinet}
 use Rattle.cabinet_rules.specs.Images.{Image, controlIn, refusalBy, refusalOn}
 use Rattle.cabinet_rules.specs.MoveLists.{listAnswerOn, listRefusal, movesOn, unlessRefusedList}
 use Rattle.promise.specs.Given.{Given, viewOf}
 use Rattle.promise.proofs.Finish.{form-row, refusal-rules}
-use Rattle.reorganise.proofs.States.{state-rows}
+use Rattle.promise.proofs.SharedRows.{state-rows}
 use Rattle.move_list.specs.Plans.{Finds, Plans, answerBy, firstMoves, moveAt, moveFor, movesAt, movesIn, refusedPlan, storedBy}
 use Rattle.move_list.specs.Promise.{ListDone, filledBy, listAfter, shownList}
 use Rattle.move_list.specs.declared.Listed.{Listed}

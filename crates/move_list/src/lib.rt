@@ -64,7 +64,7 @@ impl AllMoves {
 pub fn find_moves(image: &[u8]) -> Plan
     ensures { λ r. ⌜ Plans r (now (image .entry)) ⌝ }
 {
-    let found = control::form::read(image);
+    let found = control_form::read(image);
     if found.refusal != 0 {
         return finding::refused(found.refusal);
     }

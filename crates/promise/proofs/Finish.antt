@@ -14,10 +14,11 @@ use Rattle.method.specs.PlainList.{orRefused}
 use Rattle.method.specs.Rules.{Call, Plan, row, unwritten, writing}
 use Rattle.method.proofs.Refusals.{row-clear}
 use Rattle.control.specs.ControlBytes.{Part, controlByte}
-use Rattle.control.specs.ControlForm.{controlForm, formRefusal}
-use Rattle.control.specs.Meaning.{Reads, putControl}
+use Rattle.control_form.specs.ControlForm.{controlForm, formRefusal}
+use Rattle.control.specs.Meaning.{putControl}
+use Rattle.control_form.specs.Reading.{Reads}
 use Rattle.control.specs.declared.Control.{Control}
-use Rattle.control.specs.declared.Found.{Found}
+use Rattle.control_form.specs.declared.Found.{Found}
 use Rattle.cabinet_rules.specs.Cabinet.{cabinet}
 use Rattle.cabinet_rules.specs.Images.{Image, Writes, after, answer, answerBy, controlIn, isStart, nextBy, planOn}
 use Rattle.cabinet_rules.specs.Images.{refusalBy, refusalOn, unlessRefusedImage}

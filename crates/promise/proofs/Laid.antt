@@ -20,10 +20,10 @@ use Rattle.slot.specs.Blocks.{BlockBytes, ofList}
 use Rattle.slot.proofs.Blocks.{block-path, byte-in, of-list}
 use Rattle.method.specs.Rules.{updated}
 use Rattle.control.specs.ControlBytes.{Part, controlByte}
-use Rattle.control.specs.ControlForm.{controlForm}
+use Rattle.control_form.specs.ControlForm.{controlForm}
 use Rattle.control.specs.Meaning.{putControl}
-use Rattle.control.proofs.Put.{length-put, put-after, put-blocks, put-in}
-use Rattle.control.proofs.RoundTrip.{control-back}
+use Rattle.control_form.proofs.Put.{length-put, put-after, put-blocks, put-in}
+use Rattle.control_form.proofs.RoundTrip.{control-back}
 use Rattle.cabinet_rules.specs.Images.{Image, Writes, after, blockIn, blockNumber, cardAt, controlIn, isBlockByte}
 use Rattle.cabinet_rules.proofs.After.{after-block, after-control, after-ext, after-tail, block-of, card-of}
 use Rattle.cabinet_rules.proofs.After.{length-after}

@@ -1,15 +1,20 @@
--- What a call has shown that the shared rows do not refuse. Assumes nothing.
+-- What a call has shown that the shared rows do not refuse, and the row of a stopped store. Assumes nothing.
 use Prim.Native.Nat.{_<_, ℕ}
 use borrow.Author.Tests.{ltb-true}
 use lib.Dec.{ltb}
-use mathlib.Core.Bool.{false, not, true}
-use mathlib.Core.Path.{_≡_, sym}
+use mathlib.Core.Bool.{Bool, false, not, true}
+use mathlib.Core.Path.{_≡_, ap, sym}
 use Rattle.lists.proofs.Bools.{and-l, and-r, not-not-is}
 use Rattle.image.specs.Layout.{cardCount, tranBound}
 use Rattle.mask.specs.Masks.{hasCard}
+use Rattle.method.specs.Rules.{refusal, row, state}
 use Rattle.method.proofs.Refusals.{row-3, row-clear}
 use Rattle.control.specs.ControlBytes.{Part}
+use Rattle.control.specs.Meaning.{meaning}
+use Rattle.control.specs.declared.Control.{Control}
 use Rattle.cabinet_rules.specs.Cabinet.{tranOk}
+use Rattle.cabinet_rules.specs.Images.{Image, controlIn}
+use Rattle.promise.specs.Given.{Given, rowsOn}
 use Rattle.promise.specs.Rows.{cardRows, tranRows}
 
 pub card-accepted : (k : Part) (c : ℕ) → 0 ≡ cardRows k c → (c < cardCount) × (k .stopped ≡ false) × (hasCard (k .working) c ≡ true)
@@ -27,3 +32,14 @@ tran-range t e = (ltb-true 0 t (and-l (ltb 0 t) (ltb t tranBound) e), ltb-true t
 pub tran-accepted : (k : Part) (t : ℕ) → 0 ≡ tranRows k t → (0 < t) × (t < tranBound)
 unfolding tranRows
 tran-accepted k t e = tran-range t (row-3 (tranOk t) (sym e) .0)
+
+-- ---- a stopped store
+module _ (k : Control) (g : Image) (is : Given k g) where
+  pub stopped-is : k .stopped ≡ controlIn g .stopped
+  unfolding meaning
+  stopped-is = ap (λ (p : Part). p .stopped) (is .is .means)
+
+  -- the only row of a call without arguments
+  pub state-rows : row 4 (k .stopped) 0 ≡ rowsOn state g
+  unfolding refusal
+  state-rows = ap (λ (t : Bool). row 4 t 0) stopped-is

@@ -3,7 +3,7 @@
 use Prim.Native.Nat.{ℕ}
 use mathlib.Core.Path.{_≡_}
 use Rattle.method.specs.Rules.{Call, View, look, refusal}
-use Rattle.control.specs.ControlForm.{formRefusal}
+use Rattle.control_form.specs.ControlForm.{formRefusal}
 use Rattle.control.specs.Meaning.{Is}
 use Rattle.control.specs.declared.Control.{Control}
 use Rattle.cabinet_rules.specs.Cabinet.{cabinet}

@@ -16,7 +16,7 @@ use Rattle.method.specs.Rules.{Answer, Plan, absent, act, delete, get, layBlock
 use Rattle.method.specs.Rules.{store, storeWrites, unwritten, writing}
 use Rattle.method.specs.Slots.{isNone, readBy}
 use Rattle.method.proofs.Refusals.{row-3}
-use Rattle.control.specs.ControlForm.{controlForm, formRows}
+use Rattle.control_form.specs.ControlForm.{controlForm, formRows}
 use Rattle.cabinet_rules.specs.Cabinet.{cabinet, tranOk}
 use Rattle.cabinet_rules.specs.Images.{Image, Writes, controlIn, refusalBy, refusalOn, stateIn}
 use Rattle.promise.specs.Promise.{Done, shown}

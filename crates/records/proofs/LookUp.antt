@@ -12,8 +12,9 @@ use Rattle.method.specs.ControlPart.{isOpen}
 use Rattle.method.specs.Rules.{View, delete, get, lockedOut, refusal, row, store}
 use Rattle.method.proofs.Refusals.{row-3}
 use Rattle.control.specs.ControlBytes.{Part}
-use Rattle.control.specs.Meaning.{Reads, meaning}
-use Rattle.control.specs.declared.Found.{Found}
+use Rattle.control.specs.Meaning.{meaning}
+use Rattle.control_form.specs.Reading.{Reads}
+use Rattle.control_form.specs.declared.Found.{Found}
 use Rattle.cabinet_rules.specs.Cabinet.{cabinet, tranOk}
 use Rattle.cabinet_rules.specs.Images.{Image, controlIn, refusalOn}
 use Rattle.promise.specs.Given.{Given, rowsOn}

@@ -8,7 +8,7 @@ use Rattle.mask.specs.Placements.{meant}
 use Rattle.method.specs.ControlPart.{isOpen}
 use Rattle.method.specs.Rules.{get, row}
 use Rattle.control.specs.ControlBytes.{Part}
-use Rattle.control.specs.ControlForm.{formRefusal}
+use Rattle.control_form.specs.ControlForm.{formRefusal}
 use Rattle.cabinet_rules.specs.Cabinet.{tranOk}
 use Rattle.cabinet_rules.specs.Images.{Image, controlIn, refusalOn}
 use Rattle.promise.specs.Given.{rowsOn}

@@ -46,7 +46,7 @@ fn early_rows(k: Control, tran: Tran, rec: Rec) -> u8
 pub fn look_up(image: &[u8], tran: Tran, rec: Rec) -> Access
     ensures { λ r. ⌜ LooksUp (now (image .entry)) (tran .0) (rec .0) r ⌝ }
 {
-    let found = control::form::read(image);
+    let found = control_form::read(image);
     if found.refusal != 0 {
         return refused(found.refusal);
     }

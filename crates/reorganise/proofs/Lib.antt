@@ -1,5 +1,3 @@
 pub mod Looks
 pub mod Moves
 pub mod Settles
-pub mod Loads
-pub mod States

@@ -31,7 +31,3 @@ module _ (k : Control) (g : Image) (is : Given k g) where
 
   pub newest-are : (b : ℕ) → sitesOf (meaning k .newest) b ≡ newestSites cabinet (controlIn g) b
   newest-are b = ap (λ (p : Part). sitesOf (p .newest) b) (is .is .means)
-
-  pub stopped-is : k .stopped ≡ controlIn g .stopped
-  unfolding meaning
-  stopped-is = ap (λ (p : Part). p .stopped) (is .is .means)

@@ -19,10 +19,11 @@ use Rattle.control.proofs.Struct.{length-placements}
 use Rattle.cabinet_rules.specs.Cabinet.{cabinet}
 use Rattle.cabinet_rules.specs.Images.{Image, controlIn, planOn}
 use Rattle.promise.specs.Given.{Given, rowsOn, viewOf}
+use Rattle.promise.proofs.SharedRows.{stopped-is}
 use Rattle.trail.specs.Trail.{holdsAt}
 use Rattle.trail.proofs.Holding.{holds-seen}
 use Rattle.reorganise.specs.Reorganise.{blockSettled, cardSettled}
-use Rattle.reorganise.proofs.Looks.{newest-are, stopped-is}
+use Rattle.reorganise.proofs.Looks.{newest-are}
 
 -- ---- a block: some card fails, or all pass
 pub block-fails : (sites : List ℕ) (holds : ℕ → Bool) (c : ℕ) → c < cardCount → cardSettled sites holds c ≡ false → false ≡ blockSettled sites holds

@@ -1,12 +1,9 @@
--- What the functions under the calls move, settle, state and load say of an image. Assumes nothing.
+-- What the functions under settle say of a block. Assumes nothing.
 use Prim.Native.Nat.{ℕ}
 use mathlib.Core.Bool.{Bool, _&&_, _||_, not}
 use mathlib.Core.List.{List}
-use Rattle.lists.specs.Tests.{all, allBelow, elem, sumBelow}
+use Rattle.lists.specs.Tests.{all, allBelow, elem}
 use Rattle.image.specs.Layout.{cardCount}
-use Rattle.method.specs.Rules.{committedIn}
-use Rattle.cabinet_rules.specs.Cabinet.{cabinet}
-use Rattle.cabinet_rules.specs.Images.{Image, blockIn}
 
 -- Card c does not hold the block, or is a site of it and all its sites hold it; every card is so.
 abbrev pub cardSettled : List ℕ → (ℕ → Bool) → ℕ → Bool
@@ -14,7 +11,3 @@ cardSettled sites holds c = not (holds c) || (elem c sites && all holds sites)
 
 unfoldable pub blockSettled : List ℕ → (ℕ → Bool) → Bool
 blockSettled sites holds = allBelow cardCount (cardSettled sites holds)
-
--- How many records are committed present in the first n blocks of card c; a block that is not held has none.
-unfoldable pub loadBelow : Image → ℕ → ℕ → ℕ
-loadBelow g c n = sumBelow n (λ b. committedIn cabinet (blockIn g c b))

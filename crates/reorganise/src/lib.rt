@@ -1,11 +1,9 @@
-// The calls that reorganise the store, move and settle, and those that tell how far it is, state and load.
+// The calls that reorganise the store: move and settle.
 ghost use Rattle.promise.specs.Promise.{Done, asked};
 ghost use Rattle.promise.specs.declared.Call.{Call};
 
-mod loading;
 pub mod looking;
 mod moving;
-mod protection;
 mod settling;
 
 use image::Block;
@@ -16,7 +14,7 @@ use promise::Answer;
 pub fn move_block(image: &mut [u8], card: Card, block: Block) -> Answer
     ensures { λ r. ⌜ Done (asked (Call.Move card block)) (now (image .entry)) r (now (image .exit)) ⌝ }
 {
-    let found = control::form::read(image);
+    let found = control_form::read(image);
     if found.refusal != 0 {
         return Answer::Refused(found.refusal);
     }
@@ -32,7 +30,7 @@ pub fn move_block(image: &mut [u8], card: Card, block: Block) -> Answer
 pub fn settle(image: &mut [u8]) -> Answer
     ensures { λ r. ⌜ Done (asked Call.Settle) (now (image .entry)) r (now (image .exit)) ⌝ }
 {
-    let found = control::form::read(image);
+    let found = control_form::read(image);
     if found.refusal != 0 {
         return Answer::Refused(found.refusal);
     }
@@ -44,39 +42,4 @@ pub fn settle(image: &mut [u8]) -> Answer
     let retired = k.count - 1;
     control::codec::write(image, k.retire());
     Answer::Retired(retired)
-}
-
-// Protected exactly when failing any one working card would not stop the store.
-pub fn state(image: &[u8]) -> Answer
-    ensures { λ r. ⌜ Done (asked Call.State) (now (image .entry)) r (now (image .entry)) ⌝ }
-{
-    let found = control::form::read(image);
-    if found.refusal != 0 {
-        return Answer::Refused(found.refusal);
-    }
-    let k = found.control;
-    if k.stopped {
-        return Answer::Refused(4);
-    }
-    let withstood = protection::all_withstand(k);
-    if withstood {
-        return Answer::Protected;
-    }
-    Answer::Unprotected
-}
-
-// How many records are committed present in the card's held blocks.
-pub fn load(image: &[u8], card: Card) -> Answer
-    ensures { λ r. ⌜ Done (asked (Call.Load card)) (now (image .entry)) r (now (image .entry)) ⌝ }
-{
-    let found = control::form::read(image);
-    if found.refusal != 0 {
-        return Answer::Refused(found.refusal);
-    }
-    let k = found.control;
-    let refusal = promise::rows::card_refusal(k, card);
-    if refusal != 0 {
-        return Answer::Refused(refusal);
-    }
-    Answer::Loaded(loading::load_table(image, card))
 }

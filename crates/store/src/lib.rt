@@ -92,7 +92,7 @@ pub fn place(image: &mut [u8], mask: u8) -> Answer
 pub fn fail(image: &mut [u8], card: Card) -> Answer
     ensures { λ r. ⌜ Done (asked (Call.Fail card)) (now (image .entry)) r (now (image .exit)) ⌝ }
 {
-    cards::fail(image, card)
+    failure::fail(image, card)
 }
 
 // A card's copy of a block goes to the newest sites that lack it. (Document 01's move.)
@@ -113,14 +113,14 @@ pub fn settle(image: &mut [u8]) -> Answer
 pub fn state(image: &[u8]) -> Answer
     ensures { λ r. ⌜ Done (asked Call.State) (now (image .entry)) r (now (image .entry)) ⌝ }
 {
-    reorganise::state(image)
+    survey::state(image)
 }
 
 // How many records are committed present on a card.
 pub fn load(image: &[u8], card: Card) -> Answer
     ensures { λ r. ⌜ Done (asked (Call.Load card)) (now (image .entry)) r (now (image .entry)) ⌝ }
 {
-    reorganise::load(image, card)
+    survey::load(image, card)
 }
 
 // Any call.

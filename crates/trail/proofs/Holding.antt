@@ -22,7 +22,7 @@ use Rattle.slot.proofs.Blocks.{byte-in}
 use Rattle.method.specs.ControlPart.{active}
 use Rattle.method.specs.Rules.{holders, trail}
 use Rattle.control.specs.ControlBytes.{Part, placementsIn}
-use Rattle.control.specs.ControlForm.{controlForm}
+use Rattle.control_form.specs.ControlForm.{controlForm}
 use Rattle.control.specs.Meaning.{meaning, placementIn}
 use Rattle.control.specs.declared.Control.{Control}
 use Rattle.control.proofs.Struct.{active-is, placements-more}

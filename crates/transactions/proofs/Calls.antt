@@ -8,9 +8,10 @@ use Rattle.slot.specs.Blocks.{inSet}
 use Rattle.method.specs.ControlPart.{closed, opened}
 use Rattle.method.specs.Rules.{View, begin, endHeld, look}
 use Rattle.control.specs.ControlBytes.{Part}
-use Rattle.control.specs.ControlForm.{formRefusal}
-use Rattle.control.specs.Meaning.{Reads, meaning, putControl}
-use Rattle.control.specs.declared.Found.{Found}
+use Rattle.control_form.specs.ControlForm.{formRefusal}
+use Rattle.control.specs.Meaning.{meaning, putControl}
+use Rattle.control_form.specs.Reading.{Reads}
+use Rattle.control_form.specs.declared.Found.{Found}
 use Rattle.cabinet_rules.specs.Cabinet.{cabinet}
 use Rattle.cabinet_rules.specs.Images.{Image, controlIn, stateIn}
 use Rattle.promise.specs.Promise.{Done}

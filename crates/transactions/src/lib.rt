@@ -45,7 +45,7 @@ fn begin_refusal(k: Control, tran: Tran, home: Card) -> u8
 pub fn begin(image: &mut [u8], tran: Tran, home: Card) -> Answer
     ensures { λ r. ⌜ Done (asked (Call.Begin tran home)) (now (image .entry)) r (now (image .exit)) ⌝ }
 {
-    let found = control::form::read(image);
+    let found = control_form::read(image);
     if found.refusal != 0 {
         return Answer::Refused(found.refusal);
     }
@@ -77,7 +77,7 @@ fn end_open(image: &mut [u8], k: Control, tran: Tran, take: bool)
 fn end(image: &mut [u8], tran: Tran, take: bool) -> Answer
     ensures { λ r. ⌜ Done (endCall take (tran .0)) (now (image .entry)) r (now (image .exit)) ⌝ }
 {
-    let found = control::form::read(image);
+    let found = control_form::read(image);
     if found.refusal != 0 {
         return Answer::Refused(found.refusal);
     }

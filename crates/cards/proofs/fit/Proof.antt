@@ -25,7 +25,7 @@ use Rattle.cards.proofs.fit.Lts as lts
 use Rattle.cards.proofs.fit_refusal.Reads as fit-refusal-reads
 use Rattle.control.proofs.Control.admit.Reads as admit-reads
 use Rattle.control.proofs.codec.write.Reads as write-reads
-use Rattle.control.proofs.form.read.Reads as read-reads
+use Rattle.control_form.proofs.read.Reads as read-reads
 use Rattle.image.proofs.clear_table.Reads as clear-table-reads
 
 read-requires : tie.Need-read-requires

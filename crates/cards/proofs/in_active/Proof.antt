@@ -5,7 +5,7 @@ use mathlib.Core.Bool.{true}
 use Prim.Native.Nat.{_≤_, _-_}
 use native.Mathlib.Omega.{arith}
 use Rattle.lists.specs.Tests.{allBelow}
-use Rattle.control.proofs.Checks.{placementTest}
+use Rattle.control_form.proofs.Checks.{placementTest}
 use Rattle.cards.proofs.Searches.{lacks, found-active, none-active, still-none}
 use Rattle.cards.proofs.in_active.Statement.{statement}
 use Rattle.cards.proofs.in_active.Tie as tie

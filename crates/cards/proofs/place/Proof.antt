@@ -21,7 +21,7 @@ use Rattle.cards.proofs.place.Lts as lts
 use Rattle.cards.proofs.place_refusal.Reads as place-refusal-reads
 use Rattle.control.proofs.Control.add.Reads as add-reads
 use Rattle.control.proofs.codec.write.Reads as write-reads
-use Rattle.control.proofs.form.read.Reads as read-reads
+use Rattle.control_form.proofs.read.Reads as read-reads
 
 read-requires : tie.Need-read-requires
 read-requires c κs = search needs

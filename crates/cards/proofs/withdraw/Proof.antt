@@ -25,7 +25,7 @@ use Rattle.cards.proofs.withdraw.Lts as lts
 use Rattle.cards.proofs.withdraw_refusal.Reads as withdraw-refusal-reads
 use Rattle.control.proofs.Control.dismiss.Reads as dismiss-reads
 use Rattle.control.proofs.codec.write.Reads as write-reads
-use Rattle.control.proofs.form.read.Reads as read-reads
+use Rattle.control_form.proofs.read.Reads as read-reads
 use Rattle.image.proofs.clear_table.Reads as clear-table-reads
 
 read-requires : tie.Need-read-requires

@@ -1,0 +1,193 @@
+-- The table of controls: good ones, and ones in which a clause of document 01's control form is broken, alone wherever no other
+-- clause must fall with it. Which clauses fall is computed. Assumes nothing.
+use mathlib.Core.Path.{_≡_, refl}
+use mathlib.Core.Bool.{Bool, true, false, _||_, cond}
+use mathlib.Core.List.{List, [], _∷_, _++_}
+use Prim.Native.Nat.{ℕ}
+use lib.Dec.{eqb}
+use lib.ListN.{getD}
+use Rattle.lists.specs.Tests.{all, allBelow}
+use Rattle.image.specs.Layout.{tranBound}
+use Rattle.mask.specs.Masks.{hasCard, withCard, size, common, isWithin, areApart, isWithinEither, isOneMore}
+use Rattle.method.specs.ControlPart.{active}
+use Rattle.control.specs.ControlBytes.{Part, controlByte, controlOf}
+use Rattle.control_form.specs.ControlForm.{countOk, zeroFieldsOk, membersOk, fourthOk, isSafe, homeOk, partOk, formOk}
+
+-- A clause of the control form.
+pub data Clause : Type 0 where
+  -- count is 1 to 4
+  count : Clause
+  -- zero fields are zero
+  zeroFields : Clause
+  -- working and failed share no card
+  apart : Clause
+  -- each active placement has at least two members, all working or failed
+  members : Clause
+  -- when the count is 4, the third mask is the fourth plus exactly one failed card
+  fourth : Clause
+  -- if not stopped, the newest placement's members all work
+  newestWorks : Clause
+  -- if not stopped, each active placement has at most one failed and at least two working members
+  safe : Clause
+  -- if not stopped, each open transaction's home works; if stopped, none is open
+  homes : Clause
+
+abbrev fault : Bool → Clause → List Clause
+fault true x = []
+fault false x = x ∷ []
+
+-- The clauses that bytes break.
+abbrev pub faultsOf : Part → List Clause
+faultsOf k = fault (areApart (k .working) (k .failed)) apart
+    ++ (fault (all (membersOk (k .working) (k .failed)) (active k)) members
+    ++ (fault (fourthOk (k .failed) (k .newest) (k .older)) fourth
+    ++ (fault (k .stopped || isWithin (k .newest .mask) (k .working)) newestWorks
+    ++ (fault (k .stopped || all (isSafe (k .working) (k .failed)) (active k)) safe
+    ++ fault (allBelow tranBound (λ t. homeOk (k .stopped) (k .working) (k .home t))) homes))))
+
+abbrev pub faults : (ℕ → ℕ) → List Clause
+faults g = fault (countOk g) count ++ (fault (zeroFieldsOk g) zeroFields ++ faultsOf (controlOf g))
+
+-- 32 bytes by their first ones, the rest zero; and with byte n changed.
+abbrev pub bytes : List ℕ → ℕ → ℕ
+bytes l n = getD l n 0
+
+abbrev pub changed : ℕ → ℕ → (ℕ → ℕ) → ℕ → ℕ
+changed n x g i = cond (eqb i n) x (g i)
+
+-- A row: the bytes and the clauses that they break.
+pub record Row : Type 0 where
+  pub control : ℕ → ℕ
+  pub broken : List Clause
+
+infixl 3 _breaks_
+abbrev pub _breaks_ : (ℕ → ℕ) → List Clause → Row
+g breaks l = record { control = g; broken = l }
+
+-- ---- good controls
+-- cards 0, 1, 2 work and are the one placement
+abbrev pub running : ℕ → ℕ
+running = bytes (0x10 ∷ 0xe0 ∷ 0 ∷ 0 ∷ 0 ∷ 0xe0 ∷ 0 ∷ [])
+
+-- four active placements, marked 0, card 3 failed; transactions 1 and 2 open with homes 0 and 2
+abbrev pub four : ℕ → ℕ
+four = bytes (0x40 ∷ 0xa0 ∷ 0xc0 ∷ 0xf0 ∷ 0xe0 ∷ 0xe0 ∷ 0x10 ∷ 0 ∷ 0x80 ∷ 0xa0 ∷ [])
+
+-- stopped, cards 1 and 2 failed
+abbrev pub stopped : ℕ → ℕ
+stopped = bytes (0x90 ∷ 0xe0 ∷ 0 ∷ 0 ∷ 0 ∷ 0x80 ∷ 0x60 ∷ [])
+
+abbrev pub good : List Row
+good =
+    (running breaks [])
+    ∷ (four breaks [])
+    ∷ (stopped breaks [])
+    -- the third mask is free where the count is 3
+    ∷ (bytes (0x30 ∷ 0xa0 ∷ 0xc0 ∷ 0xe0 ∷ 0 ∷ 0xe0 ∷ 0 ∷ []) breaks [])
+    -- every one of four marked 1; the first and the third; one placement, marked 1
+    ∷ (changed 7 0xf0 four breaks [])
+    ∷ (changed 7 0xa0 four breaks [])
+    ∷ (changed 7 0x80 running breaks [])
+    -- two failed cards, each in another placement
+    ∷ (bytes (0x30 ∷ 0xf0 ∷ 0xe8 ∷ 0xe0 ∷ 0 ∷ 0xe0 ∷ 0x18 ∷ []) breaks [])
+    ∷ []
+
+-- ---- the count
+abbrev pub badCount : List Row
+badCount =
+    -- Before the first start. A count of 0 is read as one placement with byte 0 for its mask, so the bytes are not those of what
+    -- they show, and that placement has no member.
+    (bytes [] breaks (count ∷ zeroFields ∷ members ∷ safe ∷ []))
+    -- count 0, and byte 0 a mask of two working cards: zero fields must still fall
+    ∷ (bytes (0x83 ∷ 0 ∷ 0 ∷ 0 ∷ 0 ∷ 0x83 ∷ 0 ∷ []) breaks (count ∷ zeroFields ∷ []))
+    -- count 5, byte 5 read as the newest mask; count 6, byte 6 read as it
+    ∷ (bytes (0x50 ∷ 0xe0 ∷ 0xe0 ∷ 0xe0 ∷ 0xe0 ∷ 0xe0 ∷ 0 ∷ []) breaks (count ∷ []))
+    ∷ (bytes (0xe0 ∷ 0xe0 ∷ 0xe0 ∷ 0xe0 ∷ 0xe0 ∷ 0xe0 ∷ 0x18 ∷ []) breaks (count ∷ []))
+    -- count 7, byte 7 read as the newest mask: it has no member
+    ∷ (bytes (0xf0 ∷ 0xe0 ∷ 0xe0 ∷ 0xe0 ∷ 0xe0 ∷ 0xe0 ∷ 0x18 ∷ []) breaks (count ∷ members ∷ []))
+    ∷ []
+
+-- ---- zero fields
+abbrev pub badZeros : List Row
+badZeros =
+    -- the low bits of byte 0; an unused mask
+    (changed 0 0x11 running breaks (zeroFields ∷ []))
+    ∷ (changed 2 0xe0 running breaks (zeroFields ∷ []))
+    ∷ (changed 4 0x01 running breaks (zeroFields ∷ []))
+    -- the mark of a placement that is not there, the next one and the fourth; a low bit of the marks, the highest and the lowest
+    ∷ (changed 7 0x40 running breaks (zeroFields ∷ []))
+    ∷ (changed 7 0x90 running breaks (zeroFields ∷ []))
+    ∷ (changed 7 0xf8 four breaks (zeroFields ∷ []))
+    ∷ (changed 7 0x01 running breaks (zeroFields ∷ []))
+    -- the low bits of an open transaction's byte; a home and low bits in the byte of one that is not open
+    ∷ (changed 8 0x81 running breaks (zeroFields ∷ []))
+    ∷ (changed 9 0x20 running breaks (zeroFields ∷ []))
+    ∷ (changed 22 0x01 running breaks (zeroFields ∷ []))
+    -- the first and the last byte behind the transactions
+    ∷ (changed 23 0x80 running breaks (zeroFields ∷ []))
+    ∷ (changed 31 0x01 running breaks (zeroFields ∷ []))
+    ∷ []
+
+-- ---- cards and placements
+abbrev pub badPlacements : List Row
+badPlacements =
+    -- card 7 works and is failed
+    (bytes (0x10 ∷ 0xe0 ∷ 0 ∷ 0 ∷ 0 ∷ 0xe1 ∷ 0x01 ∷ []) breaks (apart ∷ []))
+    -- one member; stopped, for while the store runs it would have fewer than two working members too
+    ∷ (bytes (0x90 ∷ 0x80 ∷ 0 ∷ 0 ∷ 0 ∷ 0x80 ∷ 0 ∷ []) breaks (members ∷ []))
+    -- card 3 of the older placement neither works nor is failed
+    ∷ (bytes (0x20 ∷ 0xf0 ∷ 0xe0 ∷ 0 ∷ 0 ∷ 0xe0 ∷ 0 ∷ []) breaks (members ∷ []))
+    -- four active: the third mask's extra card works
+    ∷ (changed 5 0xf0 (changed 6 0 four) breaks (fourth ∷ []))
+    -- two extra cards, one of them failed; both failed, and stopped
+    ∷ (changed 3 0xf8 (changed 5 0xe8 four) breaks (fourth ∷ []))
+    ∷ (bytes (0xc0 ∷ 0xe0 ∷ 0xe0 ∷ 0xf8 ∷ 0xe0 ∷ 0xe0 ∷ 0x18 ∷ []) breaks (fourth ∷ []))
+    -- no extra card; an extra card, and a member of the fourth not in it
+    ∷ (changed 3 0xe0 four breaks (fourth ∷ []))
+    ∷ (changed 3 0xd0 four breaks (fourth ∷ []))
+    ∷ []
+
+-- ---- while the store runs, and when it has stopped
+abbrev pub badRuns : List Row
+badRuns =
+    -- card 3 of the newest placement is failed
+    (bytes (0x10 ∷ 0xf0 ∷ 0 ∷ 0 ∷ 0 ∷ 0xe0 ∷ 0x10 ∷ []) breaks (newestWorks ∷ []))
+    -- the older placement has two failed members; has one working member
+    ∷ (bytes (0x20 ∷ 0xf8 ∷ 0xe0 ∷ 0 ∷ 0 ∷ 0xe0 ∷ 0x18 ∷ []) breaks (safe ∷ []))
+    ∷ (bytes (0x20 ∷ 0x90 ∷ 0xe0 ∷ 0 ∷ 0 ∷ 0xe0 ∷ 0x10 ∷ []) breaks (safe ∷ []))
+    -- the first and the last transaction are open, with home 3, which does not work
+    ∷ (changed 8 0xb0 running breaks (homes ∷ []))
+    ∷ (changed 22 0xb0 running breaks (homes ∷ []))
+    -- stopped, and a transaction is open with home 0, which works
+    ∷ (changed 8 0x80 stopped breaks (homes ∷ []))
+    ∷ []
+
+-- ---- the table
+abbrev pub table : List Row
+table = good ++ (badCount ++ (badZeros ++ (badPlacements ++ badRuns)))
+
+abbrev broken-in : List Row → List (List Clause)
+broken-in [] = []
+broken-in (r ∷ l) = r .broken ∷ broken-in l
+
+abbrev faults-in : List Row → List (List Clause)
+faults-in [] = []
+faults-in (r ∷ l) = faults (r .control) ∷ faults-in l
+
+abbrev forms-in : List Row → List Bool
+forms-in [] = []
+forms-in (r ∷ l) = formOk (r .control) ∷ forms-in l
+
+abbrev none-broken : List Row → List Bool
+none-broken [] = []
+none-broken (r ∷ l) = elim (r .broken) [ [] ↦ true | x ∷ m ↦ false ] ∷ none-broken l
+
+-- The clauses that each row's bytes break are those that it names.
+pub table-faults : faults-in table ≡ broken-in table
+unfolding countOk zeroFieldsOk areApart membersOk size isWithinEither fourthOk isOneMore withCard isWithin isSafe common homeOk hasCard controlOf controlByte
+table-faults = refl
+
+-- The control form holds of a row's bytes exactly where the row names no clause.
+pub table-forms : forms-in table ≡ none-broken table
+unfolding formOk partOk countOk zeroFieldsOk areApart membersOk size isWithinEither fourthOk isOneMore withCard isWithin isSafe common homeOk hasCard controlOf controlByte
+table-forms = refl

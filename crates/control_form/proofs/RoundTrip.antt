@@ -1,0 +1,207 @@
+-- What is written is read again, and what is read is written back; the clauses of the form, taken out. Assumes nothing.
+use mathlib.Core.Path.{_≡_, refl, sym, ap, ap₂, _∙_, fun-ext}
+use mathlib.Core.Logic.{_⊎_, inl, inr}
+use mathlib.Core.Bool.{Bool, true, false, _&&_, _||_, cond}
+use mathlib.Core.Option.{Option, some, none}
+use mathlib.Core.List.{List, [], _∷_, _++_}
+use Prim.Native.Nat.{ℕ, zero, suc, _+_, _-_, _*_, _/_, _%_, _≤_, _<_}
+use native.Mathlib.Omega.{arith}
+use native.Mathlib.Nat.{mod-eq-of-lt}
+use lib.Dec.{leb, ltb, eqb}
+use lib.ListN.{getD, length, length-append}
+use borrow.Author.Tests.{eqb-true, ne-eqb, ltb-true, lt-ltb, le-ltb, leb-true, le-leb, lt-leb}
+use Rattle.lists.specs.Tests.{all, allBelow}
+use Rattle.lists.proofs.Bools.{split, and-l, and-r}
+use Rattle.lists.proofs.Counts.{below-all}
+use Rattle.image.specs.Layout.{cardCount, tranBound, controlSize}
+use Rattle.mask.specs.Masks.{Byte, byte, areApart, isWithin}
+use Rattle.mask.specs.Placements.{Placement}
+use Rattle.mask.proofs.Masks.{byte-path}
+use Rattle.method.specs.ControlPart.{active, isOpen}
+use Rattle.control.specs.ControlBytes.{Part, maskBytes, marksFrom, homeByte, controlByte, countIn, homeOf, keptAs, markIn, placementAt}
+use Rattle.control.specs.ControlBytes.{placementsIn, controlOf}
+use Rattle.control_form.specs.ControlForm.{countOk, zeroFieldsOk, membersOk, fourthOk, isSafe, homeOk, partOk, formOk}
+use Rattle.control.proofs.Marks.{mark-back}
+
+-- ---- what is written is read again
+byte-back : (n : ℕ) (m : Byte) → n ≡ m .0 → byte n ≡ m
+byte-back n m e = byte-path (byte n) m (rw e (mod-eq-of-lt (m .1)))
+
+-- The mask and the mark of an element, each where it was written.
+mask-of : (l : List Placement) (i : ℕ) (p : Placement) → i < length l → getD (maskBytes l) i 0 ≡ getD l i p .mask .0
+mask-of [] i p h = absurd (omega arith)
+mask-of (q ∷ l) zero p h = refl
+mask-of (q ∷ l) (suc i) p h = mask-of l i p (omega arith)
+
+placements-back : (l : List Placement) (p : Placement) (f : ℕ → Placement) → ((i : ℕ) → i ≤ length l → f i ≡ getD (l ++ (p ∷ [])) i p)
+    → (placementsIn f (length l) ≡ l) × (f (length l) ≡ p)
+placements-back [] p f h = (refl, h 0 (omega arith))
+placements-back (q ∷ l) p f h =
+    let r = placements-back l p (λ i. f (suc i)) (λ i k. h (suc i) (omega arith)) in
+    (ap₂ (λ (x : Placement) (y : List Placement). x ∷ y) (h 0 (omega arith)) (r .0), r .1)
+
+module _
+    (k : Part)
+    (few : length (k .older) ≤ 3)
+    (opens : (t : ℕ) → isOpen k t ≡ true → (ltb 0 t && ltb t tranBound) ≡ true)
+    (homes : (t h : ℕ) → k .home t ≡ some h → h < cardCount)
+    (g : ℕ → ℕ)
+    (wrote : (n : ℕ) → n < controlSize → g n ≡ controlByte k n)
+  where
+    first : g 0 ≡ cond (k .stopped) 128 0 + suc (length (k .older)) * 16
+    unfolding controlByte
+    first = wrote 0 (omega arith)
+
+    pub read-count : countIn (g 0) ≡ suc (length (k .older))
+    read-count = rw first (go (k .stopped))
+      where
+        go : (b : Bool) → countIn (cond b 128 0 + suc (length (k .older)) * 16) ≡ suc (length (k .older))
+        go true = omega arith
+        go false = omega arith
+
+    read-stopped : leb 128 (g 0) ≡ k .stopped
+    read-stopped = rw first (go (k .stopped))
+      where
+        go : (b : Bool) → leb 128 (cond b 128 0 + suc (length (k .older)) * 16) ≡ b
+        go true = le-leb 128 (128 + suc (length (k .older)) * 16) (omega arith)
+        go false = lt-leb 128 (0 + suc (length (k .older)) * 16) (omega arith)
+
+    read-mask : (i : ℕ) → i ≤ length (k .older) → g (suc i) ≡ getD (maskBytes (active k)) i 0
+    unfolding controlByte
+    read-mask i h = wrote (suc i) (omega arith)
+        ∙ rw (ne-eqb (suc i) 0 (λ e. omega arith), lt-ltb (suc i) 5 (omega arith)) (ap (λ (x : ℕ). getD (maskBytes (active k)) x 0) sub)
+      where
+        sub : suc i - 1 ≡ i
+        sub = omega arith
+
+    read-marks : g 7 ≡ marksFrom 0 (active k)
+    unfolding controlByte
+    read-marks = wrote 7 (omega arith)
+
+    read-placement : (i : ℕ) → i ≤ length (k .older) → placementAt g i ≡ getD (active k) i (k .newest)
+    read-placement i h =
+        let long : length (active k) ≡ suc (length (k .older)) = length-append (k .older) (k .newest ∷ []) ∙ add-one (length (k .older)) in
+        ap₂ (λ (m : Byte) (r : Bool). record { mask = m; byRails = r })
+        (byte-back (g (suc i)) (getD (active k) i (k .newest) .mask) (read-mask i h ∙ mask-of (active k) i (k .newest) (omega (arith, long))))
+        (ap (λ (n : ℕ). markIn n i) read-marks ∙ mark-back (active k) i (k .newest) (omega (arith, long)) (omega (arith, long)))
+      where
+        add-one : (n : ℕ) → n + 1 ≡ suc n
+        add-one n = omega arith
+
+    read-home : (t : ℕ) → homeOf t (g (t + 7)) ≡ k .home t
+    unfolding controlByte
+    read-home t = go (k .home t) refl (split (ltb 0 t && ltb t tranBound))
+      where
+        home-at : (ltb 0 t && ltb t tranBound) ≡ true → g (t + 7) ≡ homeByte (k .home t)
+        home-at e =
+            let a : 0 < t = ltb-true 0 t (and-l (ltb 0 t) (ltb t tranBound) e) in
+            let b : t < tranBound = ltb-true t tranBound (and-r (ltb 0 t) (ltb t tranBound) e) in
+            wrote (t + 7) (omega arith)
+            ∙ rw (
+              ne-eqb (t + 7) 0 (λ e. omega arith),
+              le-ltb (t + 7) 5 (omega arith),
+              ne-eqb (t + 7) 5 (λ e. omega arith),
+              ne-eqb (t + 7) 6 (λ e. omega arith),
+              ne-eqb (t + 7) 7 (λ e. omega arith),
+              lt-ltb 7 (t + 7) (omega arith),
+              lt-ltb (t + 7) 23 (omega arith),
+            )
+            (ap (λ (x : ℕ). homeByte (k .home x)) (sub a))
+          where
+            sub : 0 < t → t + 7 - 7 ≡ t
+            sub a = omega arith
+
+        go : (o : Option ℕ) → k .home t ≡ o → ((ltb 0 t && ltb t tranBound) ≡ true) ⊎ ((ltb 0 t && ltb t tranBound) ≡ false)
+            → homeOf t (g (t + 7)) ≡ k .home t
+        go none e (inl r) = rw (home-at r, e, r)
+        go none e (inr r) = rw (r, e)
+        go (some h) e z =
+            let r : (ltb 0 t && ltb t tranBound) ≡ true = opens t (rw e) in
+            let b : h < cardCount = homes t h e in
+            rw (home-at r, e, r, le-leb 128 (128 + h * 16) (omega arith)) (ap {B = Option ℕ} some (same h b))
+          where
+            same : (h : ℕ) → h < cardCount → (128 + h * 16) / 16 % 8 ≡ h
+            same h b = omega arith
+
+    -- The control part that the bytes show is the one that was written.
+    pub read-control : controlOf g ≡ k
+    unfolding controlOf controlByte
+    read-control = λ i. record {
+      stopped = read-stopped i;
+      older = old i;
+      newest = new i;
+      working = byte-back (g 5) (k .working) (wrote 5 (omega arith)) i;
+      failed = byte-back (g 6) (k .failed) (wrote 6 (omega arith)) i;
+      home = fun-ext read-home i;
+      setting = tt;
+    }
+      where
+        both : (placementsIn (placementAt g) (length (k .older)) ≡ k .older) × (placementAt g (length (k .older)) ≡ k .newest)
+        both = placements-back (k .older) (k .newest) (placementAt g) read-placement
+
+        one-less : countIn (g 0) - 1 ≡ length (k .older)
+        one-less = omega (arith, read-count)
+
+        old : placementsIn (placementAt g) (countIn (g 0) - 1) ≡ k .older
+        old = ap (placementsIn (placementAt g)) one-less ∙ both .0
+
+        new : keptAs (countIn (g 0) - 1) (g (countIn (g 0))) (g 7) ≡ k .newest
+        new = ap₂ (λ (i n : ℕ). keptAs i (g n) (g 7)) one-less read-count ∙ both .1
+
+-- ---- what is read is written back
+module _ (g : ℕ → ℕ) (form : formOk g ≡ true) where
+  form-rest : (zeroFieldsOk g && partOk (controlOf g)) ≡ true
+  unfolding formOk
+  form-rest = and-r (countOk g) (zeroFieldsOk g && partOk (controlOf g)) form
+
+  pub control-back : (n : ℕ) → n < controlSize → controlByte (controlOf g) n ≡ g n
+  unfolding zeroFieldsOk
+  control-back n h =
+      sym (eqb-true (g n) (controlByte (controlOf g) n)
+      (below-all controlSize (λ n. eqb (g n) (controlByte (controlOf g) n)) n (and-l (zeroFieldsOk g) (partOk (controlOf g)) form-rest) h))
+
+  -- The count is 1 to 4, and the clauses on the control part hold.
+  pub form-count : (1 ≤ countIn (g 0)) × (countIn (g 0) ≤ 4)
+  unfolding formOk countOk
+  form-count =
+      let c : countOk g ≡ true = and-l (countOk g) (zeroFieldsOk g && partOk (controlOf g)) form in (
+        leb-true 1 (countIn (g 0)) (and-l (leb 1 (countIn (g 0))) (leb (countIn (g 0)) 4) c),
+        leb-true (countIn (g 0)) 4 (and-r (leb 1 (countIn (g 0))) (leb (countIn (g 0)) 4) c),
+      )
+
+  pub form-part : partOk (controlOf g) ≡ true
+  form-part = and-r (zeroFieldsOk g) (partOk (controlOf g)) form-rest
+
+-- ---- the clauses on a control part, each taken out
+pub record Clauses (k : Part) : Type 0 where
+  pub apart : areApart (k .working) (k .failed) ≡ true
+  pub members : all (membersOk (k .working) (k .failed)) (active k) ≡ true
+  pub fourth : fourthOk (k .failed) (k .newest) (k .older) ≡ true
+  pub newest-works : (k .stopped || isWithin (k .newest .mask) (k .working)) ≡ true
+  pub safe : (k .stopped || all (isSafe (k .working) (k .failed)) (active k)) ≡ true
+  pub home : (t : ℕ) → t < tranBound → homeOk (k .stopped) (k .working) (k .home t) ≡ true
+
+-- Six tests that all hold.
+six : (a b c d e f : Bool) → (a && (b && (c && (d && (e && f))))) ≡ true
+    → (a ≡ true) × (b ≡ true) × (c ≡ true) × (d ≡ true) × (e ≡ true) × (f ≡ true)
+six a b c d e f h =
+    let p = and-r a (b && (c && (d && (e && f)))) h in
+    let q = and-r b (c && (d && (e && f))) p in
+    let r = and-r c (d && (e && f)) q in
+    let s = and-r d (e && f) r in
+    (and-l a _ h, and-l b _ p, and-l c _ q, and-l d _ r, and-l e f s, and-r e f s)
+
+pub part-clauses : (k : Part) → partOk k ≡ true → Clauses k
+unfolding partOk
+part-clauses k h =
+    let r = six (areApart (k .working) (k .failed)) (all (membersOk (k .working) (k .failed)) (active k)) (fourthOk (k .failed) (k .newest) (k .older))
+    (k .stopped || isWithin (k .newest .mask) (k .working)) (k .stopped || all (isSafe (k .working) (k .failed)) (active k))
+    (allBelow tranBound (λ t. homeOk (k .stopped) (k .working) (k .home t))) h in
+    record {
+      apart = r .0;
+      members = r .1;
+      fourth = r .2;
+      newest-works = r .3;
+      safe = r .4;
+      home = λ t b. below-all tranBound (λ t. homeOk (k .stopped) (k .working) (k .home t)) t (r .5) b;
+    }

@@ -1,0 +1,2 @@
+pub mod ControlForm
+pub mod Reading
