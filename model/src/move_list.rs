@@ -35,15 +35,21 @@ impl fmt::Display for ListAnswer {
     }
 }
 
+/// The control part of a running store, else the refusal.
+pub fn running(image: &[u8]) -> Result<Control, ListAnswer> {
+    if image.len() != LENGTH {
+        return Err(ListAnswer::Refused(1));
+    }
+    let control = Control::read(image).ok_or(ListAnswer::Refused(2))?;
+    if control.stopped { Err(ListAnswer::Refused(4)) } else { Ok(control) }
+}
+
 /// Lists the moves. The lent list changes only where they are listed, and only in their entries.
 pub fn move_list(image: &[u8], list: &mut [Move]) -> ListAnswer {
-    if image.len() != LENGTH {
-        return ListAnswer::Refused(1);
-    }
-    let Some(control) = Control::read(image) else { return ListAnswer::Refused(2) };
-    if control.stopped {
-        return ListAnswer::Refused(4);
-    }
+    let control = match running(image) {
+        Err(refused) => return refused,
+        Ok(control) => control,
+    };
     let moves = fewest_moves(image, &control);
     if moves.iter().any(|from| locked(image, from.card as usize, from.block as usize)) {
         return ListAnswer::None;

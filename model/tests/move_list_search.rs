@@ -5,16 +5,12 @@ use model::control::Control;
 use model::image::*;
 use model::images::disturb;
 use model::lists::{List, Lists};
-use model::move_list::{fewest_moves, move_list, ListAnswer, Move, MOST_MOVES};
+use model::move_list::{fewest_moves, move_list, running, ListAnswer, Move, MOST_MOVES};
 use model::move_list_images::reorganising_image;
 use model::move_list_situations::{move_list_situations, MOVE_LISTS, MOVE_LISTS_REACHED};
 use model::random::Random;
 use model::{perform, Answer, Call};
 use std::collections::{BTreeSet, HashSet, VecDeque};
-
-fn running(image: &[u8]) -> Option<Control> {
-    Control::read(image).filter(|control| !control.stopped)
-}
 
 /// The moves; None for 'none'.
 fn listed(image: &[u8]) -> Option<Vec<Move>> {
@@ -161,7 +157,7 @@ fn check_reached(list: &mut List, random: &mut Random, seen: &mut Seen) {
         }
         perform(&mut image, &call);
         list.expect(&call);
-        let Some(control) = running(&image).filter(|_| list.plain.is_some() && at % 40 == 0) else { continue };
+        let Some(control) = running(&image).ok().filter(|_| list.plain.is_some() && at % 40 == 0) else { continue };
         let moves = fewest_moves(&image, &control);
         seen.add(&image, &control, &moves);
         check_whole(&image);
