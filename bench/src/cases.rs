@@ -149,7 +149,7 @@ pub fn cases() -> Vec<Case> {
     all.push(on_half("move", moves(&half, BLOCKS / 2..BLOCKS)));
     all.push(on_half("settle", vec![Call::Settle; 4]));
     all.push(Case::new(REORGANISING, "settle, all moved", &reorganising(BLOCKS), vec![Call::Settle]));
-    let eight = place_and_move(full.clone(), [0x7E, 0x3C], BLOCKS / 2);
+    let eight = place_and_move(full.clone(), [0x7E, 0x3C], BLOCKS / 4);
     all.push(Case::move_list(FULL, "move list", full));
     all.push(Case::move_list(REORGANISING, "move list", half));
     all.push(Case::move_list(REORGANISING, "move list, eight cards", eight));

@@ -180,7 +180,9 @@ fn settle_after(image: &[u8], moves: &[Move], wanted: Answer) -> Option<String> 
 /// The archive refuses to settle, and to make the moves that are locked; after a start, every move of their blocks.
 fn check_none(image: &[u8], origin: Origin, moves: &[Move]) -> Vec<(&'static str, Option<String>)> {
     let mut checked = vec![(NONE_REFUSED, settle_after(image, &[], Answer::Refused(13)))];
-    for from in moves.iter().filter(|from| locked(image, from.card.into(), from.block.into())) {
+    let by_locks: Vec<&Move> = moves.iter().filter(|from| locked(image, from.card.into(), from.block.into())).collect();
+    checked.push((NONE_REFUSED, by_locks.is_empty().then(|| "none, and no move is locked".into())));
+    for from in by_locks {
         let by_lock = move_code(&mut image.to_vec(), from.card, from.block) == code(Answer::Refused(12));
         checked.push((NONE_REFUSED, (!by_lock).then(|| format!("the archive does not refuse {from:?} with 12"))));
         if origin == Origin::Reached {

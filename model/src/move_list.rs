@@ -2,7 +2,7 @@
 
 use crate::control::{bit, count, has, Control};
 use crate::image::*;
-use crate::sites::{members, sites};
+use crate::sites::{members, sites, Placement};
 use std::fmt;
 use std::iter::successors;
 
@@ -67,11 +67,15 @@ pub fn move_list(image: &[u8], list: &mut [Move]) -> ListAnswer {
 pub fn fewest_moves(image: &[u8], control: &Control) -> Vec<Move> {
     let mut moves = Vec::new();
     for block in 0..BLOCKS {
-        let wanted = sites(control.newest(), block).into_iter().fold(0, |cards, site| cards | bit(site));
-        let senders = fewest_senders(holding(image, control, block), wanted);
+        let senders = fewest_senders(holding(image, control, block), site_mask(control.newest(), block));
         moves.extend(members(senders).into_iter().map(|card| Move { card: card as u8, block: block as u8 }));
     }
     moves
+}
+
+/// The sites of a block as a set of cards.
+pub fn site_mask(placement: Placement, block: usize) -> u8 {
+    sites(placement, block).into_iter().fold(0, |cards, site| cards | bit(site))
 }
 
 /// The working cards that hold the block.

@@ -3,8 +3,9 @@
 use crate::control::{bit, count, has, Control};
 use crate::image::*;
 use crate::images::whole_control;
+use crate::move_list::site_mask;
 use crate::random::Random;
-use crate::sites::{sites, Placement};
+use crate::sites::sites;
 
 /// Which copies have a locked slot.
 #[derive(Clone, Copy)]
@@ -28,7 +29,7 @@ pub fn reorganising_image(random: &mut Random, number: usize) -> Vec<u8> {
     let nowhere = if random.chance(20) { 1000 } else { random.one_of(&[0, 100, 900]) };
     let locks = random.one_of(&[Locks::Nowhere, Locks::InPlace, Locks::WholeBlocks, Locks::Anywhere]);
     for block in 0..BLOCKS {
-        let wanted = mask_of(control.newest(), block);
+        let wanted = site_mask(control.newest(), block);
         let cards = if random.chance(settled) { wanted } else { random_cards(random, &control, block) };
         let cards = if random.chance(nowhere) { 0 } else { cards & control.working };
         let locked = locked_copies(random, locks, cards, wanted);
@@ -37,16 +38,12 @@ pub fn reorganising_image(random: &mut Random, number: usize) -> Vec<u8> {
     image
 }
 
-fn mask_of(placement: Placement, block: usize) -> u8 {
-    sites(placement, block).into_iter().fold(0, |cards, site| cards | bit(site))
-}
-
 /// Where a block can lie that has not moved, or has moved in part; now and then any cards.
 fn random_cards(random: &mut Random, control: &Control, block: usize) -> u8 {
-    let older = mask_of(random.one_of(&control.placements), block);
+    let older = site_mask(random.one_of(&control.placements), block);
     match random.below(6) {
         0 | 1 => older,
-        2 => older | mask_of(random.one_of(&control.placements), block),
+        2 => older | site_mask(random.one_of(&control.placements), block),
         3 => bit(random.one_of(&sites(control.newest(), block))),
         4 => bit(random.below(CARDS)),
         _ => random.byte(),
