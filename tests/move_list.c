@@ -1,6 +1,6 @@
-/* Lists the moves of a store with eight cards, all blocks and a placement of four added; makes exactly these and
- * settles. Then lists of too little room, none and refusals, which leave the list as lent. Exit 1 with the line of
- * the first check that fails. */
+/* Lists the moves of a store with eight cards and all blocks, to which a placement of four is added,
+ * makes exactly these and settles. Also lists that are too short, none and refusals, which leave the
+ * list as lent. Exit 1 with the first check that fails. */
 #include <nolpigat.h>
 #include <stdio.h>
 #include <string.h>
@@ -8,12 +8,12 @@
 #define SIZE NOLPIGAT_IMAGE_SIZE
 #define BLOCKS 64
 #define LENT 0xEE
-#define CHECK(condition)                                                                                               \
-    do {                                                                                                               \
-        if (!(condition)) {                                                                                            \
-            fprintf(stderr, "line %d: %s\n", __LINE__, #condition);                                                    \
-            return 1;                                                                                                  \
-        }                                                                                                              \
+#define CHECK(condition)                                                       \
+    do {                                                                       \
+        if (!(condition)) {                                                    \
+            fprintf(stderr, "line %d: %s\n", __LINE__, #condition);            \
+            return 1;                                                          \
+        }                                                                      \
     } while (0)
 
 static uint8_t image[SIZE], before[SIZE];

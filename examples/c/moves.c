@@ -6,7 +6,7 @@ static uint8_t image[NOLPIGAT_IMAGE_SIZE];
 static uint8_t list[NOLPIGAT_MOST_MOVES * NOLPIGAT_MOVE_SIZE];
 
 int main(void) {
-    /* Cards 0 to 3 hold record 9, which lies in block 1; then cards 0 and 3 are to hold it. Ok is 0. */
+    /* Of cards 0 to 3, block 1 with record 9 lies on 1 and 2; then 0 and 3 are its sites. Ok is 0. */
     if (nolpigat_start(image, sizeof image, 0xF0) || nolpigat_begin(image, sizeof image, 1, 0) ||
         nolpigat_store(image, sizeof image, 1, 9, 1234) || nolpigat_commit(image, sizeof image, 1) ||
         nolpigat_place(image, sizeof image, 0x90))
