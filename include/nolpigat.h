@@ -5,8 +5,8 @@
  * length and contents, answer and image after a call are proved to be those of the rules.
  *
  * The caller's part:
- * - lend at least the length that is passed; the pointer must not be null, even with length 0;
- * - let the bytes of a command lie outside the image;
+ * - lend at least the length that is passed; no pointer may be null, even with length 0;
+ * - let the bytes of a command and those of a list lie outside the image;
  * - one caller at a time for an image.
  * No call keeps a pointer, and there is no state but the image. Every length and contents are
  * allowed: another length than 21,024 is refused with 1, a broken control part with 2. An image of
@@ -26,9 +26,13 @@
 #include <stddef.h>
 #include <stdint.h>
 
-/* The lengths of an image and of a command, in bytes. */
+/* The lengths of an image, of a command and of an entry of a move list, in bytes. */
 #define NOLPIGAT_IMAGE_SIZE 21024
 #define NOLPIGAT_COMMAND_SIZE 5
+#define NOLPIGAT_MOVE_SIZE 2
+
+/* A move list with room for so many entries is never too short: 8 cards of 64 blocks. */
+#define NOLPIGAT_MOST_MOVES 512
 
 /* Kinds of answers. */
 enum {
@@ -43,6 +47,8 @@ enum {
     NOLPIGAT_KIND_PROTECTED = 8,
     NOLPIGAT_KIND_UNPROTECTED = 9,
     NOLPIGAT_KIND_LOAD = 10,       /* how many records: 0 to 512 */
+    NOLPIGAT_KIND_LISTED = 11,     /* how many moves: 0 to NOLPIGAT_MOST_MOVES */
+    NOLPIGAT_KIND_NONE = 12,
     NOLPIGAT_KIND_REFUSED = 15     /* the refusal's number, below */
 };
 
@@ -62,7 +68,8 @@ enum {
     NOLPIGAT_REFUSAL_COPY_LOCKED = 12,  /* move: the card's copy has a locked slot */
     NOLPIGAT_REFUSAL_UNSETTLED = 13,    /* settle: its condition unmet */
     NOLPIGAT_REFUSAL_HOME = 14,         /* withdraw: an open transaction has its home there */
-    NOLPIGAT_REFUSAL_MALFORMED = 15     /* command malformed */
+    NOLPIGAT_REFUSAL_MALFORMED = 15,    /* command malformed */
+    NOLPIGAT_REFUSAL_LIST = 16          /* move_list: the list is shorter than needed */
 };
 
 /* The kind of an answer. */
@@ -172,6 +179,18 @@ uint32_t nolpigat_load(const uint8_t *image, size_t length, uint8_t card);
  * Answer: that of the call. Refused: as the call; 15 for malformed bytes or another length. */
 uint32_t nolpigat_command(uint8_t *image, size_t length, const uint8_t *command,
                           size_t command_length);
+
+/* move_list: the fewest moves that let settle succeed, blocks rising and then cards rising. It has no
+ * command, and the image is only read.
+ * list, list_length: room for list_length / 2 entries, outside the image. An entry is two bytes, the
+ * card that the block moves from and the block: the last two arguments of move. The first entries
+ * become the moves; the rest, with the last byte of an odd length, stays as lent. In every answer
+ * but listed the whole list stays as lent.
+ * Answer: listed with the number of moves, not of bytes; or none, whatever the length of the list,
+ * if a block that must still move has a locked record on a card that it would move from. Refused: 16
+ * the list is shorter than needed, which one of NOLPIGAT_MOST_MOVES entries never is. */
+uint32_t nolpigat_move_list(const uint8_t *image, size_t image_length, uint8_t *list,
+                            size_t list_length);
 
 #ifdef __cplusplus
 }

@@ -62,10 +62,18 @@ calls() {
     done
 }
 
+moves() {
+    build "$root/examples/c/moves.c" && [ "$("$program")" = "$(printf 'card 1, block 1\ncard 2, block 1')" ]
+}
+
+move_list() {
+    build "$root/tests/move_list.c" && "$program"
+}
+
 # native COMPILER STANDARD LANGUAGE
 native() {
     compiler=$1 standard=$2 language=$3
-    for test in header first listing calls; do
+    for test in header first listing calls moves move_list; do
         check "$test, $compiler $standard" "$test"
     done
 }

@@ -1,10 +1,10 @@
 //! The images on which calls are timed, and the calls.
 
-use differential::archive;
+use crate::sides::Asked;
 use model::calls::{perform, started, Call};
-use model::commands::Fields;
 use model::control::Control;
-use model::image::{held, BLOCKS, CARDS, RECORDS};
+use model::image::{BLOCKS, CARDS, RECORDS};
+use model::move_list::fewest_moves;
 use model::sites::{members, sites};
 use model::Answer;
 
@@ -13,7 +13,17 @@ pub struct Case {
     pub state: &'static str,
     pub call: &'static str,
     pub image: Vec<u8>,
-    pub calls: Vec<Call>,
+    pub calls: Vec<Asked>,
+}
+
+impl Case {
+    fn new(state: &'static str, call: &'static str, image: &[u8], calls: Vec<Call>) -> Case {
+        Case { state, call, image: image.to_vec(), calls: calls.into_iter().map(Asked::Call).collect() }
+    }
+
+    fn move_list(state: &'static str, call: &'static str, image: Vec<u8>) -> Case {
+        Case { state, call, image, calls: vec![Asked::MoveList; 4] }
+    }
 }
 
 const FULL: &str = "full";
@@ -40,23 +50,24 @@ fn filled(mask: u8) -> Vec<u8> {
     image
 }
 
-/// A move for each block from the first that lies where the newest placement does not have it.
+/// The moves of these blocks that let settle succeed.
 fn moves(image: &[u8], blocks: std::ops::Range<usize>) -> Vec<Call> {
-    let newest = Control::read(image).expect("the form is whole").newest();
-    let misplaced = |block: usize| {
-        let cards = (0..CARDS).filter(move |card| held(image, *card, block));
-        cards.filter(move |card| !sites(newest, block).contains(card)).map(move |card| (card, block))
-    };
-    let all = blocks.flat_map(misplaced);
-    all.map(|(card, block)| Call::Move { card: card as u8, block: block as u16 }).collect()
+    let control = Control::read(image).expect("the form is whole");
+    let listed = fewest_moves(image, &control).into_iter().filter(|from| blocks.contains(&from.block.into()));
+    listed.map(|from| Call::Move { card: from.card, block: from.block.into() }).collect()
 }
 
 /// Three active placements; card 6 works outside them and card 7 does not work. The first blocks are moved.
 fn reorganising(moved: usize) -> Vec<u8> {
     let mut image = filled(0xFC);
     accept(&mut image, Call::Fit { card: 6 });
-    accept(&mut image, Call::Place { mask: 0x7C });
-    accept(&mut image, Call::Place { mask: 0x3C });
+    place_and_move(image, [0x7C, 0x3C], moved)
+}
+
+fn place_and_move(mut image: Vec<u8>, masks: [u8; 2], moved: usize) -> Vec<u8> {
+    for mask in masks {
+        accept(&mut image, Call::Place { mask });
+    }
     for call in moves(&image, 0..moved) {
         accept(&mut image, call);
     }
@@ -102,7 +113,7 @@ fn transactions(call: impl Fn(u8) -> Call) -> Vec<Call> {
 /// The calls that are alike in both states.
 fn common(state: &'static str, image: &[u8]) -> Vec<Case> {
     let (open, locked) = (opened(image), pending(image));
-    let case = |call, image: &[u8], calls| Case { state, call, image: image.to_vec(), calls };
+    let case = |call, image: &[u8], calls| Case::new(state, call, image, calls);
     let cards = members(Control::read(image).expect("the form is whole").working);
     vec![
         case("start", image, vec![Call::Start { mask: 0xFF }; 4]),
@@ -122,7 +133,7 @@ pub fn cases() -> Vec<Case> {
     let full = filled(0xFF);
     let half = reorganising(BLOCKS / 2);
     let mut all = common(FULL, &full);
-    let on_full = |call, calls| Case { state: FULL, call, image: full.clone(), calls };
+    let on_full = |call, calls| Case::new(FULL, call, &full, calls);
     all.push(on_full("fit", (0..CARDS as u8).map(|card| Call::Fit { card }).collect()));
     all.push(on_full("withdraw", (0..CARDS as u8).map(|card| Call::Withdraw { card }).collect()));
     all.push(on_full("place", vec![Call::Place { mask: 0xFE }, Call::Place { mask: 0x7E }]));
@@ -131,48 +142,17 @@ pub fn cases() -> Vec<Case> {
     all.push(on_full("move", (0..BLOCKS).flat_map(at_sites).collect()));
     all.push(on_full("settle", vec![Call::Settle; 4]));
     all.extend(common(REORGANISING, &half));
-    let on_half = |call, calls| Case { state: REORGANISING, call, image: half.clone(), calls };
+    let on_half = |call, calls| Case::new(REORGANISING, call, &half, calls);
     all.push(on_half("fit", vec![Call::Fit { card: 7 }]));
     all.push(on_half("withdraw", vec![Call::Withdraw { card: 6 }]));
     all.push(on_half("place", vec![Call::Place { mask: 0x7E }; 64]));
     all.push(on_half("move", moves(&half, BLOCKS / 2..BLOCKS)));
     all.push(on_half("settle", vec![Call::Settle; 4]));
-    let image = reorganising(BLOCKS);
-    all.push(Case { state: REORGANISING, call: "settle, all moved", image, calls: vec![Call::Settle] });
-    all.sort_by_key(|case| (case.state == REORGANISING, Fields::of(&case.calls[0]).operation));
+    all.push(Case::new(REORGANISING, "settle, all moved", &reorganising(BLOCKS), vec![Call::Settle]));
+    let eight = place_and_move(full.clone(), [0x7E, 0x3C], BLOCKS / 4);
+    all.push(Case::move_list(FULL, "move list", full));
+    all.push(Case::move_list(REORGANISING, "move list", half));
+    all.push(Case::move_list(REORGANISING, "move list, eight cards", eight));
+    all.sort_by_key(|case| (case.state == REORGANISING, case.calls[0].place()));
     all
-}
-
-/// The model's answers and the image after them.
-pub fn expected(case: &Case) -> (Vec<Answer>, Vec<u8>) {
-    let mut image = case.image.clone();
-    let answers = case.calls.iter().map(|call| perform(&mut image, call)).collect();
-    (answers, image)
-}
-
-/// Whose calls run.
-#[derive(Clone, Copy, PartialEq, Eq)]
-pub enum Side {
-    Rattle,
-    Model,
-}
-
-impl Side {
-    pub fn perform(self, image: &mut [u8], call: &Call) -> u32 {
-        match self {
-            Side::Rattle => archive::perform(image, call),
-            Side::Model => archive::code(perform(image, call)),
-        }
-    }
-
-    pub fn name(self) -> &'static str {
-        match self {
-            Side::Rattle => "rattle",
-            Side::Model => "model",
-        }
-    }
-
-    pub fn named(name: &str) -> Option<Side> {
-        [Side::Rattle, Side::Model].into_iter().find(|side| side.name() == name)
-    }
 }

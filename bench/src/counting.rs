@@ -1,6 +1,7 @@
 //! Instructions of a call, by callgrind: the difference of two runs that differ in the copies they call on.
 
-use crate::cases::{Case, Side};
+use crate::cases::Case;
+use crate::sides::{Lent, Side};
 use crate::timing::run;
 use std::env::current_exe;
 use std::process::Command;
@@ -13,7 +14,7 @@ const FEW: usize = 8;
 /// The calls on this many of the copies; what callgrind runs.
 pub fn run_on(case: &Case, side: Side, copies: usize) {
     let mut images = vec![case.image.clone(); MADE];
-    run(side, &mut images[..copies], case);
+    run(side, &mut images[..copies], &mut Lent::new(), case);
 }
 
 /// All instructions of a run; None without valgrind.

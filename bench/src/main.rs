@@ -3,40 +3,45 @@
 
 mod cases;
 mod counting;
+mod sides;
 mod timing;
 
-use cases::{cases, expected, Case, Side};
-use differential::archive::code;
+use cases::{cases, Case};
+use nolpigat::Answer;
+use sides::{Lent, Side};
+use std::collections::BTreeSet;
 use std::process::exit;
 use timing::Times;
 
-/// Both sides give the model's answers and leave its image, or the figures mean nothing.
-fn check(case: &Case) {
-    let (answers, after) = expected(case);
-    let mut image = case.image.clone();
-    for (call, answer) in case.calls.iter().zip(answers) {
-        let found = Side::Rattle.perform(&mut image, call);
-        assert_eq!(found, code(answer), "{} {}: {call:?}", case.state, case.call);
+/// The word of an answer's code, or the whole answer where it tells more.
+fn word(code: u32) -> String {
+    match Answer::from(code) {
+        Answer::Value(_) => "value".to_string(),
+        Answer::Load(_) => "load".to_string(),
+        answer => answer.to_string(),
     }
-    assert!(image == after, "{} {}: the images differ", case.state, case.call);
 }
 
-/// The answers, each once.
+/// The answers, each once. Both sides give the same and leave the same, or the figures mean nothing.
 fn answers(case: &Case) -> String {
-    let mut words: Vec<String> = expected(case).0.iter().map(|answer| answer.to_string()).collect();
-    if words[0].starts_with("value") || words[0].starts_with("load") {
-        words = vec![words[0].split(' ').next().expect("a word").to_string()];
+    let (mut rattle, mut model, mut lent) = (case.image.clone(), case.image.clone(), Lent::new());
+    let mut words = BTreeSet::new();
+    for asked in &case.calls {
+        let wanted = Side::Model.perform(&mut model, &mut lent, asked);
+        let found = Side::Rattle.perform(&mut rattle, &mut lent, asked);
+        assert_eq!(found, wanted, "{} {}: {asked:?}", case.state, case.call);
+        assert!(lent.same(), "{} {}: the lists differ", case.state, case.call);
+        words.insert(word(wanted));
     }
-    words.sort();
-    words.dedup();
-    words.join(", ")
+    assert!(rattle == model, "{} {}: the images differ", case.state, case.call);
+    words.into_iter().collect::<Vec<_>>().join(", ")
 }
 
 fn ratio(rattle: f64, model: f64) -> String {
     format!("{:.2}", rattle / model)
 }
 
-fn row(at: usize, case: &Case, times: &Times) {
+fn row(at: usize, case: &Case, answers: &str, times: &Times) {
     let numbers = [Side::Rattle, Side::Model].map(|side| counting::instructions(at, case, side));
     let instructions = match numbers {
         [Some(rattle), Some(model)] => format!("{rattle} | {model} | {}", ratio(rattle as f64, model as f64)),
@@ -44,17 +49,17 @@ fn row(at: usize, case: &Case, times: &Times) {
     };
     let [rattle, model] = times.medians();
     let by_time = format!("{rattle:.0} | {model:.0} | {}", ratio(rattle, model));
-    println!("| {} | {} | {} | {by_time} | {instructions} |", case.state, case.call, answers(case));
+    println!("| {} | {} | {} | {by_time} | {instructions} |", case.state, case.call, answers);
 }
 
 fn table() {
     let all = cases();
-    all.iter().for_each(check);
+    let answers: Vec<String> = all.iter().map(answers).collect();
     let times = timing::measure(&all);
     println!("| state | call | answer | Rattle ns | model ns | ratio | Rattle instr. | model instr. | ratio |");
     println!("|---|---|---|---|---|---|---|---|---|");
-    for (at, (case, times)) in all.iter().zip(&times).enumerate() {
-        row(at, case, times);
+    for (at, case) in all.iter().enumerate() {
+        row(at, case, &answers[at], &times[at]);
     }
 }
 

@@ -1,6 +1,7 @@
 //! Median times of a call by both sides, in turns.
 
-use crate::cases::{Case, Side};
+use crate::cases::Case;
+use crate::sides::{Lent, Side};
 use std::hint::black_box;
 use std::time::Instant;
 
@@ -30,9 +31,10 @@ impl Times {
 
     fn pass(&mut self, case: &Case) {
         let mut copies = vec![case.image.clone(); COPIES];
+        let mut lent = Lent::new();
         for at in 0..WARM_UP + ROUNDS_IN_A_PASS {
-            let rattle = round(Side::Rattle, &mut copies, case);
-            let model = round(Side::Model, &mut copies, case);
+            let rattle = round(Side::Rattle, &mut copies, &mut lent, case);
+            let model = round(Side::Model, &mut copies, &mut lent, case);
             if at >= WARM_UP {
                 self.rattle.push(rattle);
                 self.model.push(model);
@@ -43,20 +45,20 @@ impl Times {
 
 /// The calls on every copy; all that is timed.
 #[inline(never)]
-pub fn run(side: Side, copies: &mut [Vec<u8>], case: &Case) {
+pub fn run(side: Side, copies: &mut [Vec<u8>], lent: &mut Lent, case: &Case) {
     for image in copies {
         for call in &case.calls {
-            black_box(side.perform(image, black_box(call)));
+            black_box(side.perform(image, lent, black_box(call)));
         }
     }
 }
 
-fn round(side: Side, copies: &mut [Vec<u8>], case: &Case) -> f64 {
+fn round(side: Side, copies: &mut [Vec<u8>], lent: &mut Lent, case: &Case) -> f64 {
     for image in copies.iter_mut() {
         image.copy_from_slice(&case.image);
     }
     let start = Instant::now();
-    run(side, copies, case);
+    run(side, copies, lent, case);
     start.elapsed().as_nanos() as f64 / (copies.len() * case.calls.len()) as f64
 }
 

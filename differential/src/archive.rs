@@ -1,5 +1,6 @@
 //! The calls of the archive libabi.a, by the model's names of calls and answers.
 
+use model::move_list::ListAnswer;
 use model::{Answer, Call};
 use nolpigat::ffi::*;
 
@@ -36,6 +37,12 @@ pub fn perform_command(image: &mut [u8], bytes: &[u8]) -> u32 {
     unsafe { nolpigat_command(image.as_mut_ptr(), image.len(), bytes.as_ptr(), bytes.len()) }
 }
 
+/// The code of the archive's answer to a lent list, whose entries are two bytes, card and block.
+pub fn move_list(image: &[u8], list: &mut [u8]) -> u32 {
+    // Both slices are lent for the call alone, and they do not overlap.
+    unsafe { nolpigat_move_list(image.as_ptr(), image.len(), list.as_mut_ptr(), list.len()) }
+}
+
 pub const REFUSED: u32 = 15;
 
 /// Numbers of 16 bits stand below the kind of an answer.
@@ -58,4 +65,13 @@ pub fn code(answer: Answer) -> u32 {
         Answer::Refused(number) => (REFUSED, number.into()),
     };
     kind * NUMBER_RANGE + u32::from(number)
+}
+
+/// The code of an answer to a lent list.
+pub fn list_code(answer: ListAnswer) -> u32 {
+    match answer {
+        ListAnswer::Listed(number) => 11 * NUMBER_RANGE + number as u32,
+        ListAnswer::None => 12 * NUMBER_RANGE,
+        ListAnswer::Refused(number) => code(Answer::Refused(number)),
+    }
 }

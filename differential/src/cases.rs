@@ -110,9 +110,14 @@ impl Cases {
                 faults.push(format!("no image '{class}' for some entry: {calls:?}"));
             }
         }
-        faults.extend(named.iter().filter(|name| !self.named.contains_key(*name)).map(|name| format!("no {name}")));
+        faults.extend(self.missing(named));
         faults.extend(self.byte_faults());
         faults
+    }
+
+    /// Names that never occurred.
+    pub fn missing(&self, named: &[String]) -> Vec<String> {
+        named.iter().filter(|name| !self.named.contains_key(*name)).map(|name| format!("no {name}")).collect()
     }
 
     /// Arguments of one byte that did not take all 256 values.
@@ -140,6 +145,10 @@ impl Cases {
         for (class, calls) in &self.images {
             println!("image, {class}: {} calls", calls.iter().sum::<usize>());
         }
+        self.print_named();
+    }
+
+    pub fn print_named(&self) {
         for (name, number) in &self.named {
             println!("{name}: {number}");
         }

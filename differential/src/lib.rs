@@ -2,7 +2,9 @@
 
 pub mod archive;
 pub mod cases;
+pub mod lent;
 pub mod lists;
+pub mod move_lists;
 pub mod pair;
 pub mod protection;
 pub mod requests;

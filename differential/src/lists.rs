@@ -2,6 +2,7 @@
 //! Some go on from an image that calls of the base left.
 
 use crate::archive::code;
+use crate::move_lists::{self, MoveLists, Origin};
 use crate::pair::{Outcome, Pair, Request, ALIGNMENTS};
 use crate::protection::{self, IN_LIST};
 use crate::run::Run;
@@ -16,6 +17,9 @@ use model::rail_situations::{rail_situations, OVER_OLD};
 use model::sites::members;
 use model::tally::OPERATIONS;
 use model::{Answer, Call};
+
+/// Calls in a thousand after which the moves are listed.
+const MOVES_LISTED: usize = 20;
 
 const NOISE: &str = "list call with bytes put into a failed card's table";
 const STOP: &str = "stop, as the plain list says";
@@ -48,18 +52,20 @@ pub fn classes() -> Vec<String> {
     all.push(plain_name(STATE, false));
     all.extend([NOISE, STOP, NO_STOP].map(String::from));
     all.extend(OVER_OLD.iter().map(|name| name.to_string()));
+    all.extend(move_lists::list_classes());
     all
 }
 
 /// This many calls, in the lists of the run's seed.
 pub fn run(run: &mut Run, calls: usize) {
     let end = run.calls + calls;
+    let mut move_lists = MoveLists::new(run.seed);
     for list in Lists::new(run.seed) {
         let left = end - run.calls;
         if left == 0 {
             break;
         }
-        ListRun::new(run, list).run(run, left);
+        ListRun::new(run, list).run(run, &mut move_lists, left);
     }
 }
 
@@ -78,7 +84,7 @@ impl ListRun {
         ListRun { pair, list }
     }
 
-    fn run(&mut self, run: &mut Run, most: usize) {
+    fn run(&mut self, run: &mut Run, move_lists: &mut MoveLists, most: usize) {
         let name = list_name(self.list.name, self.list.from_older);
         for _ in 0..self.list.calls.min(most) {
             let bytes = self.list.next_command();
@@ -95,6 +101,9 @@ impl ListRun {
             let outcome = run.perform(&mut self.pair, &request);
             count_situations(run, before, &call, &outcome);
             self.compare_with_plain(run, &request, &call, &outcome);
+            if self.list.plain.is_some() && move_lists.chance(MOVES_LISTED) {
+                move_lists.check(run, Origin::Reached, self.pair.archive_image());
+            }
         }
     }
 

@@ -1,39 +1,74 @@
-//! differential SEED CALLS: half of the calls on single images, half in long lists.
-//! Exit 1 on a difference, or if a run of 200,000 calls or more misses a class of cases.
+//! differential SEED CALLS: half of the calls on single images, half in long lists; then move lists.
+//! differential move-lists SEED IMAGES: move lists on so many images alone.
+//! Exit 1 on a difference, or if a run that is long enough misses a class of cases.
 
 use differential::run::Run;
-use differential::{lists, protection, single};
+use differential::{lists, move_lists, protection, single};
 use std::process::exit;
 use std::time::Instant;
 
 /// A run of fewer calls need not meet every class.
 const CALLS_FOR_ALL_CLASSES: usize = 200_000;
 
-fn request() -> Option<(u64, usize)> {
-    let words: Vec<String> = std::env::args().skip(1).collect();
-    let [seed, calls] = &words[..] else { return None };
-    Some((seed.parse().ok()?, calls.parse().ok()?))
+/// An image for the move list after so many calls.
+const CALLS_BY_IMAGE: usize = 250;
+
+const IMAGES_FOR_ALL_CLASSES: usize = CALLS_FOR_ALL_CLASSES / CALLS_BY_IMAGE;
+
+/// All calls; what the run ought to have met and did not.
+fn run_all(run: &mut Run, calls: usize) -> Vec<String> {
+    let start = Instant::now();
+    single::run(run, calls / 2);
+    let middle = Instant::now();
+    lists::run(run, calls - calls / 2);
+    let last = Instant::now();
+    move_lists::run(run, calls / CALLS_BY_IMAGE);
+    run.cases.print();
+    let (single, lists) = ((middle - start).as_secs_f64(), (last - middle).as_secs_f64());
+    let images = last.elapsed().as_secs_f64();
+    println!("seed {}: {} calls, {single:.1} s single, {lists:.1} s lists", run.seed, run.calls);
+    println!("{} move lists in lists and on {} images, {images:.1} s on images", run.lists, calls / CALLS_BY_IMAGE);
+    let named = [
+        single::argument_classes(),
+        lists::classes(),
+        protection::classes(),
+        move_lists::image_classes(),
+    ];
+    run.cases.faults(&single::image_classes(), &named.concat())
+}
+
+/// Move lists alone.
+fn run_move_lists(run: &mut Run, images: usize) -> Vec<String> {
+    let start = Instant::now();
+    move_lists::run(run, images);
+    run.cases.print_named();
+    let seconds = start.elapsed().as_secs_f64();
+    println!("seed {}: {} move lists on {images} images, {seconds:.1} s", run.seed, run.lists);
+    run.cases.missing(&move_lists::image_classes())
+}
+
+/// The run that the words ask for, what it missed, and whether it is long enough to meet every class.
+fn run_of(words: &[String]) -> Option<(Run, Vec<String>, bool)> {
+    let (alone, numbers) = match words {
+        [mode, numbers @ ..] if mode == "move-lists" => (true, numbers),
+        numbers => (false, numbers),
+    };
+    let [seed, size] = numbers else { return None };
+    let (mut run, size) = (Run::new(seed.parse().ok()?), size.parse().ok()?);
+    let faults = if alone { run_move_lists(&mut run, size) } else { run_all(&mut run, size) };
+    let enough = if alone { IMAGES_FOR_ALL_CLASSES } else { CALLS_FOR_ALL_CLASSES };
+    Some((run, faults, size >= enough))
 }
 
 fn main() {
-    let Some((seed, calls)) = request() else {
-        eprintln!("usage: differential SEED CALLS");
+    let words: Vec<String> = std::env::args().skip(1).collect();
+    let Some((run, faults, long_enough)) = run_of(&words) else {
+        eprintln!("usage: differential SEED CALLS | differential move-lists SEED IMAGES");
         exit(2);
     };
-    let mut run = Run::new(seed);
-    let start = Instant::now();
-    single::run(&mut run, calls / 2);
-    let middle = Instant::now();
-    lists::run(&mut run, calls - calls / 2);
-    run.cases.print();
-    let named = [single::argument_classes(), lists::classes(), protection::classes()].concat();
-    let faults = run.cases.faults(&single::image_classes(), &named);
     for fault in &faults {
         println!("fault of the run: {fault}");
     }
-    let (single, lists) = ((middle - start).as_secs_f64(), middle.elapsed().as_secs_f64());
-    println!("seed {seed}: {} calls, {single:.1} s single, {lists:.1} s lists", run.calls);
     println!("{} differences, {} faults of the run", run.differences, faults.len());
-    let incomplete = calls >= CALLS_FOR_ALL_CLASSES && !faults.is_empty();
-    exit(if run.differences > 0 || incomplete { 1 } else { 0 });
+    exit(if run.differences > 0 || long_enough && !faults.is_empty() { 1 } else { 0 });
 }

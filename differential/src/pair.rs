@@ -2,12 +2,13 @@
 
 use crate::archive::{self, NUMBER_RANGE};
 use model::commands::Fields;
+use model::move_list::{move_list, ListAnswer, Move};
 use model::{listing, perform, Answer, Call};
 use std::fmt;
 use std::ops::Range;
 
 /// Bytes on both sides of an image, which no call may change.
-const GUARD: usize = 64;
+pub const GUARD: usize = 64;
 const GUARD_BYTE: u8 = 0xA5;
 
 /// The places at which an image begins, so that every alignment occurs.
@@ -33,7 +34,7 @@ impl Request<'_> {
 /// A byte in which the two differ.
 #[derive(Clone, Copy, Debug)]
 pub struct DifferentByte {
-    /// From the image's first byte; below 0 or beyond the length is outside the image.
+    /// From the first byte that is lent; below 0 or beyond the length was not lent.
     pub at: isize,
     pub archive: u8,
     pub model: u8,
@@ -45,22 +46,33 @@ impl fmt::Display for DifferentByte {
     }
 }
 
+/// The first byte in which the archive's bytes differ from the model's; `lent` is where the lent ones begin.
+pub fn first_difference(archive: &[u8], model: &[u8], lent: usize) -> Option<DifferentByte> {
+    if archive == model {
+        return None;
+    }
+    let at = archive.iter().zip(model).position(|(archive, model)| archive != model)?;
+    Some(DifferentByte { at: at as isize - lent as isize, archive: archive[at], model: model[at] })
+}
+
 #[derive(Clone, Copy, Debug)]
-pub struct Outcome {
+pub struct Outcome<A = Answer> {
     /// The archive's answer.
     pub code: u32,
     /// The model's answer.
-    pub answer: Answer,
+    pub answer: A,
+    /// The code of the model's answer.
+    pub wanted: u32,
     pub byte: Option<DifferentByte>,
 }
 
-impl Outcome {
+impl<A> Outcome<A> {
     pub fn same(&self) -> bool {
-        self.code == archive::code(self.answer) && self.byte.is_none()
+        self.code == self.wanted && self.byte.is_none()
     }
 }
 
-impl fmt::Display for Outcome {
+impl<A: fmt::Display> fmt::Display for Outcome<A> {
     fn fmt(&self, f: &mut fmt::Formatter) -> fmt::Result {
         let (kind, number) = (self.code / NUMBER_RANGE, self.code % NUMBER_RANGE);
         write!(f, "the archive answers kind {kind} number {number}, the model {}; ", self.answer)?;
@@ -117,17 +129,22 @@ impl Pair {
             Request::Call(call) => (archive::perform(archive, call), perform(model, call)),
             Request::Command(bytes) => (archive::perform_command(archive, bytes), listing::answer(model, bytes)),
         };
-        Outcome { code, answer, byte: self.different_byte() }
+        Outcome { code, answer, wanted: archive::code(answer), byte: self.different_byte() }
+    }
+
+    /// The lists are lent to the archive and to the model.
+    pub fn move_list(&mut self, archive_list: &mut [u8], model_list: &mut [Move]) -> Outcome<ListAnswer> {
+        let code = archive::move_list(&self.archive[self.image.clone()], archive_list);
+        let answer = move_list(self.image(), model_list);
+        Outcome { code, answer, wanted: archive::list_code(answer), byte: self.different_byte() }
     }
 
     fn different_byte(&mut self) -> Option<DifferentByte> {
-        if self.archive == self.model {
-            return None;
+        let different = first_difference(&self.archive, &self.model, self.image.start);
+        if different.is_some() {
+            // The calls after this one are compared as if this one had not differed.
+            self.archive.copy_from_slice(&self.model);
         }
-        let at = self.archive.iter().zip(&self.model).position(|(archive, model)| archive != model)?;
-        let (archive, model) = (self.archive[at], self.model[at]);
-        // The calls after this one are compared as if this one had not differed.
-        self.archive.copy_from_slice(&self.model);
-        Some(DifferentByte { at: at as isize - self.image.start as isize, archive, model })
+        different
     }
 }

@@ -4,6 +4,7 @@ use crate::cases::Cases;
 use crate::pair::{Outcome, Pair, Request};
 use crate::protection;
 use model::random::Random;
+use std::fmt::Debug;
 
 /// Differences beyond these are counted and not printed.
 const PRINTED: usize = 10;
@@ -14,12 +15,14 @@ pub struct Run {
     pub cases: Cases,
     /// Requests so far.
     pub calls: usize,
+    /// Move lists asked for so far.
+    pub lists: usize,
     pub differences: usize,
 }
 
 impl Run {
     pub fn new(seed: u64) -> Run {
-        Run { seed, random: Random::new(seed), cases: Cases::default(), calls: 0, differences: 0 }
+        Run { seed, random: Random::new(seed), cases: Cases::default(), calls: 0, lists: 0, differences: 0 }
     }
 
     pub fn perform(&mut self, pair: &mut Pair, request: &Request) -> Outcome {
@@ -33,7 +36,7 @@ impl Run {
         outcome
     }
 
-    pub fn report(&mut self, request: &Request, what: &str) {
+    pub fn report(&mut self, request: &impl Debug, what: &str) {
         self.differences += 1;
         if self.differences <= PRINTED {
             println!("difference: seed {}, call {}, {request:?}: {what}", self.seed, self.calls);

@@ -174,19 +174,29 @@ fn count_state(run: &mut Run, image: &[u8], call: &Call, answer: Answer) {
     }
 }
 
-/// This many calls; every second image is of a running store.
+/// How the image of a round is made; every second one is of a running store.
+fn making_of(round: usize) -> Making {
+    let makings = makings();
+    let running = Making::Whole { number: 1 + round / 2 % 4, stopped: false };
+    if round % 2 == 0 { running } else { makings[round / 2 % makings.len()] }
+}
+
+/// The image of a round.
+pub fn any_image(random: &mut Random, round: usize) -> Vec<u8> {
+    make(random, making_of(round))
+}
+
+/// This many calls.
 pub fn run(run: &mut Run, calls: usize) {
     let mut pair = Pair::default();
     let mut requests = Requests::default();
-    let makings = makings();
     let end = run.calls + calls;
     for round in 0.. {
         let left = end - run.calls;
         if left == 0 {
             break;
         }
-        let running = Making::Whole { number: 1 + round / 2 % 4, stopped: false };
-        let making = if round % 2 == 0 { running } else { makings[round / 2 % makings.len()] };
+        let making = making_of(round);
         let image = make(&mut run.random, making);
         let entries = calls_on(run, &mut pair, &mut requests, &image, CALLS_ON_AN_IMAGE.min(left));
         run.cases.add_image(&classes(&image, making), &entries);

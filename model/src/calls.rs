@@ -349,7 +349,7 @@ fn move_block(image: &mut [u8], control: &Control, card: usize, block: usize) ->
     if !held(image, card, block) {
         return Answer::Refused(11);
     }
-    if (0..PLACES).any(|place| read_slot(image, card, block, place).lock != 0) {
+    if locked(image, card, block) {
         return Answer::Refused(12);
     }
     let targets = sites(control.newest(), block);

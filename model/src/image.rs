@@ -39,6 +39,11 @@ pub fn held(image: &[u8], card: usize, block: usize) -> bool {
     image[block_at(card, block).start] & 0x80 != 0
 }
 
+/// Some slot of the card's copy is locked.
+pub fn locked(image: &[u8], card: usize, block: usize) -> bool {
+    (0..PLACES).any(|place| read_slot(image, card, block, place).lock != 0)
+}
+
 pub fn held_blocks(image: &[u8], card: usize) -> Vec<usize> {
     (0..BLOCKS).filter(|block| held(image, card, *block)).collect()
 }

@@ -1,6 +1,7 @@
 //! Change request A.2: protected means that failing any one working card would not stop the store.
 //! The words of state are compared with what fails answer, each on a copy of the image.
 
+mod reached;
 mod stored;
 
 use model::calls::{perform, perform_by};
@@ -15,6 +16,7 @@ use model::protection_situations::{protection_situations, PROTECTION};
 use model::random::Random;
 use model::Answer::{self, Protected, Unprotected};
 use model::Call::{self, *};
+use reached::after;
 use std::collections::BTreeSet;
 use stored::stored;
 
@@ -22,16 +24,6 @@ use stored::stored;
 fn by_fails(image: &[u8]) -> Answer {
     let stops = |card: u8| perform(&mut image.to_vec(), &Fail { card }) == Answer::Stopped;
     if (0..CARDS as u8).any(stops) { Unprotected } else { Protected }
-}
-
-/// An image after these calls, none of them refused.
-fn after(edition: Edition, calls: &[Call]) -> Vec<u8> {
-    let mut image = vec![0; LENGTH];
-    for call in calls {
-        let answer = perform_by(edition, &mut image, call);
-        assert!(!matches!(answer, Answer::Refused(_)), "{call:?} {answer}");
-    }
-    image
 }
 
 fn running(image: &[u8]) -> Option<Control> {

@@ -28,6 +28,10 @@ pub enum Answer {
     Unprotected,
     /// Kind 10: the records that are committed present on a card, 0 to 512.
     Load(u16),
+    /// Kind 11: the moves that a list now has, 0 to [`MOST_MOVES`](crate::MOST_MOVES).
+    Listed(u16),
+    /// Kind 12: a block that must still move has a locked record on a card that it would move from.
+    None,
     /// Kind 15: refused, and the image is left as found. The number says why:
     ///
     /// | number | when |
@@ -47,6 +51,7 @@ pub enum Answer {
     /// | 13 | settle: its condition unmet |
     /// | 14 | withdraw: an open transaction has its home there |
     /// | 15 | command malformed |
+    /// | 16 | move_list: the list is shorter than needed |
     Refused(u8),
     /// A code that is no answer's. The store gives none such.
     Unknown(u32),
@@ -67,13 +72,15 @@ impl From<u32> for Answer {
             (8, 0) => Answer::Protected,
             (9, 0) => Answer::Unprotected,
             (10, load) => Answer::Load(load),
+            (11, moves) => Answer::Listed(moves),
+            (12, 0) => Answer::None,
             (15, number @ 0..=0xFF) => Answer::Refused(number as u8),
             _ => Answer::Unknown(code),
         }
     }
 }
 
-/// The words of document 01's listing.
+/// The words of document 01's listing, and of calls that have no command.
 impl fmt::Display for Answer {
     fn fmt(&self, f: &mut fmt::Formatter) -> fmt::Result {
         match self {
@@ -88,6 +95,8 @@ impl fmt::Display for Answer {
             Answer::Protected => f.write_str("protected"),
             Answer::Unprotected => f.write_str("unprotected"),
             Answer::Load(load) => write!(f, "load {load}"),
+            Answer::Listed(moves) => write!(f, "listed {moves}"),
+            Answer::None => f.write_str("none"),
             Answer::Refused(number) => write!(f, "refused {number}"),
             Answer::Unknown(code) => write!(f, "unknown {code}"),
         }

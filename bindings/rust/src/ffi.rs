@@ -17,4 +17,5 @@ extern "C" {
     pub fn nolpigat_state(image: *const u8, length: usize) -> u32;
     pub fn nolpigat_load(image: *const u8, length: usize, card: u8) -> u32;
     pub fn nolpigat_command(image: *mut u8, length: usize, bytes: *const u8, bytes_length: usize) -> u32;
+    pub fn nolpigat_move_list(image: *const u8, image_length: usize, list: *mut u8, list_length: usize) -> u32;
 }

@@ -40,6 +40,21 @@ pub const IMAGE_SIZE: usize = 21_024;
 /// The length of a command in bytes.
 pub const COMMAND_SIZE: usize = 5;
 
+/// A list with room for so many moves is never too short.
+pub const MOST_MOVES: usize = 512;
+
+/// The length of a move in the archive's list, in bytes.
+const MOVE_SIZE: usize = 2;
+
+/// An entry of a [`move_list`]: what [`move_block`] is to be called with.
+#[derive(Clone, Copy, Debug, Default, PartialEq, Eq, Hash)]
+pub struct Move {
+    /// The card that the block moves from.
+    pub card: u8,
+    /// The block.
+    pub block: u8,
+}
+
 /// The answer of a function of the archive.
 macro_rules! ask {
     ($function:ident($($argument:expr),+)) => {
@@ -177,4 +192,40 @@ pub fn load(image: &[u8], card: u8) -> Answer {
 /// [`COMMAND_SIZE`].
 pub fn command(image: &mut [u8], bytes: &[u8]) -> Answer {
     ask!(nolpigat_command(image.as_mut_ptr(), image.len(), bytes.as_ptr(), bytes.len()))
+}
+
+/// The fewest moves that let [`settle`] succeed, blocks rising and then cards rising. The first entries of the list
+/// become the moves; the others stay as lent, and in every answer but [`Listed`](Answer::Listed) all of them do. This
+/// call has no command.
+///
+/// Answer: [`Listed`](Answer::Listed) with the number of moves; or [`None`](Answer::None), whatever the length of the
+/// list, if a block that must still move has a locked record on a card that it would move from. Refused: 16 if the
+/// list is shorter than needed, which one of [`MOST_MOVES`] never is.
+///
+/// ```
+/// use nolpigat::{begin, commit, move_block, move_list, place, settle, start, store, Answer, Move, IMAGE_SIZE};
+///
+/// let mut image = [0; IMAGE_SIZE];
+/// assert_eq!(start(&mut image, 0xF0), Answer::Ok); // cards 0 to 3
+/// assert_eq!(begin(&mut image, 1, 1), Answer::Ok);
+/// assert_eq!(store(&mut image, 1, 9, 4660), Answer::Ok); // block 1 on cards 1 and 2
+/// assert_eq!(commit(&mut image, 1), Answer::Ok);
+/// assert_eq!(place(&mut image, 0x90), Answer::Ok); // cards 0 and 3
+/// let mut list = [Move::default(); 4];
+/// assert_eq!(move_list(&image, &mut list), Answer::Listed(2));
+/// for Move { card, block } in &list[..2] {
+///     assert!(matches!(move_block(&mut image, *card, *block), Answer::Copies(_)));
+/// }
+/// assert_eq!(settle(&mut image), Answer::Retired(1));
+/// ```
+pub fn move_list(image: &[u8], list: &mut [Move]) -> Answer {
+    let mut bytes = [0; MOST_MOVES * MOVE_SIZE];
+    let room = list.len().min(MOST_MOVES) * MOVE_SIZE;
+    let answer = ask!(nolpigat_move_list(image.as_ptr(), image.len(), bytes.as_mut_ptr(), room));
+    if let Answer::Listed(moves) = answer {
+        for (entry, from) in list.iter_mut().zip(bytes.chunks(MOVE_SIZE)).take(moves.into()) {
+            *entry = Move { card: from[0], block: from[1] };
+        }
+    }
+    answer
 }

@@ -19,8 +19,11 @@ fn every_kind() {
         (0x8_0000, Answer::Protected, "protected"),
         (0x9_0000, Answer::Unprotected, "unprotected"),
         (0xA_0200, Answer::Load(512), "load 512"),
+        (0xB_0000, Answer::Listed(0), "listed 0"),
+        (0xB_0200, Answer::Listed(512), "listed 512"),
+        (0xC_0000, Answer::None, "none"),
         (0xF_0001, Answer::Refused(1), "refused 1"),
-        (0xF_000F, Answer::Refused(15), "refused 15"),
+        (0xF_0010, Answer::Refused(16), "refused 16"),
     ];
     for (code, answer, words) in expected {
         assert_eq!(Answer::from(code), answer);
@@ -31,9 +34,9 @@ fn every_kind() {
 #[test]
 fn no_answers_code() {
     // A number where the kind has none, a number too wide, the kinds that are none's.
-    let with_number = [0x0_0001, 0x2_0001, 0x4_FFFF, 0x5_0001, 0x8_0001, 0x9_0001];
+    let with_number = [0x0_0001, 0x2_0001, 0x4_FFFF, 0x5_0001, 0x8_0001, 0x9_0001, 0xC_0001];
     let too_wide = [0x3_0100, 0x6_0100, 0x7_0100, 0xF_0100];
-    let kinds = [0xB_0000, 0xC_0000, 0xD_0000, 0xE_0000, 0x10_0000, u32::MAX];
+    let kinds = [0xD_0000, 0xE_0000, 0x10_0000, u32::MAX];
     for code in with_number.into_iter().chain(too_wide).chain(kinds) {
         assert_eq!(Answer::from(code), Answer::Unknown(code));
     }

@@ -5,7 +5,7 @@ use nolpigat::*;
 type Call = fn(&mut [u8]) -> Answer;
 
 /// Each call, with numbers in their ranges.
-const CALLS: [Call; 16] = [
+const CALLS: [Call; 17] = [
     |image| start(image, 0xE0),
     |image| begin(image, 2, 1),
     |image| get(image, 1, 9),
@@ -22,6 +22,7 @@ const CALLS: [Call; 16] = [
     |image| state(image),
     |image| load(image, 1),
     |image| command(image, &[0x11, 0, 0, 0, 0]),
+    |image| move_list(image, &mut []),
 ];
 
 /// Cards 0, 1 and 2, with transaction 1 open.
