@@ -15,7 +15,7 @@ use image::Card;
 pub const MOST_MOVES: usize = 512;
 
 // The refusal of a lent list that is shorter than needed.
-const SHORT: u8 = 16;
+pub const SHORT: u8 = 16;
 
 // An entry of the list: the card that a block moves from, and the block.
 pub struct Move(pub Card, pub Block);

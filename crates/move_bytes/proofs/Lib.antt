@@ -1,0 +1,3 @@
+mod MoveRooms
+mod EntryBytes
+mod ByteLists
