@@ -10,7 +10,8 @@ use Rattle.cabinet_rules.specs.Cabinet.{cabinet}
 use Rattle.cabinet_rules.specs.Images.{Image, answer, next}
 use Rattle.command.specs.Meaning.{commandAnswer, commandNext}
 
--- The kind of each answer, and its number: 0 where it has none. Kinds 11 to 14 are none's.
+-- The kind of each answer, and its number: 0 where it has none. Kinds 11 and 12 are the move list's (ListCodes), 13 and
+-- 14 none's.
 unfoldable pub kindOf : Answer cabinet → ℕ
 kindOf ok = 0
 kindOf (value n) = 1
@@ -49,7 +50,7 @@ coded kind number = kind * numberRange + number
 abbrev pub codeOf : Answer cabinet → ℕ
 codeOf a = coded (kindOf a) (numberOf a)
 
--- The answer of a code: by its kind, with its number. The kinds that are none's stand for ok here.
+-- The answer of a code: by its kind, with its number. The kinds that are not theirs stand for ok here.
 abbrev pub kinds : List (ℕ → Answer cabinet)
 kinds =
     (λ n. ok)

@@ -1,16 +1,19 @@
-// The store for callers in other languages: document 01's fifteen calls and a command's bytes, on an image that the
-// caller lends as a pointer and a length. An answer is one number of 32 bits.
+// The store for callers in other languages: document 01's fifteen calls, a command's bytes and the move list, on an image
+// that the caller lends as a pointer and a length. An answer is one number of 32 bits.
 ghost use mathlib.Core.Path.{_≡_};
 ghost use Prim.Native.Nat.{_<_};
 ghost use Rattle.method.specs.Rules.{begin, commit, delete, fail, fit, get, load, move, place, rollback, settle};
 ghost use Rattle.method.specs.Rules.{start, state, store, withdraw};
 ghost use Rattle.mask.specs.Masks.{byte};
 ghost use Rattle.promise.specs.Promise.{shown};
+ghost use Rattle.move_list.specs.Promise.{shownList};
 ghost use Rattle.abi.specs.Codes.{Coded, CodedCommand, codeOf, coded};
+ghost use Rattle.abi.specs.ListCodes.{CodedList, listCode};
 use image::Block;
 use image::Card;
 use image::Rec;
 use image::Tran;
+use move_list::Listed;
 use promise::Answer;
 
 // Kinds of answers.
@@ -35,6 +38,10 @@ const PROTECTED: u32 = 8;
 const UNPROTECTED: u32 = 9;
 
 const LOAD: u32 = 10;
+
+const LISTED: u32 = 11;
+
+const NONE: u32 = 12;
 
 const REFUSED: u32 = 15;
 
@@ -195,4 +202,23 @@ pub extern "C" fn nolpigat_command(image: &mut [u8], bytes: &[u8]) -> u32
     ensures { λ r. ⌜ CodedCommand (now (bytes .entry)) (now (image .entry)) r (now (image .exit)) ⌝ }
 {
     code(store::perform_command(image, bytes))
+}
+
+// The code of an answer of the move list.
+fn list_code(listed: Listed) -> u32
+    ensures { λ r. ⌜ r ≡ listCode (shownList listed) ⌝ }
+{
+    match listed {
+        Listed::Moves(n) => pair(LISTED, n),
+        Listed::None => pair(NONE, 0),
+        Listed::Refused(n) => pair(REFUSED, n as u16),
+    }
+}
+
+// The fewest moves that let settle succeed, as bytes in the lent buffer.
+#[no_mangle]
+pub extern "C" fn nolpigat_move_list(image: &[u8], list: &mut [u8]) -> u32
+    ensures { λ r. ⌜ CodedList (now (image .entry)) (now (list .entry)) r (now (list .exit)) ⌝ }
+{
+    list_code(move_bytes::list(image, list))
 }

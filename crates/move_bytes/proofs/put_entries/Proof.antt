@@ -49,9 +49,11 @@ loop-again c =
     let p = c .before .before in
     let l = p .before .before .before .before in
     let s = l .before .before in
-    let long : length (s .args .t2) ≡ 512 = search needs in
-    (omega arith, p .put-entry .ensures ∙ ap (λ (b : List ℕ). splice b (l .loop .i * entrySize) (bytesOf (getD (s .args .t2) (l .loop .i) blankMove))) (l .loop .inv .1)
-    ∙ entry-more (s .args .bytes .now) (s .args .t2) (l .loop .i) (omega (arith, long, s .pre .0)) (omega (arith, s .pre .1)))
+    let long : length (s .args .t2) ≡ 512 = search needs in (
+      omega arith,
+      p .put-entry .ensures ∙ ap (λ (b : List ℕ). splice b (l .loop .i * entrySize) (bytesOf (getD (s .args .t2) (l .loop .i) blankMove))) (l .loop .inv .1)
+          ∙ entry-more (s .args .bytes .now) (s .args .t2) (l .loop .i) (omega (arith, long, s .pre .0)) (omega (arith, s .pre .1)),
+    )
 
 same-length : tie.Need-same-length Inv-loop μ-loop
 same-length c =
