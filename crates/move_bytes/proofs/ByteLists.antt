@@ -17,13 +17,13 @@ use Rattle.cabinet_rules.specs.Cabinet.{cabinet}
 use Rattle.cabinet_rules.specs.Images.{Image, controlIn, stateIn}
 use Rattle.cabinet_rules.specs.MoveLists.{listAnswerOn, listRefusal, movesOn, unlessRefusedList}
 use Rattle.move_list.specs.Plans.{moveFor}
-use Rattle.move_list.specs.Promise.{ListDone, blankList, blankMove, filledBy, listAfter, mostMoves, shownList}
+use Rattle.move_list.specs.Promise.{EveryListFits, ListDone, blankList, blankMove, filledBy, listAfter, mostMoves, shownList}
+use Rattle.move_list.proofs.MoveRooms.{any-room, byRoom, every-list-fits}
 use Rattle.move_list.specs.declared.Listed.{Listed}
 use Rattle.move_list.specs.declared.Listed.the-variants.{Moves, None, Refused}
 use Rattle.move_list.specs.declared.Move.{Move}
 use Rattle.move_bytes.specs.MoveBytes.{BytesDone, bytesAfter, bytesOf, entrySize, filledBytes, firstBytes, roomOf}
 use Rattle.move_bytes.proofs.EntryBytes.{length-first}
-use Rattle.move_bytes.proofs.MoveRooms.{any-room, byRoom, few-moves}
 
 length-blank : length blankList ≡ mostMoves
 unfolding blankList
@@ -80,7 +80,7 @@ module _ (g : Image) (a : Listed) (ms : List Move) (d : ListDone g blankList a m
     counted = listed-all g (length blankList) n all-listed
 
     pub few : n ≤ mostMoves
-    few = let h = few-moves g in omega (arith, h, counted)
+    few = let h = unfold EveryListFits in (every-list-fits g) in omega (arith, h, counted)
 
     moves-are : ms ≡ map moveFor (movesOn g) ++ drop n blankList
     unfolding listAfter

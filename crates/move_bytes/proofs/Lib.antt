@@ -1,3 +1,2 @@
-mod MoveRooms
 mod EntryBytes
 mod ByteLists

@@ -1,3 +1,4 @@
 pub mod OriginMasks
 pub mod FoundMoves
 pub mod MovePlans
+pub mod MoveRooms

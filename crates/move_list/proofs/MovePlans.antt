@@ -28,7 +28,7 @@ use Rattle.cabinet_rules.specs.MoveLists.{listAnswerOn, listRefusal, movesOn, u
 use Rattle.promise.specs.Given.{Given, viewOf}
 use Rattle.promise.proofs.Finish.{form-row, refusal-rules}
 use Rattle.promise.proofs.SharedRows.{state-rows}
-use Rattle.move_list.specs.Plans.{Finds, Plans, answerBy, firstMoves, moveAt, moveFor, movesAt, movesIn, refusedPlan, storedBy}
+use Rattle.move_list.specs.Plans.{Finds, Plans, answerBy, filledOf, firstMoves, moveAt, moveFor, movesAt, movesIn, refusedPlan, storedBy}
 use Rattle.move_list.specs.Promise.{ListDone, filledBy, listAfter, shownList}
 use Rattle.move_list.specs.declared.Listed.{Listed}
 use Rattle.move_list.specs.declared.Listed.the-variants.{Moves, None, Refused}
@@ -117,10 +117,11 @@ first-all l n e = first-taken l n (omega (arith, e)) ∙ ap (λ (k : ℕ). map m
 
 -- no more entries are filled than there is room for
 pub stored-le : (p : Plan) (room : ℕ) → storedBy p room ≤ room
-unfolding storedBy
+unfolding answerBy
 stored-le p room = go (not (eqb (p .refusal) 0)) (p .locked) (split (ltb room (p .count)))
   where
-    go : (a b : Bool) → (ltb room (p .count) ≡ true) ⊎ (ltb room (p .count) ≡ false) → cond a 0 (cond b 0 (cond (ltb room (p .count)) 0 (p .count))) ≤ room
+    go : (a b : Bool) → (ltb room (p .count) ≡ true) ⊎ (ltb room (p .count) ≡ false)
+        → filledOf (cond a (Refused (p .refusal)) (cond b None (cond (ltb room (p .count)) (Refused 16) (Moves (p .count))))) ≤ room
     go true b c = omega arith
     go false true c = omega arith
     go false false (inl e) = rw e (omega arith)
@@ -137,19 +138,19 @@ module _ (p : Plan) (g : Image) (plans : Plans p g) (lent : List Move) where
   abbrev pub leftBy : List Move
   leftBy = firstMoves moves (storedBy p room) ++ drop (storedBy p room) lent
 
-  -- from what is answered and how many entries are filled, by the code and by the rules
-  done-by : (x : Listed) (n : ℕ) (y : ListAnswer) → answerBy p room ≡ x → storedBy p room ≡ n → listAnswerOn room g ≡ y → shownList x ≡ y
-      → firstMoves moves n ++ drop n lent ≡ filledBy y (map moveFor (movesOn g)) lent → ListDone g lent (answerBy p room) leftBy
+  -- from what the code answers, where the rules answer the same
+  done-by : (x : Listed) → answerBy p room ≡ x → listAnswerOn room g ≡ shownList x
+      → firstMoves moves (filledOf x) ++ drop (filledOf x) lent ≡ filledBy (shownList x) (map moveFor (movesOn g)) lent → ListDone g lent (answerBy p room) leftBy
   unfolding listAfter
-  done-by x n y a s l e f = record {
-    answers = ap shownList a ∙ e ∙ sym l;
-    fills = ap (λ (k : ℕ). firstMoves moves k ++ drop k lent) s ∙ f ∙ sym (ap (λ (z : ListAnswer). filledBy z (map moveFor (movesOn g)) lent) l);
+  done-by x a l f = record {
+    answers = ap shownList a ∙ sym l;
+    fills = ap (λ (z : Listed). firstMoves moves (filledOf z) ++ drop (filledOf z) lent) a ∙ f ∙ sym (ap (λ (z : ListAnswer). filledBy z (map moveFor (movesOn g)) lent) l);
   }
 
   refused-done : p .refusal ≢ 0 → ListDone g lent (answerBy p room) leftBy
-  unfolding answerBy storedBy listAnswerOn
-  refused-done d = done-by (Refused (p .refusal)) 0 (notListed (p .refusal)) (rw (ne-eqb (p .refusal) 0 d)) (rw (ne-eqb (p .refusal) 0 d))
-      (ap (λ (n : ℕ). unlessRefusedList n (listAnswer cabinet (controlIn g) (viewOf g) room)) (sym (plans .refusal-is)) ∙ go (p .refusal) d) refl refl
+  unfolding answerBy listAnswerOn
+  refused-done d = done-by (Refused (p .refusal)) (rw (ne-eqb (p .refusal) 0 d))
+      (ap (λ (n : ℕ). unlessRefusedList n (listAnswer cabinet (controlIn g) (viewOf g) room)) (sym (plans .refusal-is)) ∙ go (p .refusal) d) refl
     where
       go : (n : ℕ) → n ≢ 0 → unlessRefusedList n (listAnswer cabinet (controlIn g) (viewOf g) room) ≡ notListed n
       go zero d = absurd (d refl)
@@ -165,20 +166,20 @@ module _ (p : Plan) (g : Image) (plans : Plans p g) (lent : List Move) where
         (ap (λ (t : Bool). cond t noList (cond (ltb room (length (movesOn g))) (notListed 16) (listed (length (movesOn g))))) (sym (f .locked-is)))
 
     locked-done : p .locked ≡ true → ListDone g lent (answerBy p room) leftBy
-    unfolding answerBy storedBy
-    locked-done e = done-by None 0 noList (rw (eq-eqb (p .refusal) 0 clear, e)) (rw (eq-eqb (p .refusal) 0 clear, e)) (by-rules ∙ rw e) refl refl
+    unfolding answerBy
+    locked-done e = done-by None (rw (eq-eqb (p .refusal) 0 clear, e)) (by-rules ∙ rw e) refl
 
     module _ (free : p .locked ≡ false) where
       by-count : listAnswerOn room g ≡ cond (ltb room (p .count)) (notListed 16) (listed (p .count))
       by-count = by-rules ∙ rw free (ap (λ (n : ℕ). cond (ltb room n) (notListed 16) (listed n)) (sym (f .count-is free)))
 
       short-done : ltb room (p .count) ≡ true → ListDone g lent (answerBy p room) leftBy
-      unfolding answerBy storedBy
-      short-done e = done-by (Refused 16) 0 (notListed 16) (rw (eq-eqb (p .refusal) 0 clear, free, e)) (rw (eq-eqb (p .refusal) 0 clear, free, e)) (by-count ∙ rw e) refl refl
+      unfolding answerBy
+      short-done e = done-by (Refused 16) (rw (eq-eqb (p .refusal) 0 clear, free, e)) (by-count ∙ rw e) refl
 
       filled-done : ltb room (p .count) ≡ false → ListDone g lent (answerBy p room) leftBy
-      unfolding answerBy storedBy
-      filled-done e = done-by (Moves (p .count)) (p .count) (listed (p .count)) (rw (eq-eqb (p .refusal) 0 clear, free, e)) (rw (eq-eqb (p .refusal) 0 clear, free, e)) (by-count ∙ rw e) refl
+      unfolding answerBy
+      filled-done e = done-by (Moves (p .count)) (rw (eq-eqb (p .refusal) 0 clear, free, e)) (by-count ∙ rw e)
           (ap (λ (l : List Move). l ++ drop (p .count) lent) (first-all moves (p .count) (f .count-is free ∙ ap length (sym (f .moves-are free))) ∙ ap (map moveFor) (f .moves-are free)))
 
   -- The promise of the call.

@@ -61,8 +61,10 @@ answerBy p room =
     cond (p .locked) None (
     cond (ltb room (p .count)) (Refused 16) (Moves (p .count))))
 
-unfoldable pub storedBy : Plan → ℕ → ℕ
-storedBy p room =
-    cond (not (eqb (p .refusal) 0)) 0 (
-    cond (p .locked) 0 (
-    cond (ltb room (p .count)) 0 (p .count)))
+abbrev pub filledOf : Listed → ℕ
+filledOf (Moves n) = n
+filledOf None = 0
+filledOf (Refused n) = 0
+
+abbrev pub storedBy : Plan → ℕ → ℕ
+storedBy p room = filledOf (answerBy p room)

@@ -1,5 +1,5 @@
 -- The promise of the call that lists moves (document 02, A.3). Assumes nothing.
-use Prim.Native.Nat.{_*_, ℕ}
+use Prim.Native.Nat.{_*_, _≤_, ℕ}
 use lib.ListN.{drop, length, replicate}
 use mathlib.Core.List.{List, _++_, map}
 use mathlib.Core.Path.{_≡_}
@@ -37,6 +37,10 @@ blankMove = record { 0 = record { 0 = 0 }; 1 = record { 0 = 0 } }
 
 unfoldable pub blankList : List Move
 blankList = replicate mostMoves blankMove
+
+-- No list of moves is longer, so a lent list of so many entries is never too short.
+unfoldable pub EveryListFits : Type 0
+EveryListFits = (g : Image) → length (movesOn g) ≤ mostMoves
 
 -- The call on an image with a lent list answered a and left the list filled.
 pub record ListDone (g : Image) (lent : List Move) (a : Listed) (filled : List Move) : Type 0 where

@@ -95,23 +95,6 @@ impl Plan {
         Move(Card(0), Block(0))
     }
 
-    // How many entries of a lent list with this room are filled.
-    pub fn stored(self, room: usize) -> usize
-        ensures { λ r. ⌜ r ≡ storedBy self room ⌝ }
-    {
-        if self.refusal != 0 {
-            return 0;
-        }
-        if self.locked {
-            return 0;
-        }
-        let count = self.count as usize;
-        if room < count {
-            return 0;
-        }
-        count
-    }
-
     // What is answered to a lent list with this room.
     pub fn answer(self, room: usize) -> Listed
         ensures { λ r. ⌜ r ≡ answerBy self room ⌝ }
@@ -127,5 +110,17 @@ impl Plan {
             return Listed::Refused(SHORT);
         }
         Listed::Moves(self.count)
+    }
+
+    // How many entries of a lent list with this room are filled: none but where moves are listed.
+    pub fn stored(self, room: usize) -> usize
+        ensures { λ r. ⌜ r ≡ storedBy self room ⌝ }
+    {
+        let listed = self.answer(room);
+        match listed {
+            Listed::Moves(n) => n as usize,
+            Listed::None => 0,
+            Listed::Refused(_) => 0,
+        }
     }
 }

@@ -1,34 +1,43 @@
 -- The proof of `Plan::stored`. Assumes nothing.
 use borrow.Author.Needs.{needs}
-use borrow.Author.Tests.{eq-eqb, le-ltb, lt-ltb, ne-eqb}
-use Rattle.move_list.specs.Plans.{storedBy}
+use mathlib.Core.Path.{_∙_, ap, sym}
+use Rattle.move_list.specs.Plans.{filledOf}
 use Rattle.move_list.proofs.Plan.stored.Statement.{statement}
 use Rattle.move_list.proofs.Plan.stored.Tie as tie
 
+answer-requires : tie.Need-answer-requires
+answer-requires c κs = search needs
+
+enum-known-listed : tie.Need-enum-known-listed
+enum-known-listed c = search needs
+
+cast-result : tie.Need-cast-result
+cast-result c = search needs
+
+enum-told : tie.Need-enum-told
+enum-told c = search needs
+
+enum-told-2 : tie.Need-enum-told-2
+enum-told-2 c = search needs
+
 returns : tie.Need-returns
-unfolding storedBy
-returns c = let p = c .before .before .args .self in rw (ne-eqb (p .refusal) 0 (c .if1 .taken))
+returns c = let l = c .before in ap filledOf (sym (l .listed .given .1) ∙ l .before .before .answer .ensures)
 
 returns-2 : tie.Need-returns-2
-unfolding storedBy
-returns-2 c = let p = c .before .before .before .args .self in rw (eq-eqb (p .refusal) 0 (c .before .if1 .left), c .if2 .taken)
-
-cast-count : tie.Need-cast-count
-cast-count c = search needs
+returns-2 c = ap filledOf (sym (c .enum-told .given .1) ∙ c .before .before .answer .ensures)
 
 returns-3 : tie.Need-returns-3
-unfolding storedBy
-returns-3 c =
-    let a = c .before .before .before .before .before .args in
-    let e = c .before .before in
-    rw (eq-eqb (a .self .refusal) 0 (e .before .if1 .left), e .if2 .left, lt-ltb (a .room) (a .self .count) (c .if3 .taken))
-
-returns-4 : tie.Need-returns-4
-unfolding storedBy
-returns-4 c =
-    let a = c .before .before .before .before .before .args in
-    let e = c .before .before in
-    rw (eq-eqb (a .self .refusal) 0 (e .before .if1 .left), e .if2 .left, le-ltb (a .room) (a .self .count) (c .if3 .left))
+returns-3 c = ap filledOf (sym (c .enum-told2 .given .1) ∙ c .before .before .answer .ensures)
 
 pub stored-spec : {M : Type 1} → statement M
-stored-spec = tie.close (tie.spec returns returns-2 cast-count returns-3 returns-4)
+stored-spec =
+    tie.close
+    (tie.spec
+    answer-requires
+    enum-known-listed
+    cast-result
+    enum-told
+    enum-told-2
+    returns
+    returns-2
+    returns-3)

@@ -1,4 +1,5 @@
--- The answer to a lent list of any room, from that to one that has room for every list of moves. Assumes nothing.
+-- A list of so many entries has room for every list of moves; and the answer to a lent list of any room, from that to such a one. Assumes
+-- nothing.
 use Prim.Native.Nat.{_*_, _+_, _≤_, suc, zero, ℕ}
 use borrow.Author.Tests.{le-ltb}
 use lib.Dec.{ltb}
@@ -14,7 +15,7 @@ use Rattle.method.specs.Rules.{look}
 use Rattle.cabinet_rules.specs.Cabinet.{cabinet}
 use Rattle.cabinet_rules.specs.Images.{Image, controlIn, stateIn}
 use Rattle.cabinet_rules.specs.MoveLists.{listAnswerOn, listRefusal, movesOn, unlessRefusedList}
-use Rattle.move_list.specs.Promise.{mostMoves}
+use Rattle.move_list.specs.Promise.{EveryListFits, mostMoves}
 
 count-most : (n : ℕ) (f : ℕ → Bool) → count n f ≤ n
 count-most zero f = omega arith
@@ -34,10 +35,14 @@ module _ (g : Image) where
       let e = length-map (keepIf origin (numbersBelow cardCount)) (entryAt b) ∙ length-keep cardCount origin in
       omega (arith, h, e)
 
-  pub few-moves : length (movesOn g) ≤ mostMoves
+  few-moves : length (movesOn g) ≤ mostMoves
   unfolding moveList
   few-moves = subst (λ (n : ℕ). n ≤ mostMoves) (sym (length-concat blockCount (movesOf cabinet (controlIn g) (look cabinet (stateIn g)))))
       (sum-mono blockCount (λ b. length (movesOf cabinet (controlIn g) (look cabinet (stateIn g)) b)) (λ b. cardCount) (λ b h. few-of-block b))
+
+pub every-list-fits : EveryListFits
+unfolding EveryListFits
+every-list-fits = few-moves
 
 -- The answer to a list of this room, of one that has room for every list of moves.
 abbrev pub byRoom : ℕ → ListAnswer → ListAnswer
