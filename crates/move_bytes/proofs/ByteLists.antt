@@ -80,7 +80,7 @@ module _ (g : Image) (a : Listed) (ms : List Move) (d : ListDone g blankList a m
     counted = listed-all g (length blankList) n all-listed
 
     pub few : n ≤ mostMoves
-    few = let h = unfold EveryListFits in (every-list-fits g) in omega (arith, h, counted)
+    few = let h : length (movesOn g) ≤ mostMoves = unfold EveryListFits in (every-list-fits g) in omega (arith, h, counted)
 
     moves-are : ms ≡ map moveFor (movesOn g) ++ drop n blankList
     unfolding listAfter
