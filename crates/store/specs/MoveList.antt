@@ -1,4 +1,4 @@
--- What a list of moves is worth to a caller (document 02, A.3): the statements, of the calls themselves. Assumes nothing.
+-- What a list of moves is worth to a caller (document 02, A.3): the statements, of the calls. Assumes nothing.
 use Prim.Native.Nat.{_≤_, ℕ}
 use lib.ListN.{length, take}
 use mathlib.Core.List.{List, map}
@@ -22,8 +22,8 @@ use Rattle.store.specs.Runs.{NoStop, Ran, RunCall, callsOf, memoryAfter}
 abbrev pub moveOf : Move → Call cabinet
 moveOf e = asked (MoveCall (e .0) (e .1))
 
--- On memory g came a run of moves of these entries, in order, and nothing else but calls that list moves; then a settle,
--- which said so.
+-- On memory g came a run of moves of these entries, in order, and of no other calls but such as list moves; then a
+-- settle, which said so.
 pub record MovesThenSettle (g : Image) (entries : List Move) (said : AnswerValue) : Type 0 where
   pub moves : List RunCall
   pub ran : Ran moves g
