@@ -19,15 +19,15 @@ use Rattle.cabinet_rules.proofs.Sound.{Sound, Steps, noise-sound, start-sound, 
 use Rattle.promise.specs.Promise.{Done, asked}
 use Rattle.store.specs.Runs.{GoesOnOfCalls, OneRecordListOfCalls, Ran, RunCall, Step, callsOf, listCall, observed, storeCall}
 
--- The plain record list and the rules beside it, behind a call.
-abbrev listAfter : Call cabinet → State cabinet → PlainList cabinet → PlainList cabinet
-listAfter c z q = plainNext cabinet (settleAccepted cabinet z) c q
+-- The plain record list after a call.
+abbrev plainAfterCall : Call cabinet → State cabinet → PlainList cabinet → PlainList cabinet
+plainAfterCall c z q = plainNext cabinet (settleAccepted cabinet z) c q
 
 -- A call that keeps its promise on an image that is sound, and what is observed behind it.
 call-observed : (x : Step) (g : Image) (z : State cabinet) (q : PlainList cabinet) → Sound current currentLaws g z q
     → Done (asked (x .call)) g (x .said) (x .left) → (l : List RunCall)
-    → (Sound current currentLaws (x .left) (nextState cabinet (asked (x .call)) z) (listAfter (asked (x .call)) z q)
-    → observed l ≡ runPlain cabinet (callsOf l) (nextState cabinet (asked (x .call)) z) (listAfter (asked (x .call)) z q))
+    → (Sound current currentLaws (x .left) (nextState cabinet (asked (x .call)) z) (plainAfterCall (asked (x .call)) z q)
+    → observed l ≡ runPlain cabinet (callsOf l) (nextState cabinet (asked (x .call)) z) (plainAfterCall (asked (x .call)) z q))
     → observed (storeCall x ∷ l) ≡ runPlain cabinet (callsOf (storeCall x ∷ l)) z q
 unfolding observed runPlain
 call-observed x g z q s d l behind = rw (ap (observe cabinet (asked (x .call))) (d .answers) ∙ h .shows) (last (isLast cabinet (plainObserve cabinet (asked (x .call)) q)) refl)
@@ -37,7 +37,7 @@ call-observed x g z q s d l behind = rw (ap (observe cabinet (asked (x .call))) 
 
     last : (o : Bool) → isLast cabinet (plainObserve cabinet (asked (x .call)) q) ≡ o
         → _≡_ {A = List (Observation cabinet)} (plainObserve cabinet (asked (x .call)) q ∷ cond o [] (observed l))
-        (plainObserve cabinet (asked (x .call)) q ∷ cond o [] (runPlain cabinet (callsOf l) (nextState cabinet (asked (x .call)) z) (listAfter (asked (x .call)) z q)))
+        (plainObserve cabinet (asked (x .call)) q ∷ cond o [] (runPlain cabinet (callsOf l) (nextState cabinet (asked (x .call)) z) (plainAfterCall (asked (x .call)) z q)))
     last true p = refl
     last false p = ap (λ (t : List (Observation cabinet)). plainObserve cabinet (asked (x .call)) q ∷ t) (behind (rw (d .leaves) (h .goes-on p)))
 
@@ -48,7 +48,7 @@ unfolding observed Ran runPlain
 run-observed [] g z q s r = refl
 run-observed (storeCall x ∷ l) g z q s r =
     call-observed x (noisy (x .noise) g) z q (noise-sound current currentLaws (x .noise) g z q s) (r .0) l
-    (λ t. run-observed l (x .left) (nextState cabinet (asked (x .call)) z) (listAfter (asked (x .call)) z q) t (r .1))
+    (λ t. run-observed l (x .left) (nextState cabinet (asked (x .call)) z) (plainAfterCall (asked (x .call)) z q) t (r .1))
 run-observed (listCall x ∷ l) g z q s r = run-observed l (noisy (x .noise) g) z q (noise-sound current currentLaws (x .noise) g z q s) (r .1)
 
 -- DEMAND 3, going on from the memory that the base's calls left
