@@ -1,4 +1,5 @@
 pub mod OneRecordList
 pub mod Protection
+pub mod MoveList
 mod MoveRows
 mod LocalArray

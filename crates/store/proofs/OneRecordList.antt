@@ -1,53 +1,66 @@
--- Demand 3 of the calls, the proof: calls that keep their promise run as the rules do on images. Assumes nothing.
-use mathlib.Core.Bool.{cond}
+-- Demand 3 of the calls, the proof: calls that keep their promises run as the rules do on images that are sound, and a list of moves leaves
+-- such an image sound. Assumes nothing.
+use mathlib.Core.Bool.{Bool, cond, false, true}
 use mathlib.Core.List.{List, [], _∷_}
-use mathlib.Core.Path.{_∙_, _≡_, ap, ap₂, refl, sym}
+use mathlib.Core.Path.{_∙_, _≡_, ap, refl, sym}
 use Rattle.mask.specs.Masks.{byte}
 use Rattle.mask.specs.Placements.{olderFromMask}
-use Rattle.method.specs.OneRecordList.{Observation, isLast, observe, runPlain, zeroed}
-use Rattle.method.specs.PlainList.{plainStart}
-use Rattle.method.specs.Rules.{Answer, Call, start}
+use Rattle.method.specs.OneRecordList.{Observation, isLast, observe, plainObserve, runPlain, settleAccepted, zeroed}
+use Rattle.method.specs.PlainList.{PlainList, plainNext, plainStart}
+use Rattle.method.specs.Rules.{Call, State, nextState, start}
 use Rattle.cabinet_rules.specs.Cabinet.{cabinet}
-use Rattle.cabinet_rules.specs.Claims.{NoisyCall, OneRecordListOnImages, imageAfterBy, imageCalls, runImage, runImageBy}
+use Rattle.cabinet_rules.specs.Claims.{imageAfterBy, noisy}
 use Rattle.cabinet_rules.specs.Delivery.{base, current}
-use Rattle.cabinet_rules.specs.GoesOn.{GoesOnImages, plainThen, rulesThen}
+use Rattle.cabinet_rules.specs.GoesOn.{plainThen, rulesThen}
 use Rattle.cabinet_rules.specs.Images.{Image, nextBy}
-use Rattle.cabinet_rules.proofs.Base.{goes-on-from-base}
-use Rattle.cabinet_rules.proofs.OneRecordList.{one-record-list-on-images}
-use Rattle.promise.specs.Promise.{asked}
-use Rattle.store.specs.Runs.{GoesOnOfCalls, OneRecordListOfCalls, Ran, Step, callsOf, observed}
+use Rattle.cabinet_rules.proofs.Base.{sound-from-base}
+use Rattle.cabinet_rules.proofs.Form.{currentLaws}
+use Rattle.cabinet_rules.proofs.Sound.{Sound, Steps, noise-sound, start-sound, step-sound}
+use Rattle.promise.specs.Promise.{Done, asked}
+use Rattle.store.specs.Runs.{GoesOnOfCalls, OneRecordListOfCalls, Ran, RunCall, Step, callsOf, listCall, observed, storeCall}
 
--- The calls of a run with the noise before each, as the rules are given them.
-given : List Step → List NoisyCall
-given [] = []
-given (s ∷ l) = (s .noise, asked (s .call)) ∷ given l
+-- The plain record list after a call.
+abbrev plainAfterCall : Call cabinet → State cabinet → PlainList cabinet → PlainList cabinet
+plainAfterCall c z q = plainNext cabinet (settleAccepted cabinet z) c q
 
-calls-given : (l : List Step) → imageCalls (given l) ≡ callsOf l
-unfolding given
-calls-given [] = refl
-calls-given (s ∷ l) = ap (λ (t : List (Call cabinet)). asked (s .call) ∷ t) (calls-given l)
-
--- Every answer and every image left is that of the rules, so what is observed is what they show.
-observed-is : (l : List Step) (g : Image) → Ran l g → observed l ≡ runImage (given l) g
-unfolding given observed Ran runImageBy
-observed-is [] g r = refl
-observed-is (s ∷ l) g r =
-    ap₂ shows (r .0 .answers) (observed-is l (s .left) (r .1) ∙ ap (runImage (given l)) (r .0 .leaves))
+-- A call that keeps its promise on an image that is sound, and what is observed behind it.
+call-observed : (x : Step) (g : Image) (z : State cabinet) (q : PlainList cabinet) → Sound current currentLaws g z q
+    → Done (asked (x .call)) g (x .said) (x .left) → (l : List RunCall)
+    → (Sound current currentLaws (x .left) (nextState cabinet (asked (x .call)) z) (plainAfterCall (asked (x .call)) z q)
+    → observed l ≡ runPlain cabinet (callsOf l) (nextState cabinet (asked (x .call)) z) (plainAfterCall (asked (x .call)) z q))
+    → observed (storeCall x ∷ l) ≡ runPlain cabinet (callsOf (storeCall x ∷ l)) z q
+unfolding observed runPlain
+call-observed x g z q s d l behind = rw (ap (observe cabinet (asked (x .call))) (d .answers) ∙ h .shows) (last (isLast cabinet (plainObserve cabinet (asked (x .call)) q)) refl)
   where
-    shows : Answer cabinet → List (Observation cabinet) → List (Observation cabinet)
-    shows a t = observe cabinet (asked (s .call)) a ∷ cond (isLast cabinet (observe cabinet (asked (s .call)) a)) [] t
+    h : Steps current currentLaws g z q (asked (x .call))
+    h = step-sound current currentLaws g z q s (asked (x .call))
+
+    last : (o : Bool) → isLast cabinet (plainObserve cabinet (asked (x .call)) q) ≡ o
+        → _≡_ {A = List (Observation cabinet)} (plainObserve cabinet (asked (x .call)) q ∷ cond o [] (observed l))
+        (plainObserve cabinet (asked (x .call)) q ∷ cond o [] (runPlain cabinet (callsOf l) (nextState cabinet (asked (x .call)) z) (plainAfterCall (asked (x .call)) z q)))
+    last true p = refl
+    last false p = ap (λ (t : List (Observation cabinet)). plainObserve cabinet (asked (x .call)) q ∷ t) (behind (rw (d .leaves) (h .goes-on p)))
+
+-- So from an image that is sound a run shows what the plain record list shows.
+run-observed : (l : List RunCall) (g : Image) (z : State cabinet) (q : PlainList cabinet) → Sound current currentLaws g z q → Ran l g
+    → observed l ≡ runPlain cabinet (callsOf l) z q
+unfolding observed Ran runPlain
+run-observed [] g z q s r = refl
+run-observed (storeCall x ∷ l) g z q s r =
+    call-observed x (noisy (x .noise) g) z q (noise-sound current currentLaws (x .noise) g z q s) (r .0) l
+    (λ t. run-observed l (x .left) (nextState cabinet (asked (x .call)) z) (plainAfterCall (asked (x .call)) z q) t (r .1))
+run-observed (listCall x ∷ l) g z q s r = run-observed l (noisy (x .noise) g) z q (noise-sound current currentLaws (x .noise) g z q s) (r .1)
 
 -- DEMAND 3, going on from the memory that the base's calls left
 pub goes-on-of-calls : GoesOnOfCalls
-unfolding GoesOnOfCalls GoesOnImages
-goes-on-of-calls m before e earlier runs l r =
-    observed-is l (imageAfterBy base earlier (nextBy base (start m) before)) r ∙ goes-on-from-base m before e earlier runs (given l)
-    ∙ ap (λ (cs : List (Call cabinet)). runPlain cabinet cs (rulesThen base current olderFromMask m earlier) (plainThen base current olderFromMask m earlier)) (calls-given l)
+unfolding GoesOnOfCalls
+goes-on-of-calls m before e earlier runs l =
+    run-observed l (imageAfterBy base earlier (nextBy base (start m) before)) (rulesThen base current olderFromMask m earlier) (plainThen base current olderFromMask m earlier)
+    (sound-from-base m before e earlier runs)
 
 -- DEMAND 3
 pub one-record-list-of-calls : OneRecordListOfCalls
-unfolding OneRecordListOfCalls OneRecordListOnImages
-one-record-list-of-calls m before behind d l r =
-    observed-is l behind r ∙ ap (runImage (given l)) (d .leaves)
-    ∙ one-record-list-on-images (byte m) before (sym (d .answers)) (given l)
-    ∙ ap (λ (cs : List (Call cabinet)). runPlain cabinet cs (zeroed cabinet (byte m)) (plainStart cabinet (byte m))) (calls-given l)
+unfolding OneRecordListOfCalls
+one-record-list-of-calls m before behind d l =
+    run-observed l behind (zeroed cabinet (byte m)) (plainStart cabinet (byte m))
+    (rw (d .leaves) (start-sound current currentLaws (byte m) before (sym (d .answers))))

@@ -14,7 +14,7 @@ use Rattle.promise.specs.declared.Answer.the-variants.{Retired, Protected, Unpr
 use Rattle.store.specs.Protection.{ProtectedIsSafe, UnprotectedIsNot}
 
 -- Only the one answer says stopped.
-stopped-alone : (said : AnswerValue) → isStop cabinet (shown said) ≡ true → said ≡ Stopped
+pub stopped-alone : (said : AnswerValue) → isStop cabinet (shown said) ≡ true → said ≡ Stopped
 stopped-alone Ok e = tf false e refl
 stopped-alone (Value n) e = tf false e refl
 stopped-alone Absent e = tf false e refl
