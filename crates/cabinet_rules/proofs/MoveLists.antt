@@ -24,7 +24,7 @@ use Rattle.cabinet_rules.specs.Delivery.{base, current}
 use Rattle.cabinet_rules.specs.GoesOn.{plainThen, rulesThen}
 use Rattle.cabinet_rules.specs.Images.{Image, answer, controlIn, next, nextBy, stateBy, stateIn}
 use Rattle.cabinet_rules.specs.MoveLists.{AreMoves, ListSettles, NeverSettles, NoShorterList, NoneByLock, NoneIsFinal}
-use Rattle.cabinet_rules.specs.MoveLists.{NoneIsFinalFromBase, listAnswerOn, listRefusal, unlessRefusedList}
+use Rattle.cabinet_rules.specs.MoveLists.{NoneIsFinalFromBase, listAnswerOn, listRefusal, movesOn, unlessRefusedList}
 use Rattle.cabinet_rules.proofs.Base.{sound-from-base}
 use Rattle.cabinet_rules.proofs.Form.{currentLaws}
 use Rattle.cabinet_rules.proofs.Lawful.{lawful}
@@ -42,28 +42,28 @@ tailOf : List (Call cabinet) → List (Call cabinet)
 tailOf [] = []
 tailOf (c ∷ l) = l
 
--- The image after a list of moves shows the same control part, and the view after them.
+-- The image after a move, with any noise before it, shows the same control part, and the view after the move.
+pub move-shows : (noise : ℕ → ℕ) (g : Image) (k : Part) (v : View cabinet) → Shows current currentLaws g k v → (e : Entry)
+    → Shows current currentLaws (next (asMove cabinet e) (noisy noise g)) k (moved cabinet lawful k (e .card) (e .block) v)
+move-shows noise g k v s e =
+    let t = noise-shows current currentLaws noise g k v s in
+    next-shows current currentLaws (asMove cabinet e) (noisy noise g) k k v (moved cabinet lawful k (e .card) (e .block) v) t (s .form) (s .full)
+    (moved-idle cabinet lawful k (s .form) v (s .idle) (e .card) (e .block)) (move-beside cabinet lawful (stateIn (noisy noise g)) k v (t .beside) e)
+
+-- After a list of moves it shows the view after them.
 moves-show : (l : List NoisyCall) (entries : List Entry) → AreMoves l entries → (g : Image) (k : Part) (v : View cabinet)
     → Shows current currentLaws g k v → Shows current currentLaws (imageAfter l g) k (movedAll cabinet lawful k entries v)
 unfolding imageAfterBy movedAll headOf tailOf
 moves-show [] [] a g k v s = s
 moves-show [] (e ∷ entries) a g k v s = let z : _≡_ {A = ℕ} 0 1 = cc in absurd (omega arith)
 moves-show (c ∷ l) [] a g k v s = let z : _≡_ {A = ℕ} 0 1 = cc in absurd (omega arith)
-moves-show (c ∷ l) (e ∷ entries) a g k v s = moves-show l entries (ap tailOf a) (next (c .1) h) k w
-    (subst (λ (x : Call cabinet). Shows current currentLaws (next x h) k w) (sym (ap (headOf settle) a))
-    (next-shows current currentLaws (asMove cabinet e) h k k v w t (s .form) (s .full) (moved-idle cabinet lawful k (s .form) v (s .idle) (e .card) (e .block)) (move-beside cabinet lawful (stateIn h) k v (t .beside) e)))
-  where
-    h : Image
-    h = noisy (c .0) g
-
-    w : View cabinet
-    w = moved cabinet lawful k (e .card) (e .block) v
-
-    t : Shows current currentLaws h k v
-    t = noise-shows current currentLaws (c .0) g k v s
+moves-show (c ∷ l) (e ∷ entries) a g k v s =
+    let w : View cabinet = moved cabinet lawful k (e .card) (e .block) v in
+    moves-show l entries (ap tailOf a) (next (c .1) (noisy (c .0) g)) k w
+    (subst (λ (x : Call cabinet). Shows current currentLaws (next x (noisy (c .0) g)) k w) (sym (ap (headOf settle) a)) (move-shows (c .0) g k v s e))
 
 -- What settle answers there.
-settle-shown : (g : Image) (k : Part) (v : View cabinet) → Shows current currentLaws g k v → (noise : ℕ → ℕ)
+pub settle-shown : (g : Image) (k : Part) (v : View cabinet) → Shows current currentLaws g k v → (noise : ℕ → ℕ)
     → answer settle (noisy noise g) ≡ cond (settled cabinet k v) (retired (length (k .older))) (refused 13)
 settle-shown g k v s noise =
     let t = noise-shows current currentLaws noise g k v s in
@@ -81,14 +81,33 @@ no-number n m e = let z : _≡_ {A = ℕ} 0 1 = cc in omega arith
 no-none : (m : ℕ) → notListed m ≡ noList → ⊥
 no-none m e = let z : _≡_ {A = ℕ} 0 1 = cc in omega arith
 
--- ---- an image of which moves are listed
-module _ (g : Image) (room n : ℕ) (e : listAnswerOn room g ≡ listed n) where
-  answers : (listRefusal g ≡ 0) × (listAnswer cabinet (controlIn g) (look cabinet (stateIn g)) room ≡ listed n)
+-- ---- an image of which moves are listed, or 'none' is said
+module _ (g : Image) (room : ℕ) where
+  answer-clear : (x : ListAnswer) → ((m : ℕ) → notListed m ≡ x → ⊥) → listAnswerOn room g ≡ x
+      → (listRefusal g ≡ 0) × (listAnswer cabinet (controlIn g) (look cabinet (stateIn g)) room ≡ x)
   unfolding listAnswerOn
-  answers = not-refused (listRefusal g) (listAnswer cabinet (controlIn g) (look cabinet (stateIn g)) room) (listed n) (no-number n) e
+  answer-clear x other e = not-refused (listRefusal g) (listAnswer cabinet (controlIn g) (look cabinet (stateIn g)) room) x other e
 
-  here : Shows current currentLaws g (controlIn g) (look cabinet (stateIn g))
-  here = running-shows g (running-image g (answers .0))
+  -- None of its moves is locked, and the number is theirs.
+  listed-moves : (n : ℕ) → listAnswerOn room g ≡ listed n
+      → (listRefusal g ≡ 0) × (anyMoveLocked cabinet (controlIn g) (look cabinet (stateIn g)) ≡ false) × (n ≡ length (movesOn g))
+  listed-moves n e =
+      let a = answer-clear (listed n) (no-number n) e in
+      let l = listed-is cabinet (controlIn g) (look cabinet (stateIn g)) room n (a .1) in
+      (a .0, l .0, l .1)
+
+  pub listed-clear : (n : ℕ) → listAnswerOn room g ≡ listed n → (listRefusal g ≡ 0) × (n ≡ length (movesOn g))
+  listed-clear n e = let a = listed-moves n e in (a .0, a .2)
+
+  -- One of its moves is locked.
+  pub none-clear : listAnswerOn room g ≡ noList → (listRefusal g ≡ 0) × (anyMoveLocked cabinet (controlIn g) (look cabinet (stateIn g)) ≡ true)
+  none-clear e =
+      let a = answer-clear noList no-none e in
+      (a .0, none-is cabinet (controlIn g) (look cabinet (stateIn g)) room (a .1))
+
+-- It shows a running store.
+here : (g : Image) → listRefusal g ≡ 0 → Shows current currentLaws g (controlIn g) (look cabinet (stateIn g))
+here g clear = running-shows g (running-image g clear)
 
 -- After exactly these moves settle succeeds.
 pub list-settles : ListSettles
@@ -96,10 +115,10 @@ unfolding ListSettles
 list-settles g room n e l a noise =
     let k : Part = controlIn g in
     let v : View cabinet = look cabinet (stateIn g) in
-    let s = here g room n e in
-    let free = listed-is cabinet k v room n (answers g room n e .1) .0 in
+    let a′ = listed-moves g room n e in
+    let s = here g (a′ .0) in
     settle-shown (imageAfter l g) k (movedAll cabinet lawful k _ v) (moves-show l _ a g k v s) noise
-    ∙ ap (λ (t : Bool). cond t (retired (length (k .older))) (refused 13)) (list-settled cabinet lawful k (s .form) v (s .idle) free)
+    ∙ ap (λ (t : Bool). cond t (retired (length (k .older))) (refused 13)) (list-settled cabinet lawful k (s .form) v (s .idle) (a′ .1))
 
 -- No shorter list does.
 pub no-shorter-list : NoShorterList
@@ -107,11 +126,11 @@ unfolding NoShorterList
 no-shorter-list g room n e l entries a noise m done =
     let k : Part = controlIn g in
     let v : View cabinet = look cabinet (stateIn g) in
-    let s = here g room n e in
-    let long = listed-is cabinet k v room n (answers g room n e .1) .1 in
+    let a′ = listed-moves g room n e in
+    let s = here g (a′ .0) in
     let w : View cabinet = movedAll cabinet lawful k entries v in
     let least = fewest cabinet lawful k (s .form) v (s .idle) entries (met (settled cabinet k w) (sym (settle-shown (imageAfter l g) k w (moves-show l entries a g k v s) noise) ∙ done)) in
-    omega (arith, long, least)
+    omega (arith, a′ .2, least)
   where
     met : (t : Bool) → _≡_ {A = Answer cabinet} (cond t (retired (length (controlIn g .older))) (refused 13)) (retired m) → t ≡ true
     met true q = refl
@@ -131,14 +150,13 @@ none-by-lock g room clear =
 
 -- On an image that is beside the plain record list it is final.
 final : (g : Image) (z : State cabinet) (q : PlainList cabinet) → Sound current currentLaws g z q → (room : ℕ) → listAnswerOn room g ≡ noList → NeverSettles g
-unfolding NeverSettles listAnswerOn stateBy
+unfolding NeverSettles stateBy
 final g z q s room e l entries a noise =
     let k : Part = q .control in
     let v : View cabinet = s .ready .sees in
-    let said = not-refused (listRefusal g) (listAnswer cabinet (controlIn g) (look cabinet (stateIn g)) room) noList no-none e .1 in
     let locked : anyMoveLocked cabinet k v ≡ true =
     sym (ap₂ (λ (x : Part) (y : View cabinet). anyMoveLocked cabinet x y) (s .ready .store-beside .same-control) (s .ready .store-beside .same-look))
-    ∙ none-is cabinet (controlIn g) (look cabinet (stateIn g)) room said in
+    ∙ none-clear g room e .1 in
     settle-shown (imageAfter l g) k (movedAll cabinet lawful k entries v) (moves-show l entries a g k v (sound-shows current currentLaws g z q s)) noise
     ∙ ap (λ (t : Bool). cond t (retired (length (k .older))) (refused 13)) (none-final cabinet lawful k v (q .records) (s .ready .inv) locked entries)
 

@@ -1,58 +1,30 @@
 -- The promise of the call on bytes, from that of the call on a list with room for every list of moves. Assumes nothing.
-use Prim.Native.Nat.{_*_, _+_, _<_, _≤_, suc, zero, ℕ}
+use Prim.Native.Nat.{_<_, _≤_, ℕ}
 use borrow.Author.Tests.{le-ltb, lt-ltb}
-use lib.Dec.{ltb}
 use lib.ListN.{drop, length, length-append, length-map, length-replicate, take}
 use lib.Seq.{take-append-seam}
-use mathlib.Core.Bool.{Bool, cond, false, true}
-use mathlib.Core.List.{List, [], _++_, _∷_, map}
+use mathlib.Core.List.{List, _++_, map}
 use mathlib.Core.Path.{_∙_, _≡_, ap, ap₂, refl, sym}
 use native.Mathlib.Nat.{zero-add}
 use native.Mathlib.Omega.{arith}
 use Rattle.lists.specs.Segments.{splice}
 use Rattle.lists.specs.Tests.{concatMap}
-use Rattle.method.specs.MoveList.{Entry, ListAnswer, anyMoveLocked, listAnswer, listed, noList, notListed}
-use Rattle.method.specs.Rules.{look}
-use Rattle.cabinet_rules.specs.Cabinet.{cabinet}
-use Rattle.cabinet_rules.specs.Images.{Image, controlIn, stateIn}
-use Rattle.cabinet_rules.specs.MoveLists.{listAnswerOn, listRefusal, movesOn, unlessRefusedList}
+use Rattle.method.specs.MoveList.{ListAnswer, listed, noList, notListed}
+use Rattle.cabinet_rules.specs.Images.{Image}
+use Rattle.cabinet_rules.specs.MoveLists.{listAnswerOn, movesOn}
+use Rattle.cabinet_rules.proofs.MoveLists.{listed-clear}
 use Rattle.move_list.specs.Plans.{moveFor}
 use Rattle.move_list.specs.Promise.{EveryListFits, ListDone, blankList, blankMove, filledBy, listAfter, mostMoves, shownList}
 use Rattle.move_list.proofs.MoveRooms.{any-room, byRoom, every-list-fits}
 use Rattle.move_list.specs.declared.Listed.{Listed}
 use Rattle.move_list.specs.declared.Listed.the-variants.{Moves, None, Refused}
 use Rattle.move_list.specs.declared.Move.{Move}
-use Rattle.move_bytes.specs.MoveBytes.{BytesDone, bytesAfter, bytesOf, entrySize, filledBytes, firstBytes, roomOf}
+use Rattle.move_bytes.specs.MoveBytes.{BytesDone, bytesAfter, bytesOf, filledBytes, firstBytes, roomOf}
 use Rattle.move_bytes.proofs.EntryBytes.{length-first}
 
 length-blank : length blankList ≡ mostMoves
 unfolding blankList
 length-blank = length-replicate mostMoves blankMove
-
--- ---- the number that is listed is that of the moves
-isListed : ListAnswer → ℕ
-isListed (listed n) = 1
-isListed noList = 0
-isListed (notListed n) = 0
-
-countOf : ListAnswer → ℕ
-countOf (listed n) = n
-countOf noList = 0
-countOf (notListed n) = 0
-
-never : (a : ListAnswer) (n : ℕ) → isListed a ≡ 0 → a ≡ listed n → ⊥
-unfolding isListed
-never a n z e = let y : _≡_ {A = ℕ} 0 1 = sym z ∙ ap isListed e in omega (arith, y)
-
-listed-all : (g : Image) (room n : ℕ) → listAnswerOn room g ≡ listed n → n ≡ length (movesOn g)
-unfolding listAnswerOn listAnswer isListed countOf
-listed-all g room n e = go (listRefusal g) (anyMoveLocked cabinet (controlIn g) (look cabinet (stateIn g))) (ltb room (length (movesOn g))) e
-  where
-    go : (r : ℕ) (l t : Bool) → unlessRefusedList r (cond l noList (cond t (notListed 16) (listed (length (movesOn g))))) ≡ listed n → n ≡ length (movesOn g)
-    go (suc r) l t h = absurd (never (notListed (suc r)) n refl h)
-    go zero true t h = absurd (never noList n refl h)
-    go zero false true h = absurd (never (notListed 16) n refl h)
-    go zero false false h = sym (ap countOf h)
 
 module _ (g : Image) (a : Listed) (ms : List Move) (d : ListDone g blankList a ms) (lent : List ℕ) where
   by-room : (x : ListAnswer) → shownList a ≡ x → listAnswerOn (roomOf lent) g ≡ byRoom (roomOf lent) x
@@ -77,7 +49,7 @@ module _ (g : Image) (a : Listed) (ms : List Move) (d : ListDone g blankList a m
     all-listed = sym (d .answers) ∙ ap shownList e
 
     counted : n ≡ length (movesOn g)
-    counted = listed-all g (length blankList) n all-listed
+    counted = listed-clear g (length blankList) n all-listed .1
 
     pub few : n ≤ mostMoves
     few = let h : length (movesOn g) ≤ mostMoves = unfold EveryListFits in (every-list-fits g) in omega (arith, h, counted)

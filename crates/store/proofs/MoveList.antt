@@ -1,36 +1,33 @@
 -- What a list of moves is worth to a caller, the proofs: the calls answer as the rules do on images, and calls that list moves change nothing
 -- that can be seen. Assumes nothing.
-use Prim.Native.Nat.{suc, zero, ℕ}
+use Prim.Native.Nat.{ℕ}
 use lib.Dec.{eqb}
 use lib.ListN.{drop, getD, length, length-map, take}
 use lib.Seq.{take-append-seam}
 use mathlib.Core.Bool.{Bool, false, not, true}
 use mathlib.Core.List.{List, [], _++_, _∷_, map}
-use mathlib.Core.Logic.{_≢_}
 use mathlib.Core.Path.{_∙_, _≡_, ap, refl, subst, sym}
 use native.Mathlib.Omega.{arith}
 use Rattle.lists.proofs.Bools.{never-true}
 use Rattle.image.specs.Layout.{cardCount, imageSize}
 use Rattle.mask.specs.Masks.{byte}
-use Rattle.method.specs.MoveList.{Entry, ListAnswer, asMove, entryAt, listAnswer, listed, noList, notListed}
+use Rattle.method.specs.MoveList.{Entry, ListAnswer, asMove, entryAt, noList}
 use Rattle.method.specs.OneRecordList.{isLast, isStop, observe}
-use Rattle.method.specs.Rules.{Answer, Call, View, begin, commit, delete, fail, fit, get, load, look, move, plan}
+use Rattle.method.specs.Rules.{Answer, Call, View, begin, commit, delete, fail, fit, get, load, look, move}
 use Rattle.method.specs.Rules.{place, refusal, rollback, row, settle, start, state, store, withdraw}
-use Rattle.method.proofs.MoveList.{listed-is}
-use Rattle.method.proofs.MoveRuns.{move-beside}
-use Rattle.method.proofs.Moves.{moved, moved-idle}
-use Rattle.method.proofs.Run.{beside-answer}
+use Rattle.method.proofs.Moves.{moved}
 use Rattle.cabinet_rules.specs.Cabinet.{cabinet}
 use Rattle.cabinet_rules.specs.Claims.{NoStopBy, NoisyCall, imageAfter, imageAfterBy, imageCalls, noisy}
 use Rattle.cabinet_rules.specs.Delivery.{PartOf, base, current}
 use Rattle.cabinet_rules.specs.Images.{Image, answer, controlIn, next, nextBy, refusalBy, stateIn, unlessRefusedImage}
 use Rattle.cabinet_rules.specs.MoveLists.{AreMoves, ListSettles, NeverSettles, NoShorterList, NoneIsFinal, NoneIsFinalFromBase}
-use Rattle.cabinet_rules.specs.MoveLists.{listAnswerOn, listRefusal, movesOn, unlessRefusedList}
+use Rattle.cabinet_rules.specs.MoveLists.{listAnswerOn, listRefusal, movesOn}
 use Rattle.cabinet_rules.proofs.Form.{currentLaws}
 use Rattle.cabinet_rules.proofs.Lawful.{lawful}
-use Rattle.cabinet_rules.proofs.MoveLists.{list-settles, no-shorter-list, none-is-final, none-is-final-from-base}
+use Rattle.cabinet_rules.proofs.MoveLists.{list-settles, listed-clear, move-shows, no-shorter-list, none-clear, none-is-final}
+use Rattle.cabinet_rules.proofs.MoveLists.{none-is-final-from-base, settle-shown}
 use Rattle.cabinet_rules.proofs.Running.{running-image, running-shows}
-use Rattle.cabinet_rules.proofs.Shows.{Shows, answer-shows, next-shows, noise-shows}
+use Rattle.cabinet_rules.proofs.Shows.{Shows, noise-shows}
 use Rattle.move_list.specs.Plans.{moveFor}
 use Rattle.move_list.specs.Promise.{ListDone, filledBy, listAfter}
 use Rattle.move_list.specs.declared.Listed.the-variants.{Moves}
@@ -57,14 +54,6 @@ calls-given (storeCall s ∷ l) = ap (λ (t : List (Call cabinet)). asked (s .ca
 calls-given (listCall s ∷ l) = calls-given l
 
 module _ (k : PartOf current) where
-  -- The image after a move shows the same control part, and the view after it.
-  move-shows : (noise : ℕ → ℕ) (g : Image) (v : View cabinet) → Shows current currentLaws g k v → (e : Entry)
-      → Shows current currentLaws (next (asMove cabinet e) (noisy noise g)) k (moved cabinet lawful k (e .card) (e .block) v)
-  move-shows noise g v s e =
-      let t = noise-shows current currentLaws noise g k v s in
-      next-shows current currentLaws (asMove cabinet e) (noisy noise g) k k v (moved cabinet lawful k (e .card) (e .block) v) t (s .form) (s .full)
-      (moved-idle cabinet lawful k (s .form) v (s .idle) (e .card) (e .block)) (move-beside cabinet lawful (stateIn (noisy noise g)) k v (t .beside) e)
-
   -- What a run of moves leaves and what its moves alone leave show the same.
   moves-show : (l : List RunCall) (entries : List Entry) → callsOf l ≡ map (asMove cabinet) entries
       → (g h : Image) (v : View cabinet) → Shows current currentLaws g k v → Shows current currentLaws h k v → Ran l g
@@ -78,36 +67,12 @@ module _ (k : PartOf current) where
       let p : asMove cabinet e ≡ asked (x .call) = cc in
       let q : callsOf l ≡ map (asMove cabinet) entries = cc in
       moves-show l entries q (x .left) (next (asked (x .call)) (noisy (x .noise) h)) (moved cabinet lawful k (e .card) (e .block) v)
-      (rw (r .0 .leaves, sym p) (move-shows (x .noise) g v s e)) (rw (sym p) (move-shows (x .noise) h v t e)) (r .1)
+      (rw (r .0 .leaves, sym p) (move-shows (x .noise) g k v s e)) (rw (sym p) (move-shows (x .noise) h k v t e)) (r .1)
 
   -- Where two images show the same, settle answers the same.
   settle-same : (noise : ℕ → ℕ) (g h : Image) (v : View cabinet) → Shows current currentLaws g k v → Shows current currentLaws h k v
       → answer settle (noisy noise g) ≡ answer settle (noisy noise h)
-  settle-same noise g h v s t = says g s ∙ sym (says h t)
-    where
-      says : (x : Image) → Shows current currentLaws x k v → answer settle (noisy noise x) ≡ plan cabinet settle k v .answer
-      says x s =
-          let n = noise-shows current currentLaws noise x k v s in
-          answer-shows current currentLaws settle (noisy noise x) k v n ∙ beside-answer cabinet lawful (stateIn (noisy noise x)) k v (n .beside) settle
-
--- ---- the answer
--- One that is no refusal is given where rows 1, 2 and 4 do not apply.
-not-refused : (n : ℕ) (a x : ListAnswer) → ((m : ℕ) → notListed m ≢ x) → unlessRefusedList n a ≡ x → (n ≡ 0) × (a ≡ x)
-not-refused zero a x other e = (refl, e)
-not-refused (suc n) a x other e = absurd (other (suc n) e)
-
-module _ (g : Image) (room : ℕ) where
-  answer-clear : (x : ListAnswer) → ((m : ℕ) → notListed m ≢ x) → listAnswerOn room g ≡ x → (listRefusal g ≡ 0) × (listAnswer cabinet (controlIn g) (look cabinet (stateIn g)) room ≡ x)
-  unfolding listAnswerOn
-  answer-clear x other e = not-refused (listRefusal g) (listAnswer cabinet (controlIn g) (look cabinet (stateIn g)) room) x other e
-
-  listed-clear : (n : ℕ) → listAnswerOn room g ≡ listed n → (listRefusal g ≡ 0) × (n ≡ length (movesOn g))
-  listed-clear n e =
-      let a = answer-clear (listed n) (λ m p. let z : _≡_ {A = ℕ} 0 1 = cc in omega arith) e in
-      (a .0, listed-is cabinet (controlIn g) (look cabinet (stateIn g)) room n (a .1) .1)
-
-  none-clear : listAnswerOn room g ≡ noList → listRefusal g ≡ 0
-  none-clear e = answer-clear noList (λ m p. let z : _≡_ {A = ℕ} 0 1 = cc in omega arith) e .0
+  settle-same noise g h v s t = settle-shown g k v s noise ∙ sym (settle-shown h k v t noise)
 
 -- ---- moves and then a settle, as the rules are given them
 -- An entry of the rules for one of the code's.
@@ -221,7 +186,7 @@ none-final g final l r runs noise lent filled list entries said t =
     here = noisy noise (memoryAfter l g)
 
     clear : listRefusal here ≡ 0
-    clear = none-clear here (length lent) (sym (list .answers))
+    clear = none-clear here (length lent) (sym (list .answers)) .0
 
     left : imageAfter (played l noise) g ≡ here
     left = played-leaves noise l g r
