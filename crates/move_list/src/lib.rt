@@ -10,9 +10,10 @@ mod origins;
 use image::BLOCK_COUNT;
 use image::Block;
 use image::Card;
+use mask::Placement;
 
 // The most moves that a list can need: every block from every card.
-pub const MOST_MOVES: usize = 512;
+pub const MOST_MOVES: usize = BLOCK_COUNT * Placement::MOST_CARDS as usize;
 
 // The refusal of a lent list that is shorter than needed.
 pub const SHORT: u8 = 16;

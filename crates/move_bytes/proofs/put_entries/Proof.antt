@@ -6,7 +6,7 @@ use mathlib.Core.List.{List}
 use mathlib.Core.Path.{_∙_, _≡_, ap}
 use native.Mathlib.Omega.{arith}
 use Rattle.lists.specs.Segments.{splice}
-use Rattle.move_list.specs.Promise.{blankMove}
+use Rattle.move_list.specs.Promise.{blankMove, mostMoves}
 use Rattle.move_bytes.specs.MoveBytes.{bytesOf, entrySize, firstBytes}
 use Rattle.move_bytes.proofs.EntryBytes.{entry-more, none-put, put-length}
 use Rattle.move_bytes.proofs.put_entries.Statement.{statement}
@@ -34,7 +34,7 @@ put-entry-requires : tie.Need-put-entry-requires Inv-loop μ-loop
 put-entry-requires c κs =
     let l = c .before .before .before in
     let s = l .before .before in
-    let long : length (s .args .t2) ≡ 512 = search needs in
+    let long : length (s .args .t2) ≡ mostMoves = search needs in
     let e = ap length (l .loop .inv .1) ∙ put-length (s .args .bytes .now) (s .args .t2) (l .loop .i) (omega (arith, long, s .pre .0)) (omega (arith, s .pre .1)) in
     omega (arith, e, s .pre .1)
 
@@ -49,7 +49,7 @@ loop-again c =
     let p = c .before .before in
     let l = p .before .before .before .before in
     let s = l .before .before in
-    let long : length (s .args .t2) ≡ 512 = search needs in (
+    let long : length (s .args .t2) ≡ mostMoves = search needs in (
       omega arith,
       p .put-entry .ensures ∙ ap (λ (b : List ℕ). splice b (l .loop .i * entrySize) (bytesOf (getD (s .args .t2) (l .loop .i) blankMove))) (l .loop .inv .1)
           ∙ entry-more (s .args .bytes .now) (s .args .t2) (l .loop .i) (omega (arith, long, s .pre .0)) (omega (arith, s .pre .1)),
@@ -59,7 +59,7 @@ same-length : tie.Need-same-length Inv-loop μ-loop
 same-length c =
     let l = c .before in
     let s = l .before .before in
-    let long : length (s .args .t2) ≡ 512 = search needs in
+    let long : length (s .args .t2) ≡ mostMoves = search needs in
     ap length (l .loop .inv .1) ∙ put-length (s .args .bytes .now) (s .args .t2) (l .loop .i) (omega (arith, long, s .pre .0)) (omega (arith, s .pre .1))
 
 returns : tie.Need-returns Inv-loop μ-loop
