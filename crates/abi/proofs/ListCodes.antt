@@ -1,14 +1,13 @@
 -- Each answer of the move list has a code of its own; and the law that finishes its function's proof. Assumes nothing.
-use Prim.Native.Nat.{_%_, _/_, _<_, ℕ}
+use Prim.Native.Nat.{ℕ}
 use mathlib.Core.List.{List}
-use mathlib.Core.Path.{_∙_, _≡_, ap, refl, sym}
+use mathlib.Core.Path.{_∙_, _≡_, ap, refl}
 use native.Mathlib.Omega.{arith}
 use Rattle.method.specs.MoveList.{ListAnswer, listed, noList, notListed}
 use Rattle.cabinet_rules.specs.Images.{Image}
 use Rattle.move_list.specs.Promise.{shownList}
 use Rattle.move_list.specs.declared.Listed.{Listed}
 use Rattle.move_bytes.specs.MoveBytes.{BytesDone}
-use Rattle.abi.specs.Codes.{numberRange}
 use Rattle.abi.specs.ListCodes.{CodedList, OneListCodeEach, listCode, listKind, listNumber}
 
 -- two answers of one kind and one number are one

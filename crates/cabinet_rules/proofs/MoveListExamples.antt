@@ -11,7 +11,7 @@ use Rattle.slot.specs.Blocks.{endSlots, endedByte, isHeld, lockSlot, putSlot, w
 use Rattle.slot.specs.Words.{slotOf, wordOf}
 use Rattle.method.specs.MoveList.{Entry, ListAnswer, anyMoveLocked, isOrigin, listAnswer, listed, moveList, movesOf, noList}
 use Rattle.method.specs.MoveList.{notListed}
-use Rattle.method.specs.Rules.{Call, State, act, answerOf, anyLocked, apply, begin, clearCard, commit, dropHeld, endHeld}
+use Rattle.method.specs.Rules.{Call, act, answerOf, anyLocked, apply, begin, clearCard, commit, dropHeld, endHeld}
 use Rattle.method.specs.Rules.{fail, holders, isProtected, layBlock, lockHolders, look, lostOf, move, moveWrites, nextState}
 use Rattle.method.specs.Rules.{place, plan, refusal, settle, settled, settledAt, start, stopping, store, trail}
 use Rattle.control.specs.ControlBytes.{controlByte, controlOf}

@@ -1,8 +1,8 @@
 -- The bytes of entries in a buffer. Assumes nothing.
 use Prim.Native.Nat.{_*_, _+_, _<_, _≤_, suc, zero, ℕ}
-use lib.ListN.{drop, getD, length, length-append, set, take}
+use lib.ListN.{getD, length, length-append, set, take}
 use lib.Seq.{take-suc}
-use mathlib.Core.List.{List, [], _++_, _∷_}
+use mathlib.Core.List.{List, [], _∷_}
 use mathlib.Core.Path.{_∙_, _≡_, ap, refl, sym}
 use native.Mathlib.Numerals.{add-one}
 use native.Mathlib.Omega.{arith}

@@ -1,12 +1,9 @@
 -- From what the code finds, block by block, to the moves of the rules. Assumes nothing.
-use Prim.Native.Nat.{_+_, _<_, _≤_, suc, zero, ℕ}
-use borrow.Author.Tests.{eq-eqb}
-use lib.Dec.{eqb, ltb}
+use Prim.Native.Nat.{_+_, _<_, suc, zero, ℕ}
 use lib.ListN.{getD, length, length-append, length-map, set}
 use lib.Seq.{getD-set-other, getD-set-same}
 use mathlib.Core.Bool.{Bool, _&&_, false, true}
-use mathlib.Core.List.{List, [], _++_, _∷_, map}
-use mathlib.Core.Logic.{_⊎_, inl, inr}
+use mathlib.Core.List.{List, _++_, map}
 use mathlib.Core.Path.{_∙_, _≡_, ap, ap₂, fun-ext, refl, sym}
 use native.Mathlib.Numerals.{add-one}
 use native.Mathlib.Omega.{arith}
@@ -21,7 +18,7 @@ use Rattle.mask.specs.Masks.{byte, hasCard, members, size}
 use Rattle.mask.specs.Placements.{AreSites, siteList}
 use Rattle.mask.specs.declared.Sites.{Sites}
 use Rattle.mask.proofs.Masks.{size-members}
-use Rattle.slot.specs.Blocks.{anyLocked as anyLockedIn, isHeld}
+use Rattle.slot.specs.Blocks.{anyLocked as anyLockedIn}
 use Rattle.method.specs.MoveList.{Entry, anyMoveLocked, entryAt, isOrigin, moveList, movesOf}
 use Rattle.method.proofs.MoveList.{origin-holds}
 use Rattle.method.specs.Rules.{anyLocked, settledAt}

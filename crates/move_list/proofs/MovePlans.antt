@@ -7,7 +7,7 @@ use mathlib.Core.Bool.{Bool, cond, false, not, true}
 use lib.Seq.{take-length, take-suc}
 use mathlib.Core.List.{List, [], _++_, _∷_, map, map-append}
 use mathlib.Core.Logic.{_≢_, _⊎_, inl, inr}
-use mathlib.Core.Path.{_∙_, _≡_, ap, ap₂, refl, sym}
+use mathlib.Core.Path.{_∙_, _≡_, ap, refl, sym}
 use native.Mathlib.Numerals.{add-one}
 use native.Mathlib.Omega.{arith}
 use Rattle.lists.specs.Tests.{concatMap, numbersBelow}
@@ -18,7 +18,7 @@ use Rattle.lists.proofs.Numbers.{getD-concat}
 use Rattle.image.specs.Layout.{blockCount}
 use Rattle.mask.specs.Masks.{byte, members, size}
 use Rattle.mask.proofs.Masks.{size-members}
-use Rattle.method.specs.MoveList.{Entry, ListAnswer, anyMoveLocked, entryAt, listAnswer, listed, noList, notListed}
+use Rattle.method.specs.MoveList.{Entry, ListAnswer, entryAt, listAnswer, listed, noList, notListed}
 use Rattle.method.specs.Rules.{refusal, state}
 use Rattle.control_form.specs.ControlForm.{formRefusal}
 use Rattle.control.specs.declared.Control.{Control}

@@ -1,6 +1,6 @@
 -- A list of so many entries has room for every list of moves; and the answer to a lent list of any room, from that to such a one. Assumes
 -- nothing.
-use Prim.Native.Nat.{_*_, _+_, _≤_, suc, zero, ℕ}
+use Prim.Native.Nat.{_+_, _≤_, suc, zero, ℕ}
 use borrow.Author.Tests.{le-ltb}
 use lib.Dec.{ltb}
 use lib.ListN.{length, length-map}

@@ -1,6 +1,6 @@
 -- Laws of the masks of cards that hold a block and of those that it must move from. Assumes nothing.
 use Prim.Native.Nat.{_+_, _<_, _≤_, ℕ}
-use borrow.Author.Tests.{eqb-true, eq-eqb, le-ltb, lt-ltb, ltb-true, ne-eqb}
+use borrow.Author.Tests.{eq-eqb, le-ltb, lt-ltb, ltb-true, ne-eqb}
 use lib.Count.{leadingZeros}
 use lib.Dec.{eqb, ltb}
 use mathlib.Core.Bool.{Bool, Bool·beq, _&&_, _||_, and-false, cond, false, not, true}
@@ -9,9 +9,9 @@ use mathlib.Core.Logic.{_≢_, _⊎_, inl, inr}
 use mathlib.Core.Path.{_∙_, _≡_, ap, fun-ext, refl, sym}
 use native.Mathlib.Omega.{arith}
 use Rattle.lists.specs.Tests.{all, allBelow, anyBelow, elem}
-use Rattle.lists.proofs.Bools.{and-in, and-l, and-r, is-not, not-is, same-bool, split, tf}
+use Rattle.lists.proofs.Bools.{and-l, and-r, not-is, same-bool, split, tf}
 use Rattle.lists.proofs.Cases.{by-eq}
-use Rattle.lists.proofs.Counts.{all-below, all-fails, any-below, below-all, below-none}
+use Rattle.lists.proofs.Counts.{all-below, all-fails, below-all, below-none}
 use Rattle.image.specs.Layout.{cardCount}
 use Rattle.mask.specs.Masks.{Byte, byte, hasCard, withCard, withoutCard}
 use Rattle.mask.proofs.Masks.{has-card, has-none, has-with, has-without}

@@ -1,8 +1,8 @@
 -- What the code finds of the moves in an image. Assumes nothing.
 use Prim.Native.Nat.{suc, zero, ℕ}
 use lib.Dec.{eqb, ltb}
-use lib.ListN.{drop, getD, length, replicate}
-use mathlib.Core.Bool.{Bool, cond, false, not, true}
+use lib.ListN.{getD, length, replicate}
+use mathlib.Core.Bool.{cond, false, not}
 use mathlib.Core.List.{List, [], _++_, _∷_, map}
 use mathlib.Core.Path.{_≡_}
 use Rattle.lists.specs.Tests.{concatMap, numbersBelow}

@@ -4,7 +4,7 @@ use lib.ListN.{drop, length, replicate}
 use mathlib.Core.List.{List, _++_, map}
 use mathlib.Core.Path.{_≡_}
 use Rattle.image.specs.Layout.{blockCount, cardCount}
-use Rattle.method.specs.MoveList.{Entry, ListAnswer, listed, noList, notListed}
+use Rattle.method.specs.MoveList.{ListAnswer, listed, noList, notListed}
 use Rattle.cabinet_rules.specs.Images.{Image}
 use Rattle.cabinet_rules.specs.MoveLists.{listAnswerOn, movesOn}
 use Rattle.move_list.specs.Plans.{moveFor}

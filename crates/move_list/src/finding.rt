@@ -1,9 +1,6 @@
 // What the call finds in an image.
 ghost use mathlib.Core.Path.{_≡_};
 ghost use mathlib.Core.Bool.{false};
-ghost use lib.ListN.{replicate};
-ghost use Rattle.image.specs.Layout.{blockCount};
-ghost use Rattle.cabinet_rules.specs.Images.{controlIn};
 ghost use Rattle.promise.specs.Given.{Given};
 ghost use Rattle.move_list.specs.Plans.{Finds, refusedPlan};
 use crate::Plan;

@@ -3,7 +3,7 @@ use mathlib.Core.Bool.{false, true}
 use mathlib.Core.Path.{_∙_, _≡_, ap, refl, sym}
 use Rattle.lists.proofs.Bools.{tf}
 use Rattle.method.specs.OneRecordList.{isStop}
-use Rattle.method.specs.Rules.{fail, state}
+use Rattle.method.specs.Rules.{fail}
 use Rattle.cabinet_rules.specs.Cabinet.{cabinet}
 use Rattle.cabinet_rules.specs.Images.{answer}
 use Rattle.cabinet_rules.proofs.Protection.{safe-of, stop-of}

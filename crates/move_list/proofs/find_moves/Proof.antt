@@ -1,6 +1,6 @@
 -- The proof of `find_moves`. Assumes nothing.
 use borrow.Author.Needs.{needs}
-use mathlib.Core.Path.{ap, subst, sym}
+use mathlib.Core.Path.{subst, sym}
 use Rattle.promise.proofs.Finish.{given}
 use Rattle.move_list.specs.Plans.{Plans}
 use Rattle.move_list.specs.declared.Plan.{Plan}

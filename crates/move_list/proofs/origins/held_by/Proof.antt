@@ -1,9 +1,8 @@
 -- The proof of `origins::held_by`. Assumes nothing.
-use Prim.Native.Nat.{_-_, _≤_, ℕ}
+use Prim.Native.Nat.{_-_, _≤_}
 use borrow.Author.Needs.{needs}
 use lib.Dec.{ltb}
 use mathlib.Core.Bool.{_&&_}
-use mathlib.Core.Path.{_∙_, _≡_, ap, sym}
 use native.Mathlib.Omega.{arith}
 use Rattle.image.specs.Layout.{cardCount}
 use Rattle.mask.specs.Masks.{byte}

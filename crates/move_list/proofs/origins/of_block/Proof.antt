@@ -1,5 +1,4 @@
 -- The proof of `origins::of_block`. Assumes nothing.
-use borrow.Author.Needs.{needs}
 use mathlib.Core.Path.{_∙_}
 use Rattle.mask.proofs.SiteLaws.{first-fits, second-fits}
 use Rattle.promise.proofs.Finish.{given-whole}
