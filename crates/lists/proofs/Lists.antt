@@ -107,6 +107,14 @@ module _ {A : Type 0} where
   all-in f [] h = refl
   all-in f (x ∷ l) h = and-in (f x) (all f l) (h x (inl refl)) (all-in f l (λ y m. h y (inr m)))
 
+-- of lists with the same elements all pass a test or none does
+pub all-same : (f : ℕ → Bool) (l m : List ℕ) → ((c : ℕ) → elem c l ≡ elem c m) → all f l ≡ all f m
+all-same f l m e = same-test (all f l) (all f m) (one l m e) (one m l (λ c. sym (e c)))
+  where
+    one : (l m : List ℕ) → ((c : ℕ) → elem c l ≡ elem c m) → all f l ≡ true → all f m ≡ true
+    one l m e h = all-in f m (λ x i. all-out f l x h (elem-in x l (e x ∙ in-elem x m i)))
+
+module _ {A : Type 0} where
   -- of two lists, one behind the other, the kept elements stand so too
   pub keep-append : (f : A → Bool) (l m : List A) → keepIf f (l ++ m) ≡ keepIf f l ++ keepIf f m
   keep-append f [] m = refl

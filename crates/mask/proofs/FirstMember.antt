@@ -6,7 +6,8 @@ use Prim.Native.Nat.{ℕ, _<_}
 use lib.Count.{leadingZeros}
 use lib.Dec.{ltb, eqb}
 use lib.ListN.{length, getD, drop}
-use borrow.Author.Tests.{eqb-true, ltb-true, lt-ltb}
+use mathlib.Core.Logic.{_≢_}
+use borrow.Author.Tests.{eqb-true, ltb-true, lt-ltb, ne-eqb}
 use Rattle.lists.specs.Tests.{allBelow}
 use Rattle.lists.proofs.Bools.{tf, and-l, and-r, imp-out}
 use Rattle.lists.proofs.Counts.{below-all}
@@ -26,6 +27,19 @@ same-list [] [] e = refl
 same-list [] (y ∷ m) e = tf false e refl
 same-list (x ∷ l) [] e = tf false e refl
 same-list (x ∷ l) (y ∷ m) e = ap₂ _∷_ (eqb-true x y (and-l (eqb x y) _ e)) (same-list l m (and-r (eqb x y) _ e))
+
+-- The mask 0 has no member, and every other one has some.
+pub no-members : (n : ℕ) → n ≡ 0 → members (byte n) ≡ []
+unfolding members hasCard
+no-members n e = rw e
+
+test-some : allBelow 256 (λ n. eqb n 0 || ltb 0 (length (members (byte n)))) ≡ true
+unfolding members hasCard
+test-some = refl
+
+pub some-members : (n : ℕ) → n < 256 → n ≢ 0 → 0 < length (members (byte n))
+some-members n h d = ltb-true 0 (length (members (byte n)))
+    (rw (ne-eqb n 0 d) at (below-all 256 (λ n. eqb n 0 || ltb 0 (length (members (byte n)))) n test-some h))
 
 -- The count of leading zeros is the first member, of a mask that has one.
 firstIs : ℕ → Bool

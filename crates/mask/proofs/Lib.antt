@@ -2,3 +2,4 @@ pub mod Masks
 pub mod Sets
 pub mod FirstMember
 pub mod SiteLaws
+pub mod SiteTables

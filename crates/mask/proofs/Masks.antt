@@ -1,8 +1,9 @@
 -- Laws of masks as sets of cards. Facts of one mask and a card are computed, all cases; facts of two go bit by bit. Assumes nothing.
 use mathlib.Core.Path.{_≡_, refl, sym, ap, _∙_, subst, fun-ext}
-use mathlib.Core.Logic.{_⊎_, inl, inr}
-use mathlib.Core.Bool.{Bool, true, false, not, _&&_, _||_, Bool·beq}
+use mathlib.Core.Logic.{_≢_, _⊎_, inl, inr}
+use mathlib.Core.Bool.{Bool, true, false, not, _&&_, _||_, cond, Bool·beq}
 use mathlib.Core.HLevel.{Σ-prop-path}
+use mathlib.Core.List.{List, [], _∷_}
 use Prim.Native.Nat.{ℕ, _+_, _-_, _*_, _/_, _%_, _^_, _≤_, _<_}
 use native.Mathlib.Bridge.{le-prop}
 use native.Mathlib.Nat.{mod-eq-of-lt, div-eq-of-lt, div-le-self}
@@ -11,12 +12,14 @@ use lib.Bits.{bitAnd, bitOr, and-shr, and-mod, or-shr, or-mod, and-le-l, or-lt}
 use lib.Dec.{ltb, eqb}
 use lib.ListN.{length}
 use lib.Pow.{pow-mono}
-use borrow.Author.Tests.{eqb-true, ne-eqb, ltb-true, ltb-false}
-use Rattle.lists.specs.Tests.{oneIf, allBelow}
-use Rattle.lists.proofs.Bools.{tf, and-l, not-is, same-bool, split}
+use borrow.Author.Tests.{eq-eqb, eqb-true, le-ltb, lt-ltb, ne-eqb, ltb-true, ltb-false}
+use Rattle.lists.specs.Tests.{oneIf, allBelow, elem}
+use Rattle.lists.proofs.Bools.{tf, and-l, not-is, same-bool, same-test, split}
+use Rattle.lists.proofs.Cases.{by-eq}
 use Rattle.lists.proofs.Counts.{below-all, at-pair}
+use Rattle.lists.proofs.Lists.{elem-keep, keep-elem}
 use Rattle.image.specs.Layout.{cardCount}
-use Rattle.mask.specs.Masks.{Byte, byte, bitOf, hasCard, noCards, withCard, withoutCard, members, size}
+use Rattle.mask.specs.Masks.{AreMembers, Byte, byte, bitOf, hasCard, noCards, withCard, withoutCard, members, size}
 
 -- A byte is its number.
 pub byte-path : (a b : Byte) → a .0 ≡ b .0 → a ≡ b
@@ -171,3 +174,42 @@ test-size = refl
 
 pub size-members : (m : Byte) → length (members m) ≡ size m
 size-members m = eqb-true _ _ (every-mask (λ m. eqb (length (members m)) (size m)) test-size m)
+
+-- The list of members has the members.
+abbrev cards : List ℕ
+cards = 0 ∷ 1 ∷ 2 ∷ 3 ∷ 4 ∷ 5 ∷ 6 ∷ 7 ∷ []
+
+test-cards : allBelow cardCount (λ c. elem c cards) ≡ true
+test-cards = refl
+
+pub elem-members : (m : Byte) (c : ℕ) → elem c (members m) ≡ hasCard m c
+unfolding members
+elem-members m c = same-test (elem c (members m)) (hasCard m c) (λ e. elem-keep (hasCard m) c cards e .0)
+    (λ e. keep-elem (hasCard m) c cards e (below-all cardCount (λ c. elem c cards) c test-cards (has-card m c e)))
+
+-- ---- a mask that is made card by card
+-- The members are the cards below c that f picks: none below 0; with c, where f picks it, those below c + 1.
+pub none-below : (f : ℕ → Bool) → AreMembers 0 (λ x. ltb x 0 && f x)
+none-below f x = has-none x ∙ sym (ap (λ (t : Bool). t && f x) (le-ltb x 0 (omega arith)))
+
+module _ (f : ℕ → Bool) (m r c : ℕ) (hc : c < cardCount) (below : AreMembers m (λ x. ltb x c && f x)) where
+  same : (x : ℕ) → x ≢ c → hasCard (byte m) x ≡ (ltb x (c + 1) && f x)
+  same x d = below x ∙ ap (λ (t : Bool). t && f x) (step (split (ltb x c)))
+    where
+      step : (ltb x c ≡ true) ⊎ (ltb x c ≡ false) → ltb x c ≡ ltb x (c + 1)
+      step (inl e) = e ∙ sym (lt-ltb x (c + 1) (let h = ltb-true x c e in omega arith))
+      step (inr e) = e ∙ sym (le-ltb x (c + 1) (over x c d (λ h. tf (ltb x c) (lt-ltb x c h) e)))
+        where
+          over : (x c : ℕ) → x ≢ c → (x < c → ⊥) → c + 1 ≤ x
+          over x c d n = omega (arith, d, n)
+
+  pub card-more : (on : Bool) → on ≡ f c → byte r ≡ cond on (withCard (byte m) c) (byte m) → AreMembers r (λ x. ltb x (c + 1) && f x)
+  card-more on o e x = ap (λ (b : Byte). hasCard b x) e ∙ go on o
+    where
+      go : (t : Bool) → t ≡ f c → hasCard (cond t (withCard (byte m) c) (byte m)) x ≡ (ltb x (c + 1) && f x)
+      go true o = has-with (byte m) c x (lt-ltb c cardCount hc) ∙ by-eq ((eqb x c || hasCard (byte m) x) ≡ (ltb x (c + 1) && f x)) x c
+          (λ p. rw (eq-eqb x c p, p, lt-ltb c (c + 1) (omega arith)) o)
+          (λ d. rw (ne-eqb x c d) (same x d))
+      go false o = by-eq (hasCard (byte m) x ≡ (ltb x (c + 1) && f x)) x c
+          (λ p. below x ∙ rw (p, le-ltb c c (omega arith), lt-ltb c (c + 1) (omega arith)) o)
+          (λ d. same x d)

@@ -9,7 +9,7 @@ use lib.Count.{ones, onesIn, leadingZeros}
 use lib.Dec.{ltb, eqb}
 use borrow.Author.Tests.{eqb-true, le-ltb, lt-ltb}
 use Rattle.lists.specs.Tests.{count, allBelow, anyBelow}
-use Rattle.lists.proofs.Bools.{and-l, and-r, and-in, imp-out, not-is, same-bool, same-test}
+use Rattle.lists.proofs.Bools.{and-l, and-r, and-in, and-when, imp-out, not-is, same-bool, same-test}
 use Rattle.lists.proofs.Counts.{below-all, at-pair, count-none, count-part, any-below, any-below-out}
 use Rattle.image.specs.Layout.{cardCount}
 use Rattle.mask.specs.Masks.{
@@ -97,6 +97,11 @@ test-lacks = refl
 
 lacks : (m : Byte) (c : ℕ) → c < cardCount → hasCard (byte (255 - m .0)) c ≡ not (hasCard m c)
 lacks m c h = same-bool _ _ (every-pair cardCount (λ m c. Bool·beq (hasCard (byte (255 - m .0)) c) (not (hasCard m c))) test-lacks m c h)
+
+pub has-others : (a b : ℕ) → a < 256 → b < 256 → (c : ℕ) → hasCard (byte (bitAnd a (255 - b))) c ≡ (hasCard (byte a) c && not (hasCard (byte b) c))
+has-others a b ha hb c = has-both a (255 - b) ha (omega arith) c
+    ∙ and-when (hasCard (byte a) c) (hasCard (byte (255 - b)) c) (not (hasCard (byte b) c))
+    (λ e. ap (λ (n : ℕ). hasCard (byte (255 - n)) c) (sym (mod-eq-of-lt hb)) ∙ lacks (byte b) c (has-card (byte a) c e))
 
 test-first : allBelow 256 (λ n. not (ltb (leadingZeros 8 (byte n .0)) cardCount) || hasCard (byte n) (leadingZeros 8 (byte n .0))) ≡ true
 unfolding leadingZeros hasCard

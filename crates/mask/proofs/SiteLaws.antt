@@ -1,6 +1,6 @@
 -- The sites of a block: two different members. Assumes nothing.
 use mathlib.Core.Path.{_≡_, refl, sym, ap, ap₂, _∙_, fun-ext}
-use mathlib.Core.Logic.{_⊎_, inl, inr}
+use mathlib.Core.Logic.{_≢_, _⊎_, inl, inr}
 use mathlib.Core.Bool.{Bool, true, false, not, _&&_, _||_, cond}
 use mathlib.Core.List.{[], _∷_}
 use Prim.Native.Nat.{ℕ, _+_, _-_, _%_, _≤_, _<_}
@@ -19,6 +19,7 @@ use Rattle.mask.specs.Masks.{Byte, byte, hasCard, members, size}
 use Rattle.mask.specs.declared.Sites.{Sites}
 use Rattle.mask.specs.Placements.{AreSites, Placement, Usable, acrossRails, chainedSites, fromMask, memberAt, membersAfter}
 use Rattle.mask.specs.Placements.{olderFromMask, onBothRails, onOneRail, otherRail, railSites, siteList, sitesOf}
+use Rattle.mask.proofs.FirstMember.{some-members}
 use Rattle.mask.proofs.Masks.{every-mask, every-pair, has-card, size-members}
 
 -- Eight members at most.
@@ -44,6 +45,10 @@ pub member-is : (m : Byte) (i : ℕ) → i < length (members m) → hasCard m (g
 unfolding memberIs
 member-is m i h = imp-out _ _
     (every-pair cardCount memberIs test-member m i (omega (arith, few-members m))) (lt-ltb i (length (members m)) h)
+
+-- A mask that is not 0 has a card.
+pub some-card : (n : ℕ) → n < 256 → n ≢ 0 → (c : ℕ) × (hasCard (byte n) c ≡ true)
+some-card n h d = (getD (members (byte n)) 0 0, member-is (byte n) 0 (some-members n h d))
 
 nextDiffers : Byte → ℕ → Bool
 nextDiffers m i = not (leb copyCount (length (members m)) && ltb i (length (members m)))
@@ -103,12 +108,17 @@ across-round m b =
     next : (j : ℕ) → memberAt m (b % n + 1 + j) ≡ memberAt m (b + 1 + j)
     next j = ap (memberAt m) (omega arith) ∙ member-round m b (1 + j) ∙ ap (memberAt m) (omega arith)
 
+first-round : (m : Byte) (b : ℕ) → memberAt m (b % length (members m)) ≡ memberAt m b
+first-round m b = ap (memberAt m) (omega arith) ∙ member-round m b 0 ∙ ap (memberAt m) (omega arith)
+
+-- So do the sites.
+pub site-round : (p : Placement) (b : ℕ) → sitesOf p (b % length (members (p .mask))) ≡ sitesOf p b
+unfolding sitesOf railSites chainedSites
+site-round p b = rw (first-round (p .mask) b, across-round (p .mask) b, member-round (p .mask) b 1)
+
 module _ (m : Byte) (b : ℕ) (u : copyCount ≤ length (members m)) where
   some : 0 < length (members m)
   some = omega arith
-
-  first-round : memberAt m (b % length (members m)) ≡ memberAt m b
-  first-round = ap (memberAt m) (omega arith) ∙ member-round m b 0 ∙ ap (memberAt m) (omega arith)
 
   -- what was tried, once round
   good : Bool
@@ -122,7 +132,7 @@ module _ (m : Byte) (b : ℕ) (u : copyCount ≤ length (members m)) where
 
   tried : (good && (crossed && found)) ≡ true
   unfolding acrossIs good crossed found
-  tried = rw (across-round m b, first-round, member-round m b 1) at
+  tried = rw (across-round m b, first-round m b, member-round m b 1) at
       (imp-out _ _ (every-pair cardCount acrossIs test-across m (b % length (members m)) (omega (arith, few-members m, mod-lt b some)))
       (and-in _ _ (le-leb copyCount (length (members m)) u) (lt-ltb (b % length (members m)) (length (members m)) (mod-lt b some))))
 

@@ -1,4 +1,5 @@
 -- A mask: a set of cards in eight bits, card 0 the highest (80 hex). Assumes nothing.
+use mathlib.Core.Path.{_≡_}
 use mathlib.Core.Bool.{Bool, not, _&&_, _||_}
 use mathlib.Core.List.{List, [], _∷_}
 use Prim.Native.Nat.{ℕ, _-_, _/_, _%_, _^_, _<_}
@@ -39,6 +40,10 @@ members m = keepIf (hasCard m) (0 ∷ 1 ∷ 2 ∷ 3 ∷ 4 ∷ 5 ∷ 6 ∷ 7 ∷ 
 
 unfoldable pub size : Byte → ℕ
 size m = count cardCount (hasCard m)
+
+-- The members of the mask are the cards that f picks.
+abbrev pub AreMembers : ℕ → (ℕ → Bool) → Type 0
+AreMembers m f = (c : ℕ) → hasCard (byte m) c ≡ f c
 
 -- How many cards are in both.
 unfoldable pub common : Byte → Byte → ℕ

@@ -1,6 +1,6 @@
 // Masks of cards, and placements: what comes from a mask alone.
 ghost use mathlib.Core.Path.{_≡_};
-ghost use mathlib.Core.Bool.{cond};
+ghost use mathlib.Core.Bool.{_&&_, cond, not};
 ghost use mathlib.Core.List.{_∷_, []};
 ghost use Prim.Native.Nat.{_<_, _≤_};
 ghost use lib.Bits.{bitAnd};
@@ -8,6 +8,7 @@ ghost use lib.Dec.{leb};
 ghost use lib.ListN.{length, getD, drop};
 ghost use Rattle.image.specs.Layout.{cardCount, blockCount, copyCount};
 ghost use Rattle.mask.specs.Masks.{
+  AreMembers,
   byte,
   bitOf,
   hasCard,
@@ -31,6 +32,9 @@ ghost use Rattle.mask.specs.Placements.{
   otherRail,
   sitesOf,
 };
+
+pub mod site_table;
+
 use image::Block;
 use image::Card;
 
@@ -114,6 +118,13 @@ pub fn without_card(mask: u8, card: Card) -> u8
     ensures { λ r. ⌜ byte r ≡ withoutCard (byte mask) (card .0) ⌝ }
 {
     mask & (ALL_BITS - bit_of(card))
+}
+
+// The members of a that b lacks.
+pub fn without(a: u8, b: u8) -> u8
+    ensures { λ r. ⌜ AreMembers r (λ c. hasCard (byte a) c && not (hasCard (byte b) c)) ⌝ }
+{
+    a & (ALL_BITS - b)
 }
 
 // Whether the mask is the base plus exactly one failed card: the first member that the base lacks.

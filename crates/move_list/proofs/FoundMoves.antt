@@ -1,27 +1,25 @@
 -- From what the code finds, block by block, to the moves of the rules. Assumes nothing.
 use Prim.Native.Nat.{_+_, _<_, suc, zero, ℕ}
-use lib.ListN.{getD, length, length-append, length-map, set}
-use lib.Seq.{getD-set-other, getD-set-same}
+use lib.ListN.{getD, length, length-append, length-map}
 use mathlib.Core.Bool.{Bool, _&&_, false, true}
 use mathlib.Core.List.{List, _++_, map}
 use mathlib.Core.Path.{_∙_, _≡_, ap, ap₂, fun-ext, refl, sym}
 use native.Mathlib.Numerals.{add-one}
 use native.Mathlib.Omega.{arith}
-use Rattle.lists.specs.Tests.{any, anyBelow, concatMap, keepIf, numbersBelow}
+use Rattle.lists.specs.Tests.{any, anyBelow, concatMap, elem, keepIf, numbersBelow}
 use Rattle.lists.proofs.Bools.{and-l, and-when, tf}
-use Rattle.lists.proofs.Cases.{by-eq}
 use Rattle.lists.proofs.Counts.{any-below}
 use Rattle.lists.proofs.Lists.{any-map, concat-more}
 use Rattle.lists.proofs.Numbers.{any-concat-below, any-keep-below}
 use Rattle.image.specs.Layout.{blockCount, cardCount}
-use Rattle.mask.specs.Masks.{byte, hasCard, members, size}
-use Rattle.mask.specs.Placements.{AreSites, siteList}
-use Rattle.mask.specs.declared.Sites.{Sites}
-use Rattle.mask.proofs.Masks.{size-members}
-use Rattle.slot.specs.Blocks.{anyLocked as anyLockedIn}
+use Rattle.mask.specs.Masks.{AreMembers, byte, hasCard, members, size}
+use Rattle.mask.specs.SiteTable.{isSite}
+use Rattle.mask.proofs.Masks.{elem-members, size-members}
+use Rattle.mask.proofs.SiteTables.{MasksBelow}
+use Rattle.slot.specs.Blocks.{anyLocked as anyLockedIn, isHeld}
 use Rattle.method.specs.MoveList.{Entry, anyMoveLocked, entryAt, isOrigin, moveList, movesOf}
 use Rattle.method.proofs.MoveList.{origin-holds}
-use Rattle.method.specs.Rules.{anyLocked, settledAt}
+use Rattle.method.specs.Rules.{anyLocked, newestSites, settledAt}
 use Rattle.control.specs.Meaning.{meaning}
 use Rattle.control.specs.declared.Control.{Control}
 use Rattle.cabinet_rules.specs.Cabinet.{cabinet}
@@ -33,8 +31,9 @@ use Rattle.trail.specs.Trail.{holdsAt}
 use Rattle.trail.proofs.Holding.{holds-seen}
 use Rattle.reorganise.specs.Reorganise.{blockSettled}
 use Rattle.reorganise.proofs.Looks.{newest-are}
-use Rattle.move_list.specs.Origins.{AreMembers, originOf}
+use Rattle.move_list.specs.Origins.{originOf}
 use Rattle.move_list.specs.Plans.{Finds, movesAt, movesIn}
+use Rattle.move_list.proofs.OriginMasks.{same-origins}
 
 -- The cards that block b of an image must move from, and its moves, by the rules.
 abbrev pub origin : Image → ℕ → ℕ → Bool
@@ -46,10 +45,11 @@ movesOfBlock g b = movesOf cabinet (controlIn g) (viewOf g) b
 -- ---- one block
 module _ (k : Control) (g : Image) (is : Given k g) where
   -- the code's sites and holders are the rules'
-  pub origin-is : (b : ℕ) → b < blockCount → (s : Sites) → AreSites s (meaning k .newest) b → (held : ℕ) → AreMembers held (holdsAt g (byte (k .working)) b)
-      → (c : ℕ) → originOf (siteList s) (hasCard (byte held)) c ≡ origin g b c
+  pub origin-is : (b sites : ℕ) → b < blockCount → AreMembers sites (isSite (meaning k .newest) b)
+      → (c : ℕ) → originOf (members (byte sites)) (holdsAt g (byte (k .working)) b) c ≡ origin g b c
   unfolding originOf isOrigin settledAt blockSettled
-  origin-is b h s at held m c = ap₂ (λ (l : List ℕ) (f : ℕ → Bool). originOf l f c) (at .listed ∙ newest-are k g is b) (fun-ext (λ x. m x ∙ holds-seen k g is b x h))
+  origin-is b sites h s c = ap (λ (f : ℕ → Bool). originOf (members (byte sites)) f c) (fun-ext (λ x. holds-seen k g is b x h))
+      ∙ same-origins (members (byte sites)) (newestSites cabinet (controlIn g) b) (λ x. elem-members (byte sites) x ∙ s x ∙ ap (elem x) (newest-are k g is b)) (λ x. isHeld (viewOf g x b)) c
 
 module _ (g : Image) (b from : ℕ) (hb : b < blockCount) (m : AreMembers from (origin g b)) where
   -- its moves are of the members of the mask
@@ -78,10 +78,6 @@ movesBelow g n = concatMap (movesOfBlock g) (numbersBelow n)
 unfoldable pub lockedBlock : Image → ℕ → Bool
 lockedBlock g b = any (λ e. anyLocked cabinet (viewOf g (e .card) (e .block))) (movesOfBlock g b)
 
--- The masks of the first n blocks.
-abbrev pub MasksBelow : Image → List ℕ → ℕ → Type 0
-MasksBelow g origins n = (j : ℕ) → j < n → AreMembers (getD origins j 0) (origin g j)
-
 pub count-none : (g : Image) → 0 ≡ length (movesBelow g 0)
 unfolding movesBelow
 count-none g = refl
@@ -91,11 +87,6 @@ unfolding movesBelow
 count-more g b from hb m = sym (ap (λ (n : ℕ). length (concatMap (movesOfBlock g) (numbersBelow n))) (add-one b)
     ∙ ap length (concat-more (movesOfBlock g) (numbersBelow b) b) ∙ length-append (concatMap (movesOfBlock g) (numbersBelow b)) (movesOfBlock g b)
     ∙ ap (λ (n : ℕ). length (concatMap (movesOfBlock g) (numbersBelow b)) + n) (count-of-block g b from hb m))
-
-pub masks-more : (g : Image) (origins : List ℕ) (b from : ℕ) → b < length origins → MasksBelow g origins b → AreMembers from (origin g b) → MasksBelow g (set origins b from) (b + 1)
-masks-more g origins b from long below m j h c = by-eq (hasCard (byte (getD (set origins b from) j 0)) c ≡ origin g j c) j b
-    (λ e. rw (e, getD-set-same origins b from 0 long) (m c))
-    (λ d. rw (getD-set-other origins b j from 0 d) (below j (omega arith) c))
 
 pub block-locked : (g : Image) (b from : ℕ) → b < blockCount → AreMembers from (origin g b)
     → anyBelow cardCount (λ c. hasCard (byte from) c && anyLockedIn (blockIn g c b)) ≡ lockedBlock g b
@@ -114,7 +105,7 @@ none-locked : (g : Image) (n : ℕ) → n ≡ blockCount → anyBelow n (lockedB
 none-locked g n e h = sym (any-locked-is g ∙ ap (λ (m : ℕ). anyBelow m (lockedBlock g)) (sym e) ∙ h)
 
 -- the masks of all blocks stand for the moves of the image
-all-moves : (g : Image) (origins : List ℕ) (n : ℕ) → n ≡ blockCount → MasksBelow g origins n → movesIn origins ≡ movesOn g
+all-moves : (g : Image) (origins : List ℕ) (n : ℕ) → n ≡ blockCount → MasksBelow (origin g) origins n → movesIn origins ≡ movesOn g
 unfolding movesIn moveList
 all-moves g origins n e below = concat-below blockCount (λ b h. sym (moves-are-members g b (getD origins b 0) h (below b (omega arith))))
   where
@@ -136,7 +127,7 @@ finds-locked g o b h e = record {
   count-is = λ z. tf true refl z;
 }
 
-pub finds-moves : (g : Image) (o : List ℕ) (n count : ℕ) → n ≡ blockCount → count ≡ length (movesBelow g n) → MasksBelow g o n
+pub finds-moves : (g : Image) (o : List ℕ) (n count : ℕ) → n ≡ blockCount → count ≡ length (movesBelow g n) → MasksBelow (origin g) o n
     → anyBelow n (lockedBlock g) ≡ false → Finds (record { refusal = 0; locked = false; count = count; origins = o }) g
 finds-moves g o n count e c below free = record {
   clear = refl;

@@ -2,15 +2,9 @@
 use Prim.Native.Nat.{ℕ}
 use mathlib.Core.Bool.{Bool, _&&_, cond, not}
 use mathlib.Core.List.{List}
-use mathlib.Core.Path.{_≡_}
 use Rattle.lists.specs.Tests.{anyBelow, elem}
 use Rattle.image.specs.Layout.{cardCount}
-use Rattle.mask.specs.Masks.{byte, hasCard}
 use Rattle.reorganise.specs.Reorganise.{blockSettled}
-
--- The members of the mask are the cards that f picks.
-abbrev pub AreMembers : ℕ → (ℕ → Bool) → Type 0
-AreMembers m f = (c : ℕ) → hasCard (byte m) c ≡ f c
 
 -- The card holds the block and is none of the sites; it is the lowest that holds it.
 abbrev pub strayOf : List ℕ → (ℕ → Bool) → ℕ → Bool

@@ -1,3 +1,4 @@
 pub mod Looks
 pub mod Moves
 pub mod Settles
+pub mod SettledMasks

@@ -2,16 +2,16 @@
 use Prim.Native.Nat.{_-_, _<_, ℕ}
 use lib.ListN.{length}
 use mathlib.Core.Bool.{Bool, false, not, true}
-use mathlib.Core.List.{List}
-use mathlib.Core.Path.{_∙_, _≡_, ap, ap₂, fun-ext, sym}
-use Rattle.lists.specs.Tests.{allBelow}
+use mathlib.Core.Path.{_∙_, _≡_, ap, fun-ext, sym}
+use Rattle.lists.specs.Tests.{allBelow, elem}
 use Rattle.lists.proofs.Counts.{all-fails}
-use Rattle.image.specs.Layout.{blockCount, cardCount}
-use Rattle.mask.specs.Masks.{byte}
-use Rattle.mask.specs.Placements.{AreSites, siteList}
-use Rattle.mask.specs.declared.Sites.{Sites}
+use Rattle.image.specs.Layout.{blockCount}
+use Rattle.mask.specs.Masks.{AreMembers, byte, hasCard, members}
+use Rattle.mask.specs.SiteTable.{isSite}
+use Rattle.mask.proofs.Masks.{elem-members}
+use Rattle.slot.specs.Blocks.{isHeld}
 use Rattle.method.specs.ControlPart.{onlyNewest}
-use Rattle.method.specs.Rules.{View, act, refusal, retired, row, settle, settled, settledAt, unwritten}
+use Rattle.method.specs.Rules.{View, act, newestSites, refusal, retired, row, settle, settled, settledAt, unwritten}
 use Rattle.control.specs.ControlBytes.{Part}
 use Rattle.control.specs.Meaning.{meaning, placementIn}
 use Rattle.control.specs.declared.Control.{Control}
@@ -22,17 +22,9 @@ use Rattle.promise.specs.Given.{Given, rowsOn, viewOf}
 use Rattle.promise.proofs.SharedRows.{stopped-is}
 use Rattle.trail.specs.Trail.{holdsAt}
 use Rattle.trail.proofs.Holding.{holds-seen}
-use Rattle.reorganise.specs.Reorganise.{blockSettled, cardSettled}
+use Rattle.reorganise.specs.Reorganise.{blockSettled}
 use Rattle.reorganise.proofs.Looks.{newest-are}
-
--- ---- a block: some card fails, or all pass
-pub block-fails : (sites : List ℕ) (holds : ℕ → Bool) (c : ℕ) → c < cardCount → cardSettled sites holds c ≡ false → false ≡ blockSettled sites holds
-unfolding blockSettled
-block-fails sites holds c h e = sym (all-fails (cardSettled sites holds) cardCount c h e)
-
-pub block-passes : (sites : List ℕ) (holds : ℕ → Bool) (n : ℕ) → n ≡ cardCount → allBelow n (cardSettled sites holds) ≡ true → true ≡ blockSettled sites holds
-unfolding blockSettled
-block-passes sites holds n e h = sym (ap (λ (m : ℕ). allBelow m (cardSettled sites holds)) (sym e) ∙ h)
+use Rattle.reorganise.proofs.SettledMasks.{same-sites}
 
 -- ---- all blocks
 pub some-fails : (k : Part) (v : View cabinet) (b : ℕ) → b < blockCount → settledAt cabinet k v b ≡ false → false ≡ settled cabinet k v
@@ -44,10 +36,11 @@ unfolding settled
 all-pass k v n e h = sym (ap (λ (m : ℕ). allBelow m (settledAt cabinet k v)) (sym e) ∙ h)
 
 module _ (k : Control) (g : Image) (is : Given k g) where
-  pub block-is-settled : (b : ℕ) → b < blockCount → (s : Sites) → AreSites s (meaning k .newest) b
-      → blockSettled (siteList s) (holdsAt g (byte (k .working)) b) ≡ settledAt cabinet (controlIn g) (viewOf g) b
+  pub block-is-settled : (b held sites : ℕ) → b < blockCount → AreMembers held (holdsAt g (byte (k .working)) b) → AreMembers sites (isSite (meaning k .newest) b)
+      → blockSettled (members (byte sites)) (hasCard (byte held)) ≡ settledAt cabinet (controlIn g) (viewOf g) b
   unfolding settledAt blockSettled
-  block-is-settled b h s at = ap₂ blockSettled (at .listed ∙ newest-are k g is b) (fun-ext (λ c. holds-seen k g is b c h))
+  block-is-settled b held sites h m s = ap (blockSettled (members (byte sites))) (fun-ext (λ c. m c ∙ holds-seen k g is b c h))
+      ∙ same-sites (members (byte sites)) (newestSites cabinet (controlIn g) b) (λ c. elem-members (byte sites) c ∙ s c ∙ ap (elem c) (newest-are k g is b)) (λ c. isHeld (viewOf g c b))
 
   pub settle-rows : row 4 (k .stopped) (row 13 (not (settled cabinet (controlIn g) (viewOf g))) 0) ≡ rowsOn settle g
   unfolding refusal

@@ -1,6 +1,7 @@
 -- The holders as the code finds them, placement by placement, are those of the rules. Assumes nothing.
 use Prim.Native.Nat.{_%_, _+_, _-_, _<_, _≤_, suc, zero, ℕ}
-use lib.Dec.{leb}
+use borrow.Author.Tests.{lt-ltb}
+use lib.Dec.{leb, ltb}
 use lib.ListN.{getD, length-set, set, take}
 use lib.Seq.{getD-set-other, getD-set-same, take-suc-set}
 use mathlib.Core.Bool.{Bool, _&&_, and-false, cond, false, not, true}
@@ -15,7 +16,8 @@ use Rattle.lists.proofs.Bools.{split}
 use Rattle.lists.proofs.Cases.{by-eq}
 use Rattle.lists.proofs.Lists.{concat-more, keep-append}
 use Rattle.image.specs.Layout.{blockAddress, blockCount, cardCount}
-use Rattle.mask.specs.Masks.{byte, hasCard}
+use Rattle.mask.specs.Masks.{AreMembers, Byte, byte, hasCard}
+use Rattle.mask.proofs.Masks.{has-card}
 use Rattle.mask.specs.Placements.{Placement, Usable, sitesOf}
 use Rattle.slot.specs.Blocks.{byteIn, isHeld}
 use Rattle.slot.proofs.Blocks.{byte-in}
@@ -144,3 +146,21 @@ module _ (k : Control) (g : Image) (given : Given k g) where
   pub first-all : (b : ℕ) → firstHolders g b k (k .count) ≡ holdersIn g b
   unfolding firstHolders holders trail
   first-all b = ap (λ (l : List Placement). keepIf (holdsSeen g b) (keepIf (notFailed g) (concatMap (λ p. sitesOf p b) l))) (sym active-first)
+
+-- ---- the working cards that hold a block
+module _ (g : Image) (w : Byte) (b c : ℕ) where
+  pub works-holds : (on : Bool) → hasCard w c ≡ true → on ≡ isHeld (blockIn g c b) → on ≡ holdsAt g w b c
+  unfolding holdsAt
+  works-holds on h e = e ∙ sym (rw h)
+
+  pub idle-holds : hasCard w c ≡ false → false ≡ holdsAt g w b c
+  unfolding holdsAt
+  idle-holds h = sym (rw h)
+
+pub all-held : (g : Image) (w : Byte) (b held n : ℕ) → n ≡ cardCount → AreMembers held (λ x. ltb x n && holdsAt g w b x) → AreMembers held (holdsAt g w b)
+unfolding holdsAt
+all-held g w b held n e inv x = inv x ∙ ap (λ (k : ℕ). ltb x k && holdsAt g w b x) e ∙ go (split (hasCard w x))
+  where
+    go : (hasCard w x ≡ true) ⊎ (hasCard w x ≡ false) → (ltb x cardCount && (hasCard w x && isHeld (blockIn g x b))) ≡ (hasCard w x && isHeld (blockIn g x b))
+    go (inl h) = rw (lt-ltb x cardCount (has-card w x h))
+    go (inr h) = rw h (and-false (ltb x cardCount))

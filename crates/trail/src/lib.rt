@@ -4,12 +4,12 @@ ghost use mathlib.Core.List.{_++_, _∷_, []};
 ghost use Prim.Native.Nat.{_+_, _<_, _≤_};
 ghost use Rattle.lists.specs.Tests.{keepIf};
 ghost use Rattle.image.specs.Layout.{Whole, blockCount, cardCount, copyCount};
-ghost use Rattle.mask.specs.Masks.{byte};
+ghost use Rattle.mask.specs.Masks.{AreMembers, byte};
 ghost use Rattle.mask.specs.Placements.{Usable, meant, sitesOf};
 ghost use Rattle.slot.specs.Blocks.{isHeld};
 ghost use Rattle.cabinet_rules.specs.Images.{blockIn};
 ghost use Rattle.promise.specs.Given.{Given};
-ghost use Rattle.trail.specs.Trail.{Lists, Sound, cardsOf, holdersIn, holdsAt, mostHolders};
+ghost use Rattle.trail.specs.Trail.{Lists, Sound, WithCard, cardsOf, holdersIn, holdsAt, mostHolders};
 use control::Control;
 use image::Block;
 use image::Card;
@@ -43,6 +43,75 @@ pub fn holds(image: &[u8], working: u8, card: Card, block: Block) -> bool
         return is_held(image, card, block);
     }
     false
+}
+
+// The mask with the card, where it is on.
+fn with_if(mask: u8, on: bool, card: Card) -> u8
+    requires { ⌜ card .0 < cardCount ⌝ }
+    ensures { λ r. ⌜ WithCard mask r (card .0) on ⌝ }
+{
+    if on {
+        return mask::with_card(mask, card);
+    }
+    mask
+}
+
+// The working cards that hold the block, on its trail or not.
+pub fn held_by(image: &[u8], working: u8, block: Block) -> u8
+    requires { ⌜ Whole (now image) × (block .0 < blockCount) ⌝ }
+    ensures { λ r. ⌜ AreMembers r (holdsAt (now (image .entry)) (byte working) (block .0)) ⌝ }
+{
+    let mut held: u8 = 0;
+    let mut c: u8 = 0;
+    while c < Placement::MOST_CARDS {
+        let on = holds(image, working, Card(c), block);
+        held = with_if(held, on, Card(c));
+        c += 1;
+    }
+    held
+}
+
+// The working cards that hold a block, and those that hold the block after it.
+pub struct HeldTwo {
+    pub first: u8,
+    pub second: u8,
+}
+
+// The two masks with the card, where it works and holds the block. Whether it works is asked once for both.
+fn with_card(image: &[u8], working: u8, held: HeldTwo, card: Card, block: Block) -> HeldTwo
+    requires { ⌜ Whole (now image) × (card .0 < cardCount) × (block .0 + 1 < blockCount) ⌝ }
+    ensures { λ r.
+        ⌜ WithCard (held .first) (r .first) (card .0) (holdsAt (now (image .entry)) (byte working) (block .0) (card .0))
+        × WithCard (held .second) (r .second) (card .0)
+        (holdsAt (now (image .entry)) (byte working) (block .0 + 1) (card .0)) ⌝ }
+{
+    if mask::has(working, card) {
+        let first = is_held(image, card, block);
+        let second = is_held(image, card, Block(block.0 + 1));
+        return HeldTwo {
+            first: with_if(held.first, first, card),
+            second: with_if(held.second, second, card),
+        };
+    }
+    held
+}
+
+// The working cards that hold a block and the block after it, on their trails or not.
+pub fn held_by_two(image: &[u8], working: u8, block: Block) -> HeldTwo
+    requires { ⌜ Whole (now image) × (block .0 + 1 < blockCount) ⌝ }
+    ensures { λ r. ⌜ AreMembers (r .first) (holdsAt (now (image .entry)) (byte working) (block .0))
+        × AreMembers (r .second) (holdsAt (now (image .entry)) (byte working) (block .0 + 1)) ⌝ }
+{
+    let mut held = HeldTwo {
+        first: 0,
+        second: 0,
+    };
+    let mut c: u8 = 0;
+    while c < Placement::MOST_CARDS {
+        held = with_card(image, working, held, Card(c), block);
+        c += 1;
+    }
+    held
 }
 
 // The card is added where it holds the block.

@@ -1,47 +1,79 @@
 -- The proof of `finding::find`. Assumes nothing.
-use Prim.Native.Nat.{_*_, _+_, _-_, _≤_}
+use Prim.Native.Nat.{_%_, _*_, _+_, _-_, _<_, _≤_}
 use borrow.Author.Needs.{needs}
-use lib.ListN.{length, length-set}
+use lib.ListN.{getD, length, length-set}
 use mathlib.Core.Bool.{false}
 use mathlib.Core.Path.{_∙_, _≡_, ap₂, refl, sym}
+use native.Mathlib.Nat.{zero-mod}
 use native.Mathlib.Omega.{arith}
 use Rattle.lists.specs.Tests.{anyBelow}
 use Rattle.image.specs.Layout.{blockCount, cardCount}
-use Rattle.mask.specs.Masks.{byte}
+use Rattle.mask.specs.Masks.{AreMembers, byte}
 use Rattle.mask.proofs.SiteLaws.{size-le}
+use Rattle.mask.proofs.SiteTables.{MasksBelow, masks-more}
 use Rattle.slot.proofs.Steps.{any-more}
 use Rattle.promise.proofs.Finish.{given-whole}
-use Rattle.move_list.proofs.FoundMoves.{MasksBelow, block-locked, count-more, count-none, finds-locked, finds-moves}
-use Rattle.move_list.proofs.FoundMoves.{lockedBlock, masks-more, movesBelow}
+use Rattle.reorganise.proofs.Looks.{newest-at, newest-counts, newest-fits, newest-next, newest-usable}
+use Rattle.move_list.proofs.FoundMoves.{block-locked, count-more, count-none, finds-locked, finds-moves}
+use Rattle.move_list.proofs.FoundMoves.{lockedBlock, movesBelow, origin, origin-is}
 use Rattle.move_list.proofs.finding.find.Statement.{statement}
 use Rattle.move_list.proofs.finding.find.Tie as tie
 
 abbrev Inv-loop : tie.InvT-loop
-Inv-loop image k origins₀ count₀ b₀ origins count b = (b ≤ blockCount) × (length origins ≡ blockCount) × (count ≤ cardCount * b)
-    × (count ≡ length (movesBelow image b)) × MasksBelow image origins b × (anyBelow b (lockedBlock image) ≡ false)
+Inv-loop image k table origins₀ count₀ place₀ b₀ origins count place b = (b ≤ blockCount) × (length origins ≡ blockCount) × (count ≤ cardCount * b)
+    × (count ≡ length (movesBelow image b)) × MasksBelow (origin image) origins b × (anyBelow b (lockedBlock image) ≡ false) × (place ≡ b % table .count)
 
 abbrev μ-loop : tie.MeasureT-loop
-μ-loop image k origins₀ count₀ b₀ origins count b = blockCount - b
+μ-loop image k table origins₀ count₀ place₀ b₀ origins count place b = blockCount - b
+
+newest-table-requires : tie.Need-newest-table-requires Inv-loop μ-loop
+newest-table-requires c κs =
+    let s = c .before in
+    (s .pre .is .counted, newest-usable (s .args .k) (s .args .image .now) (s .pre))
 
 loop-holds : tie.Need-loop-holds Inv-loop μ-loop
-loop-holds c = (omega arith, refl, omega arith, count-none (c .before .args .image .now), (λ j h. absurd (omega arith)), refl)
+loop-holds c = (omega arith, refl, omega arith, count-none (c .before .before .args .image .now), (λ j h. absurd (omega arith)), refl, sym (zero-mod _))
 
-cast-t9 : tie.Need-cast-t9 Inv-loop μ-loop
-cast-t9 c = search needs
+cast-of-block : tie.Need-cast-of-block Inv-loop μ-loop
+cast-of-block c = search needs
+
+-- The place is one of the table's.
+fits : (l : tie.At-loop Inv-loop μ-loop) → l .loop .place < cardCount
+fits l =
+    let s = l .before .before .before in
+    newest-fits (s .args .k) (s .args .image .now) (s .pre) (l .before .newest-table .ensures) (l .loop .b) (l .loop .place) (l .loop .inv .6)
+
+cast-of-block-2 : tie.Need-cast-of-block-2 Inv-loop μ-loop
+cast-of-block-2 c = let h = fits (c .before) in omega (arith, h)
+
+element-copy-out-of-block : tie.Need-element-copy-out-of-block Inv-loop μ-loop
+element-copy-out-of-block c = let h = fits (c .before) in omega (arith, h)
 
 of-block-requires : tie.Need-of-block-requires Inv-loop μ-loop
-of-block-requires c κs = (c .before .before .before .pre, omega arith)
+of-block-requires c κs = (given-whole (c .before .before .before .before .before .pre), c .before .loop-test .taken)
+
+-- What is found of a block is what the rules say of it.
+found : (o : tie.After-of-block Inv-loop μ-loop) → let l = o .before .before .before in
+    AreMembers (o .of-block .result) (origin (l .before .before .before .args .image .now) (l .loop .b))
+found o =
+    let l = o .before .before .before in
+    let n = l .before in
+    let s = n .before .before in
+    (λ x. o .of-block .ensures x
+    ∙ origin-is (s .args .k) (s .args .image .now) (s .pre) (l .loop .b) (getD (n .newest-table .result .masks) (l .loop .place) 0) (o .before .before .loop-test .taken)
+    (newest-at (s .args .k) (s .args .image .now) (s .pre) (n .newest-table .ensures) (l .loop .b) (l .loop .place) (l .loop .inv .6)) x)
 
 any-locked-requires : tie.Need-any-locked-requires Inv-loop μ-loop
-any-locked-requires c κs = (given-whole (c .before .before .before .before .pre), omega arith)
+any-locked-requires c κs = let l = c .before .before .before in (given-whole (l .before .before .before .pre), c .before .before .loop-test .taken)
 
 returns : tie.Need-returns Inv-loop μ-loop
 returns c =
     let t = c .before in
     let o = t .before in
-    let l = o .before .before in
-    let g = l .before .before .args .image .now in
-    finds-locked g _ (l .loop .b) (omega arith) (sym (sym (c .if1 .taken) ∙ t .any-locked .ensures ∙ block-locked g (l .loop .b) (o .of-block .result) (omega arith) (o .of-block .ensures)))
+    let i = o .before .before in
+    let l = i .before in
+    let g = l .before .before .before .args .image .now in
+    finds-locked g _ (l .loop .b) (i .loop-test .taken) (sym (sym (c .if1 .taken) ∙ t .any-locked .ensures ∙ block-locked g (l .loop .b) (o .of-block .result) (i .loop-test .taken) (found o)))
 
 array-write-origins : tie.Need-array-write-origins Inv-loop μ-loop
 array-write-origins c = search needs
@@ -54,9 +86,16 @@ cast-count c = let h = size-le (byte (c .before .before .before .of-block .resul
 
 add-count : tie.Need-add-count Inv-loop μ-loop
 add-count c =
-    let h = size-le (byte (c .before .before .before .of-block .result)) in
-    let l = c .before .before .before .before .before .loop in
+    let o = c .before .before .before in
+    let h = size-le (byte (o .of-block .result)) in
+    let l = o .before .before .before .loop in
     omega (arith, h, c .members .ensures, l .inv .2)
+
+next-place-requires : tie.Need-next-place-requires Inv-loop μ-loop
+next-place-requires c κs =
+    let l = c .before .before .before .before .before .before in
+    let s = l .before .before .before in
+    newest-counts (s .args .k) (s .args .image .now) (s .pre) (l .before .newest-table .ensures) (l .loop .b) (l .loop .place) (l .loop .inv .6)
 
 add-b : tie.Need-add-b Inv-loop μ-loop
 add-b c = search needs
@@ -66,25 +105,30 @@ loop-less c = search needs
 
 loop-again : tie.Need-loop-again Inv-loop μ-loop
 loop-again c =
-    let e = c .before in
+    let m = c .before in
+    let e = m .before in
     let t = e .before in
     let o = t .before in
-    let l = o .before .before in
-    let g = l .before .before .args .image .now in
+    let i = o .before .before in
+    let l = i .before in
+    let n = l .before in
+    let s = n .before .before in
+    let g = s .args .image .now in
     let h = size-le (byte (o .of-block .result)) in
-    let free : lockedBlock g (l .loop .b) ≡ false = sym (block-locked g (l .loop .b) (o .of-block .result) (omega arith) (o .of-block .ensures)) ∙ sym (t .any-locked .ensures) ∙ e .if1 .left in (
-      omega arith,
+    let free : lockedBlock g (l .loop .b) ≡ false = sym (block-locked g (l .loop .b) (o .of-block .result) (i .loop-test .taken) (found o)) ∙ sym (t .any-locked .ensures) ∙ e .if1 .left in (
+      omega (arith, i .loop-test .taken),
       length-set (l .loop .origins) (l .loop .b) (o .of-block .result) ∙ l .loop .inv .1,
-      omega (arith, h, c .members .ensures, l .loop .inv .2),
-      ap₂ _+_ (l .loop .inv .3) (c .members .ensures) ∙ count-more g (l .loop .b) (o .of-block .result) (omega arith) (o .of-block .ensures),
-      masks-more g (l .loop .origins) (l .loop .b) (o .of-block .result) (omega (arith, l .loop .inv .1)) (l .loop .inv .4) (o .of-block .ensures),
+      omega (arith, h, m .members .ensures, l .loop .inv .2),
+      ap₂ _+_ (l .loop .inv .3) (m .members .ensures) ∙ count-more g (l .loop .b) (o .of-block .result) (i .loop-test .taken) (found o),
+      masks-more (origin g) (l .loop .origins) (l .loop .b) (o .of-block .result) (omega (arith, l .loop .inv .1, i .loop-test .taken)) (l .loop .inv .4) (found o),
       any-more (lockedBlock g) (l .loop .b) free (l .loop .inv .5),
+      newest-next (s .args .k) g (s .pre) (n .newest-table .ensures) (l .loop .b) (l .loop .place) (l .loop .inv .6) (c .next-place .result) (c .next-place .ensures),
     )
 
 returns-2 : tie.Need-returns-2 Inv-loop μ-loop
 returns-2 c =
     let l = c .before in
-    finds-moves (l .before .before .args .image .now) (l .loop .origins) (l .loop .b) (l .loop .count) (omega arith) (l .loop .inv .3) (l .loop .inv .4) (l .loop .inv .5)
+    finds-moves (l .before .before .before .args .image .now) (l .loop .origins) (l .loop .b) (l .loop .count) (omega arith) (l .loop .inv .3) (l .loop .inv .4) (l .loop .inv .5)
 
 pub find-spec : {M : Type 1} → statement M
 find-spec =
@@ -92,8 +136,11 @@ find-spec =
     (tie.spec
     Inv-loop
     μ-loop
+    newest-table-requires
     loop-holds
-    cast-t9
+    cast-of-block
+    cast-of-block-2
+    element-copy-out-of-block
     of-block-requires
     any-locked-requires
     returns
@@ -101,6 +148,7 @@ find-spec =
     members-requires
     cast-count
     add-count
+    next-place-requires
     add-b
     loop-less
     loop-again

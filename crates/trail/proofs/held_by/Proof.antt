@@ -1,16 +1,16 @@
--- The proof of `origins::held_by`. Assumes nothing.
+-- The proof of `held_by`. Assumes nothing.
 use Prim.Native.Nat.{_-_, _≤_}
 use borrow.Author.Needs.{needs}
 use lib.Dec.{ltb}
 use mathlib.Core.Bool.{_&&_}
 use native.Mathlib.Omega.{arith}
 use Rattle.image.specs.Layout.{cardCount}
-use Rattle.mask.specs.Masks.{byte}
+use Rattle.mask.specs.Masks.{AreMembers, byte}
+use Rattle.mask.proofs.Masks.{card-more, none-below}
 use Rattle.trail.specs.Trail.{holdsAt}
-use Rattle.move_list.specs.Origins.{AreMembers}
-use Rattle.move_list.proofs.OriginMasks.{all-held, none-held, one-more}
-use Rattle.move_list.proofs.origins.held_by.Statement.{statement}
-use Rattle.move_list.proofs.origins.held_by.Tie as tie
+use Rattle.trail.proofs.Holding.{all-held}
+use Rattle.trail.proofs.held_by.Statement.{statement}
+use Rattle.trail.proofs.held_by.Tie as tie
 
 abbrev Inv-loop : tie.InvT-loop
 Inv-loop image working block held₀ c₀ held c =
@@ -20,7 +20,7 @@ abbrev μ-loop : tie.MeasureT-loop
 μ-loop image working block held₀ c₀ held c = cardCount - c
 
 loop-holds : tie.Need-loop-holds Inv-loop μ-loop
-loop-holds c = (omega arith, none-held (holdsAt (c .before .args .image .now) (byte (c .before .args .working)) (c .before .args .block .0)))
+loop-holds c = (omega arith, none-below (holdsAt (c .before .args .image .now) (byte (c .before .args .working)) (c .before .args .block .0)))
 
 holds-requires : tie.Need-holds-requires Inv-loop μ-loop
 holds-requires c κs = search needs
@@ -40,7 +40,7 @@ loop-again c =
     let l = h .before .before in
     let a = l .before .before .args in (
       omega arith,
-      one-more (holdsAt (a .image .now) (byte (a .working)) (a .block .0)) (l .loop .held) (c .with-if .result) (l .loop .c) (omega arith) (l .loop .inv .1)
+      card-more (holdsAt (a .image .now) (byte (a .working)) (a .block .0)) (l .loop .held) (c .with-if .result) (l .loop .c) (omega arith) (l .loop .inv .1)
           (h .holds .result) (h .holds .ensures) (c .with-if .ensures),
     )
 

@@ -1,7 +1,7 @@
--- The proof of `origins::with_if`. Assumes nothing.
+-- The proof of `with_if`. Assumes nothing.
 use borrow.Author.Needs.{needs}
-use Rattle.move_list.proofs.origins.with_if.Statement.{statement}
-use Rattle.move_list.proofs.origins.with_if.Tie as tie
+use Rattle.trail.proofs.with_if.Statement.{statement}
+use Rattle.trail.proofs.with_if.Tie as tie
 
 with-card-requires : tie.Need-with-card-requires
 with-card-requires c κs = search needs

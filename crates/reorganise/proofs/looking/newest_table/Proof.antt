@@ -1,0 +1,19 @@
+-- The proof of `looking::newest_table`. Assumes nothing.
+use mathlib.Core.Path.{subst, sym}
+use Rattle.mask.specs.Placements.{Placement, Usable}
+use Rattle.mask.specs.SiteTable.{SitesIn}
+use borrow.Author.Needs.{needs}
+use Rattle.reorganise.proofs.looking.newest_table.Statement.{statement}
+use Rattle.reorganise.proofs.looking.newest_table.Tie as tie
+
+newest-requires : tie.Need-newest-requires
+newest-requires c κs = search needs
+
+of-requires : tie.Need-of-requires
+of-requires c κs = subst Usable (sym (c .newest .ensures)) (c .before .pre .1)
+
+returns : tie.Need-returns
+returns c = subst (λ (p : Placement). SitesIn (c .of .result) p) (c .before .newest .ensures) (c .of .ensures)
+
+pub newest-table-spec : {M : Type 1} → statement M
+newest-table-spec = tie.close (tie.spec newest-requires of-requires returns)
