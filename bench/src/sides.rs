@@ -28,11 +28,13 @@ pub struct Lent {
     model: [Move; MOST_MOVES],
 }
 
-impl Lent {
-    pub fn new() -> Lent {
+impl Default for Lent {
+    fn default() -> Lent {
         Lent { rattle: [0; 2 * MOST_MOVES], model: [Move::default(); MOST_MOVES] }
     }
+}
 
+impl Lent {
     /// Both sides have left the same entries.
     pub fn same(&self) -> bool {
         self.rattle.chunks(2).zip(&self.model).all(|(bytes, entry)| *bytes == [entry.card, entry.block])
@@ -44,6 +46,9 @@ pub enum Side {
     Rattle,
     Model,
 }
+
+/// In the order of the table's columns.
+pub const SIDES: [Side; 2] = [Side::Rattle, Side::Model];
 
 impl Side {
     /// The code of the answer.
@@ -64,6 +69,6 @@ impl Side {
     }
 
     pub fn named(name: &str) -> Option<Side> {
-        [Side::Rattle, Side::Model].into_iter().find(|side| side.name() == name)
+        SIDES.into_iter().find(|side| side.name() == name)
     }
 }

@@ -1,7 +1,8 @@
-//! Median times of a call by both sides, in turns.
+//! Median times by the sides, in turns.
 
 use crate::cases::Case;
-use crate::sides::{Lent, Side};
+use crate::sides::{Lent, Side, SIDES};
+use std::array::from_fn;
 use std::hint::black_box;
 use std::time::Instant;
 
@@ -16,31 +17,21 @@ const ROUNDS_IN_A_PASS: usize = 11;
 /// Rounds of a pass that do not count.
 const WARM_UP: usize = 2;
 
-/// Nanoseconds of one call by the rounds.
-#[derive(Default)]
-pub struct Times {
-    rattle: Vec<f64>,
-    model: Vec<f64>,
-}
-
-impl Times {
-    /// The medians, Rattle first.
-    pub fn medians(&self) -> [f64; 2] {
-        [&self.rattle, &self.model].map(|times| median(times.clone()))
-    }
-
-    fn pass(&mut self, case: &Case) {
-        let mut copies = vec![case.image.clone(); COPIES];
-        let mut lent = Lent::new();
-        for at in 0..WARM_UP + ROUNDS_IN_A_PASS {
-            let rattle = round(Side::Rattle, &mut copies, &mut lent, case);
-            let model = round(Side::Model, &mut copies, &mut lent, case);
-            if at >= WARM_UP {
-                self.rattle.push(rattle);
-                self.model.push(model);
-            }
+/// The median of each side's times, for each case. A pass gives its rounds, and a round has a time for each side.
+pub fn medians<C, const N: usize>(cases: &[C], pass: impl Fn(&C) -> Vec<[f64; N]>) -> Vec<[f64; N]> {
+    let mut all: Vec<Vec<[f64; N]>> = vec![Vec::new(); cases.len()];
+    for _ in 0..PASSES {
+        for (rounds, case) in all.iter_mut().zip(cases) {
+            rounds.extend(pass(case));
         }
     }
+    let of_side = |rounds: &[[f64; N]], side: usize| median(rounds.iter().map(|round| round[side]).collect());
+    all.iter().map(|rounds| from_fn(|side| of_side(rounds, side))).collect()
+}
+
+fn median(mut times: Vec<f64>) -> f64 {
+    times.sort_by(f64::total_cmp);
+    times[times.len() / 2]
 }
 
 /// The calls on every copy; all that is timed.
@@ -53,6 +44,7 @@ pub fn run(side: Side, copies: &mut [Vec<u8>], lent: &mut Lent, case: &Case) {
     }
 }
 
+/// Nanoseconds of one call.
 fn round(side: Side, copies: &mut [Vec<u8>], lent: &mut Lent, case: &Case) -> f64 {
     for image in copies.iter_mut() {
         image.copy_from_slice(&case.image);
@@ -62,18 +54,13 @@ fn round(side: Side, copies: &mut [Vec<u8>], lent: &mut Lent, case: &Case) -> f6
     start.elapsed().as_nanos() as f64 / (copies.len() * case.calls.len()) as f64
 }
 
-fn median(mut times: Vec<f64>) -> f64 {
-    times.sort_by(f64::total_cmp);
-    times[times.len() / 2]
-}
-
-/// The times of each case.
-pub fn measure(cases: &[Case]) -> Vec<Times> {
-    let mut all: Vec<Times> = cases.iter().map(|_| Times::default()).collect();
-    for _ in 0..PASSES {
-        for (times, case) in all.iter_mut().zip(cases) {
-            times.pass(case);
-        }
+/// The rounds of a pass that count.
+pub fn pass(case: &Case) -> Vec<[f64; 2]> {
+    let mut copies = vec![case.image.clone(); COPIES];
+    let mut lent = Lent::default();
+    let mut in_turns = || SIDES.map(|side| round(side, &mut copies, &mut lent, case));
+    for _ in 0..WARM_UP {
+        in_turns();
     }
-    all
+    (0..ROUNDS_IN_A_PASS).map(|_| in_turns()).collect()
 }
