@@ -40,7 +40,7 @@ fn accept(image: &mut [u8], call: Call) {
 }
 
 /// Every record stored and committed, one placement.
-fn filled(mask: u8) -> Vec<u8> {
+pub fn filled(mask: u8) -> Vec<u8> {
     let mut image = started(mask);
     accept(&mut image, Call::Begin { transaction: 1, home: members(mask)[0] as u8 });
     for record in 0..RECORDS as u16 {
@@ -58,13 +58,14 @@ fn moves(image: &[u8], blocks: std::ops::Range<usize>) -> Vec<Call> {
 }
 
 /// Three active placements; card 6 works outside them and card 7 does not work. The first blocks are moved.
-fn reorganising(moved: usize) -> Vec<u8> {
+pub fn reorganising(moved: usize) -> Vec<u8> {
     let mut image = filled(0xFC);
     accept(&mut image, Call::Fit { card: 6 });
     place_and_move(image, [0x7C, 0x3C], moved)
 }
 
-fn place_and_move(mut image: Vec<u8>, masks: [u8; 2], moved: usize) -> Vec<u8> {
+/// Two more placements; the first blocks are moved to the newest sites.
+pub fn place_and_move(mut image: Vec<u8>, masks: [u8; 2], moved: usize) -> Vec<u8> {
     for mask in masks {
         accept(&mut image, Call::Place { mask });
     }

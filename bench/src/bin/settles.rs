@@ -1,0 +1,128 @@
+//! settles: a Markdown table of the time of 10,000 settles and the instructions of one, by the archive of an earlier
+//! commit ("before"), by the present archive ("after") and by the model.
+//! settles count STATE SIDE COPIES: settles on so many copies of one state's image, for callgrind.
+
+use bench::cases::{filled, place_and_move, reorganising};
+use bench::{counting, program, timing};
+use differential::archive::code;
+use model::image::BLOCKS;
+use model::{perform, Call};
+use nolpigat::ffi::nolpigat_settle;
+use nolpigat::Answer;
+use std::hint::black_box;
+use std::time::Instant;
+
+extern "C" {
+    /// The settle of libbefore.a, whose functions are named apart from those of libabi.a.
+    fn before_nolpigat_settle(image: *mut u8, length: usize) -> u32;
+}
+
+/// Whose settle runs; it answers a code.
+struct Side {
+    name: &'static str,
+    settle: fn(&mut [u8]) -> u32,
+}
+
+/// In the order of the table's columns. A pointer and its length are those of a slice that is lent for the call alone.
+const SIDES: [Side; 3] = [
+    Side { name: "before", settle: |image| unsafe { before_nolpigat_settle(image.as_mut_ptr(), image.len()) } },
+    Side { name: "after", settle: |image| unsafe { nolpigat_settle(image.as_mut_ptr(), image.len()) } },
+    Side { name: "model", settle: |image| code(perform(image, &Call::Settle)) },
+];
+
+/// Settles by each side in a timed round, all on one image, as by a panel that polls.
+const TIMED: usize = 10_000;
+
+/// The sides take turns of so many settles within a round, so that a slow while of the machine falls on all of them.
+const TURN: usize = 100;
+
+/// Settles on each copy for callgrind.
+const COUNTED: usize = 4;
+
+struct State {
+    name: &'static str,
+    image: Vec<u8>,
+}
+
+/// No settle changes these images: there is one placement, or a block has not moved.
+fn states() -> Vec<State> {
+    let half_of_eight = place_and_move(filled(0xFF), [0x7E, 0x3C], BLOCKS / 2);
+    vec![
+        State { name: "eight cards, all in place", image: filled(0xFF) },
+        State { name: "reorganising, half moved", image: reorganising(BLOCKS / 2) },
+        State { name: "reorganising, all but the last block", image: reorganising(BLOCKS - 1) },
+        State { name: "eight cards, half moved", image: half_of_eight },
+    ]
+}
+
+/// The answer of every side, which leaves the image as found. So all settles of a round do the same.
+fn answer(state: &State) -> Answer {
+    let [before, after, model] = SIDES.map(|side| {
+        let mut image = state.image.clone();
+        let answer = Answer::from((side.settle)(&mut image));
+        assert!(image == state.image, "{}, {}: the image is changed", state.name, side.name);
+        answer
+    });
+    assert_eq!(before, model, "{}: before, model", state.name);
+    assert_eq!(after, model, "{}: after, model", state.name);
+    model
+}
+
+/// All that is timed and counted.
+#[inline(never)]
+fn settles(side: &Side, image: &mut [u8], number: usize) {
+    for _ in 0..number {
+        black_box((side.settle)(black_box(&mut *image)));
+    }
+}
+
+/// One round: microseconds of each side's settles. The first of them are too few to need a warm-up.
+fn pass(state: &State) -> Vec<[f64; 3]> {
+    let mut image = state.image.clone();
+    let mut round = [0.0; 3];
+    for _ in 0..TIMED / TURN {
+        for (time, side) in round.iter_mut().zip(&SIDES) {
+            let start = Instant::now();
+            settles(side, &mut image, TURN);
+            *time += start.elapsed().as_nanos() as f64 / 1000.0;
+        }
+    }
+    vec![round]
+}
+
+/// The figures of the sides and the ratios of the second to the others.
+fn cells([before, after, model]: [f64; 3]) -> String {
+    format!("{before:.0} | {after:.0} | {model:.0} | {:.2} | {:.2}", after / before, after / model)
+}
+
+fn row(at: usize, state: &State, answer: Answer, times: [f64; 3]) {
+    let instructions = match SIDES.map(|side| counting::instructions(at, side.name, COUNTED)) {
+        [Some(before), Some(after), Some(model)] => cells([before, after, model].map(|number| number as f64)),
+        _ => "- | - | - | - | -".to_string(),
+    };
+    println!("| {} | {answer} | {} | {instructions} |", state.name, cells(times));
+}
+
+fn table() {
+    let states = states();
+    let answers: Vec<Answer> = states.iter().map(answer).collect();
+    let times = timing::medians(&states, pass);
+    print!("| state | answer | before us | after us | model us | after/before | after/model ");
+    println!("| before instr. | after instr. | model instr. | after/before | after/model |");
+    println!("|---|---|---|---|---|---|---|---|---|---|---|---|");
+    for (at, state) in states.iter().enumerate() {
+        row(at, state, answers[at], times[at]);
+    }
+}
+
+fn count(at: usize, side: &str, copies: usize) -> Option<()> {
+    let (all, side) = (states(), SIDES.iter().find(|known| known.name == side)?);
+    counting::run_on(&all.get(at)?.image, copies, |copies| {
+        copies.iter_mut().for_each(|image| settles(side, image, COUNTED))
+    });
+    Some(())
+}
+
+fn main() {
+    program::main("settles", table, count);
+}
