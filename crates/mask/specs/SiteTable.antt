@@ -12,7 +12,7 @@ use Rattle.mask.specs.Placements.{Placement, sitesOf}
 abbrev pub isSite : Placement → ℕ → ℕ → Bool
 isSite p b c = elem c (sitesOf p b)
 
--- Of which block the mask r has the sites: of block i, where the members from number i on are left.
+-- The mask r is of the sites of block i, where the members from number i on are left.
 abbrev pub SitesFrom : Placement → ℕ → ℕ → Type 0
 SitesFrom p left r = (i : ℕ) → members (byte left) ≡ drop i (members (p .mask)) → AreMembers r (isSite p i)
 

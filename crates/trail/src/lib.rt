@@ -78,14 +78,15 @@ pub struct HeldTwo {
 }
 
 // The two masks with the card, where it works and holds the block. Whether it works is asked once for both.
-fn with_card(image: &[u8], working: u8, held: HeldTwo, card: Card, block: Block) -> HeldTwo
+fn both_with_card(image: &[u8], working: u8, held: HeldTwo, card: Card, block: Block) -> HeldTwo
     requires { ⌜ Whole (now image) × (card .0 < cardCount) × (block .0 + 1 < blockCount) ⌝ }
     ensures { λ r.
         ⌜ WithCard (held .first) (r .first) (card .0) (holdsAt (now (image .entry)) (byte working) (block .0) (card .0))
         × WithCard (held .second) (r .second) (card .0)
         (holdsAt (now (image .entry)) (byte working) (block .0 + 1) (card .0)) ⌝ }
 {
-    if mask::has(working, card) {
+    let works = mask::has(working, card);
+    if works {
         let first = is_held(image, card, block);
         let second = is_held(image, card, Block(block.0 + 1));
         return HeldTwo {
@@ -108,7 +109,7 @@ pub fn held_by_two(image: &[u8], working: u8, block: Block) -> HeldTwo
     };
     let mut c: u8 = 0;
     while c < Placement::MOST_CARDS {
-        held = with_card(image, working, held, Card(c), block);
+        held = both_with_card(image, working, held, Card(c), block);
         c += 1;
     }
     held

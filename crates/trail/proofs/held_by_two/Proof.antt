@@ -30,8 +30,8 @@ loop-holds c =
     let a = c .before .args in
     (omega arith, none-below (holdsAt (a .image .now) (byte (a .working)) (a .block .0)), none-below (holdsAt (a .image .now) (byte (a .working)) (a .block .0 + 1)))
 
-with-card-requires : tie.Need-with-card-requires Inv-loop μ-loop
-with-card-requires c κs = search needs
+both-with-card-requires : tie.Need-both-with-card-requires Inv-loop μ-loop
+both-with-card-requires c κs = search needs
 
 add-c : tie.Need-add-c Inv-loop μ-loop
 add-c c = search needs
@@ -44,12 +44,12 @@ loop-again c =
     let l = c .before .before in
     let a = l .before .before .args in
     let g = a .image .now in
-    let r = c .with-card .result in (
+    let r = c .both-with-card .result in (
       omega arith,
       card-more (holdsAt g (byte (a .working)) (a .block .0)) (l .loop .held .first) (r .first) (l .loop .c) (c .before .loop-test .taken) (l .loop .inv .1)
-          (holdsAt g (byte (a .working)) (a .block .0) (l .loop .c)) refl (c .with-card .ensures .0),
+          (holdsAt g (byte (a .working)) (a .block .0) (l .loop .c)) refl (c .both-with-card .ensures .0),
       card-more (holdsAt g (byte (a .working)) (a .block .0 + 1)) (l .loop .held .second) (r .second) (l .loop .c) (c .before .loop-test .taken) (l .loop .inv .2)
-          (holdsAt g (byte (a .working)) (a .block .0 + 1) (l .loop .c)) refl (c .with-card .ensures .1),
+          (holdsAt g (byte (a .working)) (a .block .0 + 1) (l .loop .c)) refl (c .both-with-card .ensures .1),
     )
 
 returns : tie.Need-returns Inv-loop μ-loop
@@ -68,7 +68,7 @@ held-by-two-spec =
     Inv-loop
     μ-loop
     loop-holds
-    with-card-requires
+    both-with-card-requires
     add-c
     loop-less
     loop-again

@@ -1,14 +1,12 @@
--- The proof of `with_card`. Assumes nothing.
+-- The proof of `both_with_card`. Assumes nothing.
 use Prim.Native.Nat.{_+_}
 use borrow.Author.Needs.{needs}
-use mathlib.Core.Bool.{Bool}
 use mathlib.Core.Path.{_∙_, subst, sym}
-use native.Mathlib.Omega.{arith}
 use Rattle.mask.specs.Masks.{byte}
 use Rattle.trail.specs.Trail.{WithCard}
 use Rattle.trail.proofs.Holding.{idle-holds, works-holds}
-use Rattle.trail.proofs.with_card.Statement.{statement}
-use Rattle.trail.proofs.with_card.Tie as tie
+use Rattle.trail.proofs.both_with_card.Statement.{statement}
+use Rattle.trail.proofs.both_with_card.Tie as tie
 
 has-requires : tie.Need-has-requires
 has-requires c κs = search needs
@@ -16,8 +14,8 @@ has-requires c κs = search needs
 is-held-requires : tie.Need-is-held-requires
 is-held-requires c κs = search needs
 
-add-t9 : tie.Need-add-t9
-add-t9 c = search needs
+add-t10 : tie.Need-add-t10
+add-t10 c = search needs
 
 is-held-requires-2 : tie.Need-is-held-requires-2
 is-held-requires-2 c κs = search needs
@@ -50,13 +48,13 @@ returns-2 c =
     let idle = sym (h .has .ensures) ∙ c .if1 .left in
     (rw (sym (idle-holds g (byte (a .working)) (a .block .0) (a .card .0) idle)), rw (sym (idle-holds g (byte (a .working)) (a .block .0 + 1) (a .card .0) idle)))
 
-pub with-card-spec : {M : Type 1} → statement M
-with-card-spec =
+pub both-with-card-spec : {M : Type 1} → statement M
+both-with-card-spec =
     tie.close
     (tie.spec
     has-requires
     is-held-requires
-    add-t9
+    add-t10
     is-held-requires-2
     with-if-requires
     with-if-requires-2
