@@ -3,8 +3,9 @@ use mathlib.Core.Path.{_≡_, ap, refl, sym, _∙_}
 use mathlib.Core.Logic.{_⊎_, inl, inr}
 use mathlib.Core.Bool.{Bool, _||_, true, false, cond, or-assoc}
 use mathlib.Core.List.{List, [], _∷_, _++_, append-assoc, append-nil, map, reverse, reverse-cons, reverseAux}
-use Prim.Native.Nat.{_+_, ℕ}
+use Prim.Native.Nat.{_+_, _<_, suc, zero, ℕ}
 use native.Mathlib.Nat.{suc-add, zero-add}
+use native.Mathlib.Omega.{arith}
 use lib.Dec.{eqb}
 use lib.ListN.{getD, length}
 use borrow.Author.Tests.{eqb-true}
@@ -129,7 +130,13 @@ module _ {A : Type 0} where
   any-append f [] m = refl
   any-append f (x ∷ l) m = ap (λ (t : Bool). f x || t) (any-append f l m) ∙ sym (or-assoc (f x) (any f l) (any f m))
 
-  -- an element of the second
+  -- an element does not depend on what stands for none
+  pub any-default : (l : List A) (i : ℕ) (d e : A) → i < length l → getD l i d ≡ getD l i e
+  any-default [] i d e h = absurd (omega arith)
+  any-default (x ∷ l) zero d e h = refl
+  any-default (x ∷ l) (suc i) d e h = any-default l i d e (omega arith)
+
+  -- an element of the second of two lists
   pub getD-behind : (l m : List A) (i : ℕ) (d : A) → getD (l ++ m) (length l + i) d ≡ getD m i d
   getD-behind [] m i d = ap (λ (k : ℕ). getD m k d) (zero-add i)
   getD-behind (x ∷ l) m i d = ap (λ (k : ℕ). getD (x ∷ (l ++ m)) k d) (suc-add (length l) i) ∙ getD-behind l m i d

@@ -3,7 +3,7 @@ use mathlib.Core.Path.{_≡_, refl, sym, ap, _∙_}
 use mathlib.Core.Bool.{Bool, true, false, _||_, cond}
 use mathlib.Core.List.{List, [], _∷_}
 use mathlib.Core.Logic.{_≢_, _⊎_, inl, inr}
-use Prim.Native.Nat.{ℕ, zero, suc, _+_, _%_, _≤_, _<_}
+use Prim.Native.Nat.{ℕ, _+_, _%_, _≤_, _<_}
 use native.Mathlib.Nat.{add-zero, mod-add-mod, mod-eq-of-lt, mod-lt, mod-self}
 use native.Mathlib.Omega.{arith}
 use lib.Bits.{bitAnd}
@@ -14,6 +14,7 @@ use lib.Seq.{drop-drop, getD-drop, getD-set-other, getD-set-same}
 use borrow.Author.Tests.{eq-eqb, lt-ltb, ne-eqb}
 use Rattle.lists.specs.Tests.{elem}
 use Rattle.lists.proofs.Cases.{by-eq, lt-or-ge}
+use Rattle.lists.proofs.Lists.{any-default}
 use Rattle.image.specs.Layout.{cardCount, copyCount}
 use Rattle.mask.specs.Masks.{AreMembers, Byte, byte, hasCard, members, size, withCard}
 use Rattle.mask.specs.Placements.{Placement, Usable, memberAt, otherRail, sitesOf}
@@ -22,13 +23,6 @@ use Rattle.mask.specs.declared.site_table.SiteTable.{SiteTable}
 use Rattle.mask.proofs.FirstMember.{first-is, some-members}
 use Rattle.mask.proofs.Masks.{has-none, has-with, size-members}
 use Rattle.mask.proofs.SiteLaws.{site-round, sites-found, size-le}
-
--- ---- lists
--- An element does not depend on what stands for none.
-pub any-default : (l : List ℕ) (i d e : ℕ) → i < length l → getD l i d ≡ getD l i e
-any-default [] i d e h = absurd (omega arith)
-any-default (x ∷ l) zero d e h = refl
-any-default (x ∷ l) (suc i) d e h = any-default l i d e (omega arith)
 
 -- ---- two cards
 pub pair-is : (a b m r : ℕ) → a < cardCount → b < cardCount → byte m ≡ withCard (byte 0) a → byte r ≡ withCard (byte m) b → AreMembers r (λ c. elem c (a ∷ b ∷ []))

@@ -1,4 +1,5 @@
-// The trail of a block: the sites of all active placements, oldest first, and the holders on it.
+// The trail of a block: the sites of all active placements, oldest first, and the holders on it. Beside it the cards
+// that hold a block, on its trail or not.
 ghost use mathlib.Core.Path.{_≡_};
 ghost use mathlib.Core.List.{_++_, _∷_, []};
 ghost use Prim.Native.Nat.{_+_, _<_, _≤_};
@@ -56,7 +57,7 @@ fn with_if(mask: u8, on: bool, card: Card) -> u8
     mask
 }
 
-// The working cards that hold the block, on its trail or not.
+// The working cards that hold the block.
 pub fn held_by(image: &[u8], working: u8, block: Block) -> u8
     requires { ⌜ Whole (now image) × (block .0 < blockCount) ⌝ }
     ensures { λ r. ⌜ AreMembers r (holdsAt (now (image .entry)) (byte working) (block .0)) ⌝ }
@@ -97,7 +98,7 @@ fn both_with_card(image: &[u8], working: u8, held: HeldTwo, card: Card, block: B
     held
 }
 
-// The working cards that hold a block and the block after it, on their trails or not.
+// Those of a block and of the block after it.
 pub fn held_by_two(image: &[u8], working: u8, block: Block) -> HeldTwo
     requires { ⌜ Whole (now image) × (block .0 + 1 < blockCount) ⌝ }
     ensures { λ r. ⌜ AreMembers (r .first) (holdsAt (now (image .entry)) (byte working) (block .0))

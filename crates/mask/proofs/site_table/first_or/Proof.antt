@@ -3,9 +3,9 @@ use mathlib.Core.Path.{_∙_}
 use native.Mathlib.Omega.{arith}
 use lib.ListN.{getD}
 use borrow.Author.Needs.{needs}
+use Rattle.lists.proofs.Lists.{any-default}
 use Rattle.mask.specs.Masks.{byte, members}
 use Rattle.mask.proofs.FirstMember.{no-members, some-members}
-use Rattle.mask.proofs.SiteTables.{any-default}
 use Rattle.mask.proofs.site_table.first_or.Statement.{statement}
 use Rattle.mask.proofs.site_table.first_or.Tie as tie
 
