@@ -8,10 +8,9 @@ use mathlib.Core.Option.{Option}
 use Rattle.lists.specs.Tabulate.{tabulate}
 use Rattle.image.specs.Layout.{blockAddress, blockCount, blockSize, cardCount, controlSize, imageSize, tableSize}
 use Rattle.slot.specs.Blocks.{BlockBytes, blockOfBytes, byteIn}
-use Rattle.method.specs.Parameters.{Parameters}
 use Rattle.method.specs.PlainList.{orRefused}
-use Rattle.method.specs.Rules.{Answer, Call, Plan, State, act, begin, commit, delete, fail, fit, get, load, look, move}
-use Rattle.method.specs.Rules.{place, refusal, rollback, settle, start, state, store, updated, withdraw}
+use Rattle.method.specs.Rules.{Answer, Call, CallOf, Plan, State, act, begin, commit, delete, fail, fit, get, load}
+use Rattle.method.specs.Rules.{look, move, place, refusal, rollback, settle, start, state, store, updated, withdraw}
 use Rattle.control.specs.ControlBytes.{Part}
 use Rattle.control_form.specs.ControlForm.{formRows}
 use Rattle.cabinet_rules.specs.Cabinet.{cabinet, rulesOf}
@@ -58,7 +57,7 @@ unlessRefusedImage (suc n) found changed = found
 
 -- ---- start
 -- It examines only the length: older contents are not examined.
-abbrev pub isStart : {P : Parameters} → Call P → Bool
+abbrev pub isStart : {S A : Type 0} → CallOf S A → Bool
 isStart (start m) = true
 isStart (begin t h) = false
 isStart (get t r) = false

@@ -22,47 +22,55 @@ abbrev pub updated : {A : Type 0} → Option A → A → A
 updated none x = x
 updated (some y) x = y
 
+-- The calls. The argument of start is an S, that of place an A.
+pub data CallOf (S A : Type 0) : Type 0 where
+  start : S → CallOf S A
+  -- transaction, home card
+  begin : ℕ → ℕ → CallOf S A
+  -- transaction, record; store also a value
+  get : ℕ → ℕ → CallOf S A
+  store : ℕ → ℕ → ℕ → CallOf S A
+  delete : ℕ → ℕ → CallOf S A
+  -- transaction
+  commit : ℕ → CallOf S A
+  rollback : ℕ → CallOf S A
+  -- card
+  fit : ℕ → CallOf S A
+  withdraw : ℕ → CallOf S A
+  place : A → CallOf S A
+  fail : ℕ → CallOf S A
+  -- card, block
+  move : ℕ → ℕ → CallOf S A
+  settle : CallOf S A
+  state : CallOf S A
+  load : ℕ → CallOf S A
+
+-- The answers. A set of cards is an M.
+pub data AnswerOf (M : Type 0) : Type 0 where
+  ok : AnswerOf M
+  value : ℕ → AnswerOf M
+  absent : AnswerOf M
+  placed : M → AnswerOf M
+  unplaced : AnswerOf M
+  stops : AnswerOf M
+  copied : ℕ → AnswerOf M
+  retired : ℕ → AnswerOf M
+  protected : AnswerOf M
+  unprotected : AnswerOf M
+  loaded : ℕ → AnswerOf M
+  refused : ℕ → AnswerOf M
+
 module _ (P : Parameters) where
   open Parameters P using (Mask, Placement, Setting, Block, StartArgument, PlaceArgument, cards, transactions, slots)
   open Parameters P using (copies, blocks, tranInRange, recInRange, valueInRange, blockOf, placeOf, has, insert, remove)
   open Parameters P using (mask, sites, without, startRefusal, places, placeInRange, placeRefusal, empty, fresh, held)
   open Parameters P using (slot, lockSlot, endSlots)
 
-  pub data Call : Type 0 where
-    start : StartArgument → Call
-    -- transaction, home card
-    begin : ℕ → ℕ → Call
-    -- transaction, record; store also a value
-    get : ℕ → ℕ → Call
-    store : ℕ → ℕ → ℕ → Call
-    delete : ℕ → ℕ → Call
-    -- transaction
-    commit : ℕ → Call
-    rollback : ℕ → Call
-    -- card
-    fit : ℕ → Call
-    withdraw : ℕ → Call
-    place : PlaceArgument → Call
-    fail : ℕ → Call
-    -- card, block
-    move : ℕ → ℕ → Call
-    settle : Call
-    state : Call
-    load : ℕ → Call
+  abbrev pub Call : Type 0
+  Call = CallOf StartArgument PlaceArgument
 
-  pub data Answer : Type 0 where
-    ok : Answer
-    value : ℕ → Answer
-    absent : Answer
-    placed : Mask → Answer
-    unplaced : Answer
-    stops : Answer
-    copied : ℕ → Answer
-    retired : ℕ → Answer
-    protected : Answer
-    unprotected : Answer
-    loaded : ℕ → Answer
-    refused : ℕ → Answer
+  abbrev pub Answer : Type 0
+  Answer = AnswerOf Mask
 
   -- The card tables: the block of a card.
   abbrev pub View : Type 0
