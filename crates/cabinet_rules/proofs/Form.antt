@@ -29,7 +29,7 @@ use Rattle.control_form.specs.ControlForm.{countOk, formOk, fourthOk, homeOk, i
 use Rattle.control_form.proofs.RoundTrip.{read-control, read-count}
 use Rattle.cabinet_rules.specs.Cabinet.{cabinet, mostPlaced, tranOk}
 use Rattle.cabinet_rules.specs.Delivery.{current}
-use Rattle.cabinet_rules.proofs.Lawful.{ControlLaws, DeliveryLaws, lawful, siteLaws}
+use Rattle.cabinet_rules.proofs.Lawful.{ControlLaws, DeliveryLaws, lawful, ruleLaws}
 
 -- ---- the stop rule and the clause of the control form on it
 -- a placement is safe exactly where it is not lost
@@ -142,7 +142,7 @@ module _ (k : Part) (shut : (t : ℕ) → k .home t ≡ none) where
   none-homes t h e = let z : _≡_ {A = Option ℕ} none (some h) = sym (shut t) ∙ e in let y : _≡_ {A = ℕ} 0 1 = cc in absurd (omega arith)
 
 -- ---- the delivery in force
-pub controlLaws : ControlLaws current siteLaws
+pub controlLaws : ControlLaws current ruleLaws
 controlLaws = record {
   reads = λ k f u g w. read-control k (few-older k f u) (u .opens) (homes k u) g w;
   formed = λ k f u g w. written-form k (few-older k f u) (u .opens) (homes k u) (running-ok k f u) g w;
@@ -157,4 +157,4 @@ controlLaws = record {
     homes k u t h e = has-card (k .working) h (u .homes t h e)
 
 abbrev pub currentLaws : DeliveryLaws current
-currentLaws = record { sites = siteLaws; control = controlLaws }
+currentLaws = record { rules = ruleLaws; control = controlLaws }

@@ -9,7 +9,7 @@ use mathlib.Core.Logic.{_⊎_, inl, inr}
 use mathlib.Core.Path.{_∙_, _≡_, ap, refl, sym}
 use native.Mathlib.Omega.{arith}
 use Rattle.lists.proofs.Bools.{and-l, and-r, split, tf}
-use Rattle.image.specs.Layout.{blockCount, cardCount, controlSize, imageSize, recordCount, valueBound}
+use Rattle.image.specs.Layout.{blockCount, cardCount, controlSize, imageSize, recordCount}
 use Rattle.mask.specs.Masks.{Byte, hasCard}
 use Rattle.mask.proofs.Masks.{has-card}
 use Rattle.method.specs.Changes.{marked}
@@ -43,7 +43,7 @@ module _ (D : Delivery) (W : DeliveryLaws D) where
   P = rulesOf D
 
   abbrev L : Laws P
-  L = lawfulBy D (W .sites)
+  L = lawfulBy D (W .rules)
 
   -- ---- an image that a stopping fail of a card left
   pub record Stopped (g : Image) : Type 0 where
@@ -112,7 +112,7 @@ module _ (D : Delivery) (W : DeliveryLaws D) where
   refused-4 (start m) l k v e = tf true refl l
   refused-4 (begin t h) l k v e = rw e (later (not (tranOk t && ltb h cardCount)))
   refused-4 (get t r) l k v e = rw e (later (not (tranOk t && ltb r recordCount)))
-  refused-4 (store t r n) l k v e = rw e (later (not (tranOk t && ltb r recordCount && ltb n valueBound)))
+  refused-4 (store t r n) l k v e = rw e (later (not (tranOk t && ltb r recordCount && D .valueInRange n)))
   refused-4 (delete t r) l k v e = rw e (later (not (tranOk t && ltb r recordCount)))
   refused-4 (commit t) l k v e = rw e (later (not (tranOk t)))
   refused-4 (rollback t) l k v e = rw e (later (not (tranOk t)))

@@ -30,7 +30,7 @@ use Rattle.method.proofs.Invariant.{Form}
 use Rattle.method.proofs.Laws.{Laws}
 use Rattle.method.proofs.Refusals.{row-clear}
 use Rattle.cabinet_rules.specs.Cabinet.{cabinet, mostPlaced, placeRows, rulesOf, slotSeen, startRow, tranOk}
-use Rattle.cabinet_rules.specs.Delivery.{Delivery, PartOf, current}
+use Rattle.cabinet_rules.specs.Delivery.{Delivery, PartOf, brokenWire, current}
 
 -- ---- slots, as the rules see them
 -- what the rules see of a slot's fields
@@ -83,14 +83,15 @@ unfolding startRow
 start-members m e = ltb-false (size m) leastMembers (row-clear (ltb (size m) leastMembers) 8 e .0)
 
 -- ---- what is asked of a delivery
--- Sites are two different members, and the cards of the placement made of a mask are the mask's.
-pub record SiteLaws (D : Delivery) : Type 0 where
+-- Sites are two different members, the cards of the placement made of a mask are the mask's, and a slot has room for a value in range.
+pub record RuleLaws (D : Delivery) : Type 0 where
   pub site-count : (p : D .Placement) (b : ℕ) → length (D .sites p b) ≡ copyCount
   pub site-member : (p : D .Placement) (b c : ℕ) → copyCount ≤ size (D .mask p) → elem c (D .sites p b) ≡ true → hasCard (D .mask p) c ≡ true
   pub site-distinct : (p : D .Placement) (b : ℕ) → copyCount ≤ size (D .mask p) → distinct (D .sites p b) ≡ true
   pub mask-back : (m : Byte) → D .mask (D .fromMask m) ≡ m
+  pub value-fits : (n : ℕ) → D .valueInRange n ≡ true → n < valueBound
 
-module _ (D : Delivery) (S : SiteLaws D) where
+module _ (D : Delivery) (S : RuleLaws D) where
   module _ (k : PartOf D) (m : Byte) (e : placeRows D k m ≡ 0) where
     bad : Bool
     bad = not (isWithin m (k .working)) || D .isAgain (k .newest) m
@@ -151,7 +152,7 @@ module _ (D : Delivery) (S : SiteLaws D) where
     held-fresh = held-fresh;
     slot-fresh = fresh-seen;
     held-lock = held-lock;
-    slot-store = λ x r t n q ht hn. lock-seen x r t q (some n) ht (ltb-true n valueBound hn);
+    slot-store = λ x r t n q ht hn. lock-seen x r t q (some n) ht (S .value-fits n hn);
     slot-delete = λ x r t q ht. lock-seen x r t q none ht (omega arith);
     held-end = held-end;
     slot-end = end-seen;
@@ -159,7 +160,7 @@ module _ (D : Delivery) (S : SiteLaws D) where
 
 -- Control bytes: those written from the control part of a running store show it and have the form, those that a stopping fail of a card
 -- writes show a stopped store and have the form, and the failed cards stand where noise looks for them.
-pub record ControlLaws (D : Delivery) (S : SiteLaws D) : Type 0 where
+pub record ControlLaws (D : Delivery) (S : RuleLaws D) : Type 0 where
   pub reads : (k : PartOf D) → Form (rulesOf D) k → ControlInv (rulesOf D) (lawfulBy D S) k → (g : ℕ → ℕ)
       → ((n : ℕ) → n < controlSize → g n ≡ D .bytes k n) → D .part g ≡ k
   pub formed : (k : PartOf D) → Form (rulesOf D) k → ControlInv (rulesOf D) (lawfulBy D S) k → (g : ℕ → ℕ)
@@ -171,12 +172,18 @@ pub record ControlLaws (D : Delivery) (S : SiteLaws D) : Type 0 where
   pub same-failed : (g : ℕ → ℕ) → D .part g .failed ≡ current .part g .failed
 
 pub record DeliveryLaws (D : Delivery) : Type 0 where
-  pub sites : SiteLaws D
-  pub control : ControlLaws D sites
+  pub rules : RuleLaws D
+  pub control : ControlLaws D rules
 
 -- ---- the delivery in force
-pub siteLaws : SiteLaws current
-siteLaws = record { site-count = site-count; site-member = site-member; site-distinct = site-distinct; mask-back = λ m. refl }
+pub ruleLaws : RuleLaws current
+ruleLaws = record {
+  site-count = site-count;
+  site-member = site-member;
+  site-distinct = site-distinct;
+  mask-back = λ m. refl;
+  value-fits = λ n e. let h : n < brokenWire = ltb-true n brokenWire e in omega arith;
+}
 
 abbrev pub lawful : Laws cabinet
-lawful = lawfulBy current siteLaws
+lawful = lawfulBy current ruleLaws

@@ -11,7 +11,11 @@ pub mod Sound
 pub mod OneRecordList
 pub mod FormStays
 pub mod GoesOn
+pub mod TwoRails
 pub mod Base
+pub mod Earlier
+pub mod BrokenWire
+pub mod BrokenWireExamples
 pub mod Rails
 pub mod Running
 pub mod Protection

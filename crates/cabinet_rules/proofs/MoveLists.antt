@@ -6,7 +6,6 @@ use mathlib.Core.Bool.{Bool, cond, false, true}
 use mathlib.Core.List.{List, [], _∷_}
 use mathlib.Core.Path.{_∙_, _≡_, ap, ap₂, refl, subst, sym}
 use native.Mathlib.Omega.{arith}
-use Rattle.mask.specs.Placements.{olderFromMask}
 use Rattle.method.specs.Growth.{plainAfter, rulesAfter}
 use Rattle.method.specs.MoveList.{Entry, ListAnswer, anyMoveLocked, asMove, listAnswer, listed, noList, notListed}
 use Rattle.method.specs.OneRecordList.{zeroed}
@@ -21,11 +20,10 @@ use Rattle.control.specs.ControlBytes.{Part}
 use Rattle.cabinet_rules.specs.Cabinet.{cabinet}
 use Rattle.cabinet_rules.specs.Claims.{NoisyCall, imageAfter, imageAfterBy, imageCalls, noisy}
 use Rattle.cabinet_rules.specs.Delivery.{base, current}
-use Rattle.cabinet_rules.specs.GoesOn.{plainThen, rulesThen}
-use Rattle.cabinet_rules.specs.Images.{Image, answer, controlIn, next, nextBy, stateBy, stateIn}
+use Rattle.cabinet_rules.specs.Images.{Image, answer, controlIn, next, stateBy, stateIn}
 use Rattle.cabinet_rules.specs.MoveLists.{AreMoves, ListSettles, NeverSettles, NoShorterList, NoneByLock, NoneIsFinal}
-use Rattle.cabinet_rules.specs.MoveLists.{NoneIsFinalFromBase, listAnswerOn, listRefusal, movesOn, unlessRefusedList}
-use Rattle.cabinet_rules.proofs.Base.{sound-from-base}
+use Rattle.cabinet_rules.specs.MoveLists.{NoneIsFinalFromEarlier, listAnswerOn, listRefusal, movesOn, unlessRefusedList}
+use Rattle.cabinet_rules.proofs.Earlier.{earlier-sound}
 use Rattle.cabinet_rules.proofs.Form.{currentLaws}
 use Rattle.cabinet_rules.proofs.Lawful.{lawful}
 use Rattle.cabinet_rules.proofs.Running.{running-image, running-shows}
@@ -167,11 +165,9 @@ none-is-final m before e l runs =
     final (imageAfter l (next (start m) before)) (rulesAfter cabinet (imageCalls l) (zeroed cabinet m)) (plainAfter cabinet (imageCalls l) (zeroed cabinet m) (plainStart cabinet m))
     (sound-after current currentLaws l (next (start m) before) (zeroed cabinet m) (plainStart cabinet m) (start-sound current currentLaws m before e) runs)
 
--- And where the base's calls came first.
-pub none-is-final-from-base : NoneIsFinalFromBase
-unfolding NoneIsFinalFromBase
-none-is-final-from-base m before e l runs r goes =
-    let g : Image = imageAfterBy base l (nextBy base (start m) before) in
-    let z : State cabinet = rulesThen base current olderFromMask m l in
-    let q : PlainList cabinet = plainThen base current olderFromMask m l in
-    final (imageAfter r g) (rulesAfter cabinet (imageCalls r) z) (plainAfter cabinet (imageCalls r) z q) (sound-after current currentLaws r g z q (sound-from-base m before e l runs) goes)
+-- And from a store that earlier deliveries left.
+pub none-is-final-from-earlier : NoneIsFinalFromEarlier
+unfolding NoneIsFinalFromEarlier
+none-is-final-from-earlier s e l runs =
+    final (imageAfter l (s .image)) (rulesAfter cabinet (imageCalls l) (s .rules)) (plainAfter cabinet (imageCalls l) (s .rules) (s .plain))
+    (sound-after current currentLaws l (s .image) (s .rules) (s .plain) (earlier-sound s e) runs)

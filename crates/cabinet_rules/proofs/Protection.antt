@@ -11,7 +11,6 @@ use Rattle.lists.proofs.Bools.{and-l, never-true, not-is, tf}
 use Rattle.lists.proofs.Counts.{below-all, count-none, count-some}
 use Rattle.image.specs.Layout.{cardCount}
 use Rattle.mask.specs.Masks.{hasCard}
-use Rattle.mask.specs.Placements.{olderFromMask}
 use Rattle.mask.proofs.Masks.{has-card}
 use Rattle.method.specs.Growth.{plainAfter, rulesAfter}
 use Rattle.method.specs.OneRecordList.{isStop, zeroed}
@@ -20,14 +19,13 @@ use Rattle.method.specs.Protection.{ProtectedByFails, noFailStops, protection}
 use Rattle.method.specs.Rules.{Call, State, answerOf, fail, look, protected, refusal, start, state, stopping, unprotected}
 use Rattle.method.proofs.Protection.{fail-stops, protected-by-fails, state-ready}
 use Rattle.cabinet_rules.specs.Cabinet.{cabinet}
-use Rattle.cabinet_rules.specs.Claims.{NoStopBy, NoisyCall, imageAfter, imageAfterBy, imageCalls, noisy}
-use Rattle.cabinet_rules.specs.Delivery.{base, current}
-use Rattle.cabinet_rules.specs.GoesOn.{plainThen, rulesThen}
+use Rattle.cabinet_rules.specs.Claims.{NoStopBy, NoisyCall, imageAfter, imageCalls, noisy}
+use Rattle.cabinet_rules.specs.Delivery.{current}
 use Rattle.cabinet_rules.specs.Images.{Image, answer, answerBy, controlIn, next, planOn, refusalBy, refusalOn, stateBy}
-use Rattle.cabinet_rules.specs.Images.{nextBy, stateIn}
-use Rattle.cabinet_rules.specs.Protection.{ProtectedByFailsOnImages, ProtectedByPlainListOnImages, ProtectedFromBase}
+use Rattle.cabinet_rules.specs.Images.{stateIn}
+use Rattle.cabinet_rules.specs.Protection.{ProtectedByFailsOnImages, ProtectedByPlainListOnImages, ProtectedFromEarlier}
 use Rattle.cabinet_rules.specs.Protection.{noFailStopsOn}
-use Rattle.cabinet_rules.proofs.Base.{sound-from-base}
+use Rattle.cabinet_rules.proofs.Earlier.{earlier-sound}
 use Rattle.cabinet_rules.proofs.Form.{currentLaws}
 use Rattle.cabinet_rules.proofs.Lawful.{lawful}
 use Rattle.cabinet_rules.proofs.Running.{Running, running-image, running-shows}
@@ -110,8 +108,7 @@ pub protected-by-plain-list-on-images : ProtectedByPlainListOnImages
 unfolding ProtectedByPlainListOnImages
 protected-by-plain-list-on-images m before e = word-after (next (start m) before) (zeroed cabinet m) (plainStart cabinet m) (start-sound current currentLaws m before e)
 
--- from an image that the base's calls left
-pub protected-from-base : ProtectedFromBase
-unfolding ProtectedFromBase
-protected-from-base m before e l runs = word-after (imageAfterBy base l (nextBy base (start m) before)) (rulesThen base current olderFromMask m l) (plainThen base current olderFromMask m l)
-    (sound-from-base m before e l runs)
+-- from a store that earlier deliveries left
+pub protected-from-earlier : ProtectedFromEarlier
+unfolding ProtectedFromEarlier
+protected-from-earlier s e = word-after (s .image) (s .rules) (s .plain) (earlier-sound s e)

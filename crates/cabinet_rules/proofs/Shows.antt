@@ -53,7 +53,7 @@ module _ (D : Delivery) (W : DeliveryLaws D) where
   P = rulesOf D
 
   abbrev L : Laws P
-  L = lawfulBy D (W .sites)
+  L = lawfulBy D (W .rules)
 
   pub record Shows (g : Image) (k : PartOf D) (v : View P) : Type 0 where
     pub long : length g ≡ imageSize

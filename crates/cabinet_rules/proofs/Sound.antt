@@ -35,7 +35,7 @@ module _ (D : Delivery) (W : DeliveryLaws D) where
   P = rulesOf D
 
   abbrev L : Laws P
-  L = lawfulBy D (W .sites)
+  L = lawfulBy D (W .rules)
 
   pub record Sound (g : Image) (z : State P) (q : PlainList P) : Type 0 where
     pub long : length g ≡ imageSize

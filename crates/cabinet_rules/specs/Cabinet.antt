@@ -4,7 +4,7 @@ use Prim.Native.Nat.{_%_, _/_, _≤_, ℕ}
 use lib.Dec.{leb, ltb}
 use lib.ListN.{length}
 use mathlib.Core.Bool.{Bool, _&&_, _||_, not, true}
-use Rattle.image.specs.Layout.{blockCount, cardCount, copyCount, recordCount, slotCount, tranBound, valueBound}
+use Rattle.image.specs.Layout.{blockCount, cardCount, copyCount, recordCount, slotCount, tranBound}
 use Rattle.mask.specs.Masks.{Byte, hasCard, isWithin, noCards, size, withCard, withoutCard}
 use Rattle.mask.specs.Placements.{leastMembers}
 use Rattle.slot.specs.Blocks.{BlockBytes, emptyBlock, endSlots, freshBlock, isHeld, lockSlot, slotAt}
@@ -59,7 +59,7 @@ module _ (D : Delivery) where
     blocks = λ σ. blockCount;
     tranInRange = tranOk;
     recInRange = λ σ r. ltb r recordCount;
-    valueInRange = λ n. ltb n valueBound;
+    valueInRange = D .valueInRange;
     -- record r lies in block r/8 (whole part), at place r mod 8
     blockOf = λ r. r / slotCount;
     placeOf = λ r. r % slotCount;

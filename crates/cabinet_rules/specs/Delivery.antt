@@ -1,8 +1,9 @@
 -- What the deliveries of this cabinet differ in; the base, and the delivery in force. Assumes nothing.
 use Prim.Native.Nat.{ℕ}
-use lib.Dec.{eqb}
+use lib.Dec.{eqb, ltb}
 use mathlib.Core.Bool.{Bool, _&&_}
 use mathlib.Core.List.{List, map}
+use Rattle.image.specs.Layout.{valueBound}
 use Rattle.mask.specs.Masks.{Byte}
 use Rattle.mask.specs.Placements.{Placement, chainedSites, fromMask, olderFromMask, sitesOf}
 use Rattle.method.specs.ControlPart.{ControlPart, part}
@@ -22,6 +23,8 @@ pub record Delivery : Type 1 where
   pub bytes : ControlPart Byte Placement Setting → ℕ → ℕ
   pub part : (ℕ → ℕ) → ControlPart Byte Placement Setting
   pub form : (ℕ → ℕ) → Bool
+  -- the values that store takes; others are refused 3
+  pub valueInRange : ℕ → Bool
 
 -- Its control part.
 abbrev pub PartOf : Delivery → Type 0
@@ -39,6 +42,10 @@ abbrev pub masksAlone : Part → ControlPart Byte Byte Setting
 masksAlone k =
     part (k .stopped) (map (λ p. p .mask) (k .older)) (k .newest .mask) (k .working) (k .failed) (k .home) (k .setting)
 
+-- Every value that a slot has room for.
+abbrev pub anyValue : ℕ → Bool
+anyValue n = ltb n valueBound
+
 -- A placement comes from its mask alone, its sites are chained, and byte 7 is zero.
 abbrev pub base : Delivery
 base = record {
@@ -50,16 +57,17 @@ base = record {
   bytes = λ k. controlByte (olderPart k);
   part = λ g. masksAlone (controlOf g);
   form = λ g. formOk g && eqb (g 7) 0;
+  valueInRange = anyValue;
 }
 
--- ---- the delivery in force: A.1
+-- ---- A.1 to A.4
 -- Place refuses the newest mask again where that one is marked 1: it may be placed anew by rails.
 abbrev pub againByRails : Placement → Byte → Bool
 againByRails newest m = newest .byRails && eqb (m .0) (newest .mask .0)
 
 -- Sites are by the placement's mark, and start, place and fail write 1.
-abbrev pub current : Delivery
-current = record {
+abbrev pub twoRails : Delivery
+twoRails = record {
   Placement = Placement;
   mask = λ p. p .mask;
   sites = sitesOf;
@@ -68,4 +76,24 @@ current = record {
   bytes = controlByte;
   part = controlOf;
   form = formOk;
+  valueInRange = anyValue;
+}
+
+-- ---- the delivery in force: A.5
+-- New feeder drives read this value as a broken wire.
+abbrev pub brokenWire : ℕ
+brokenWire = 65535
+
+-- Store takes the values below it; nothing else differs.
+abbrev pub current : Delivery
+current = record {
+  Placement = twoRails .Placement;
+  mask = twoRails .mask;
+  sites = twoRails .sites;
+  fromMask = twoRails .fromMask;
+  isAgain = twoRails .isAgain;
+  bytes = twoRails .bytes;
+  part = twoRails .part;
+  form = twoRails .form;
+  valueInRange = λ n. ltb n brokenWire;
 }

@@ -1,5 +1,7 @@
--- Demand 3 on images where the list of calls goes on by a later delivery: the statement. Assumes nothing.
+-- Demand 3 on images that earlier deliveries left: what a store may have come through, and the statements. Assumes
+-- nothing.
 use mathlib.Core.List.{List}
+use mathlib.Core.Logic.{_⊎_}
 use mathlib.Core.Path.{_≡_}
 use Rattle.mask.specs.Masks.{Byte}
 use Rattle.mask.specs.Placements.{olderFromMask}
@@ -9,12 +11,58 @@ use Rattle.method.specs.Parameters.{Parameters}
 use Rattle.method.specs.PlainList.{PlainList, plainStart}
 use Rattle.method.specs.Rules.{State, ok, start}
 use Rattle.control_form.specs.ControlForm.{formRefusal}
-use Rattle.cabinet_rules.specs.Cabinet.{rulesOf}
-use Rattle.cabinet_rules.specs.Claims.{NoStopBy, NoisyCall, NoisyCallBy, imageAfter, imageAfterBy}
-use Rattle.cabinet_rules.specs.Claims.{imageCallsBy, runImageBy}
-use Rattle.cabinet_rules.specs.Delivery.{Delivery, base, current}
+use Rattle.cabinet_rules.specs.Cabinet.{cabinet, rulesOf}
+use Rattle.cabinet_rules.specs.Claims.{NoStopBy, NoisyCall, NoisyCallBy, imageAfter, imageAfterBy, imageCalls}
+use Rattle.cabinet_rules.specs.Claims.{imageCallsBy, runImage}
+use Rattle.cabinet_rules.specs.Delivery.{Delivery, base, current, twoRails}
 use Rattle.cabinet_rules.specs.Images.{Image, answerBy, nextBy}
 
+-- ---- a store by a delivery
+module _ (D : Delivery) where
+  -- A store as calls left it: its image, and beside it the run of the rules and the plain record list, which were fed
+  -- the same calls.
+  pub record StoreBy : Type 0 where
+    pub image : Image
+    pub rules : State (rulesOf D)
+    pub plain : PlainList (rulesOf D)
+
+  -- After a start, on memory of any contents.
+  abbrev pub startedStore : Byte → Image → StoreBy
+  startedStore m before =
+      record { image = nextBy D (start m) before; rules = zeroed (rulesOf D) m; plain = plainStart (rulesOf D) m }
+
+  -- After a list of calls.
+  abbrev pub calledStore : List (NoisyCallBy D) → StoreBy → StoreBy
+  calledStore l s = record {
+    image = imageAfterBy D l (s .image);
+    rules = rulesAfter (rulesOf D) (imageCallsBy D l) (s .rules);
+    plain = plainAfter (rulesOf D) (imageCallsBy D l) (s .rules) (s .plain);
+  }
+
+  -- The start was accepted.
+  pub record BegunBy (s : StoreBy) : Type 0 where
+    pub mask : Byte
+    pub before : Image
+    pub accepted : answerBy D (start mask) before ≡ ok
+    pub is : s ≡ startedStore mask before
+
+  -- A running store that D's calls left: D started it, or went on with an earlier one, and none of D's calls since then
+  -- stopped it.
+  pub record LeftBy (Earlier : StoreBy → Type 0) (s : StoreBy) : Type 0 where
+    pub first : StoreBy
+    pub begins : BegunBy first ⊎ Earlier first
+    pub calls : List (NoisyCallBy D)
+    pub runs : NoStopBy D calls (first .image)
+    pub is : s ≡ calledStore calls first
+
+  -- An image that D's calls left, whether they stopped the store or not.
+  pub record ImageLeftBy (Earlier : Image → Type 0) (g : Image) : Type 0 where
+    pub first : Image
+    pub begins : ((s : StoreBy) × BegunBy s × (first ≡ s .image)) ⊎ Earlier first
+    pub calls : List (NoisyCallBy D)
+    pub is : g ≡ imageAfterBy D calls first
+
+-- ---- a later delivery goes on
 -- E is the earlier delivery, D the later one; older says what a placement of E is by D.
 module _ (E D : Delivery) (older : E .Placement → D .Placement) where
   -- What D changes of the rules by E: they become the rules by D.
@@ -43,30 +91,46 @@ module _ (E D : Delivery) (older : E .Placement → D .Placement) where
     olderSetting = λ σ. σ;
   }
 
-  -- The plain record list after a start by E and calls by E, as D goes on with it, and the run of the rules beside it.
-  abbrev pub plainThen : Byte → List (NoisyCallBy E) → PlainList (rulesOf D)
-  plainThen m l =
-      grownPlain (rulesOf E) growthOf
-      (plainAfter (rulesOf E) (imageCallsBy E l) (zeroed (rulesOf E) m) (plainStart (rulesOf E) m))
+  -- E's store as D goes on with it: no byte changes, and no record of the plain record list.
+  abbrev pub takenOver : StoreBy E → StoreBy D
+  takenOver s = record {
+    image = s .image;
+    rules = grownState (rulesOf E) growthOf (s .rules);
+    plain = grownPlain (rulesOf E) growthOf (s .plain);
+  }
 
-  abbrev pub rulesThen : Byte → List (NoisyCallBy E) → State (rulesOf D)
-  rulesThen m l = grownState (rulesOf E) growthOf (rulesAfter (rulesOf E) (imageCallsBy E l) (zeroed (rulesOf E) m))
+  -- D has it from E.
+  pub record TakenOver (LeftByE : StoreBy E → Type 0) (s : StoreBy D) : Type 0 where
+    pub was : StoreBy E
+    pub left : LeftByE was
+    pub is : s ≡ takenOver was
 
-  -- After an accepted start by E on memory of any contents come any calls by E, none of which stops the store, and
-  -- then any calls by D: these are answered as by the plain record list that was fed all of them.
-  unfoldable pub GoesOnImages : Type 0
-  GoesOnImages = (m : Byte) (before : Image) → answerBy E (start m) before ≡ ok
-      → (l : List (NoisyCallBy E)) → NoStopBy E l (nextBy E (start m) before)
-      → (r : List (NoisyCallBy D))
-      → runImageBy D r (imageAfterBy E l (nextBy E (start m) before))
-      ≡ runPlain (rulesOf D) (imageCallsBy D r) (rulesThen m l) (plainThen m l)
+-- ---- the deliveries, in their order
+-- Running stores that the base's calls left; nothing came before it.
+abbrev pub LeftByBase : StoreBy base → Type 0
+LeftByBase = LeftBy base (λ s. ⊥)
 
--- DEMAND 3, going on from an image that the base's calls left after a start: its placements stay marked 0.
-abbrev pub GoesOnFromBase : Type 0
-GoesOnFromBase = GoesOnImages base current olderFromMask
+-- Those that calls by A.1 to A.4 left. The base's placements stay marked 0.
+abbrev pub LeftByRails : StoreBy twoRails → Type 0
+LeftByRails = LeftBy twoRails (TakenOver base twoRails olderFromMask LeftByBase)
 
--- There too refusals 1 and 2 never come again, whether the store runs or has stopped, by the base's calls or since.
-unfoldable pub FormStaysFromBase : Type 0
-FormStaysFromBase = (m : Byte) (before : Image) → answerBy base (start m) before ≡ ok
-    → (l : List (NoisyCallBy base)) (r : List NoisyCall)
-    → formRefusal (imageAfter r (imageAfterBy base l (nextBy base (start m) before))) ≡ 0
+-- What the delivery in force may go on with.
+abbrev pub Store : Type 0
+Store = StoreBy current
+
+abbrev pub Earlier : Store → Type 0
+Earlier = TakenOver twoRails current (λ p. p) LeftByRails
+
+-- The images of these and of the stopped stores.
+abbrev pub EarlierImage : Image → Type 0
+EarlierImage = ImageLeftBy twoRails (ImageLeftBy base (λ g. ⊥))
+
+-- DEMAND 3, going on from a store that earlier deliveries left: the calls since are answered as by the plain record list
+-- that was fed all calls.
+unfoldable pub GoesOnFromEarlier : Type 0
+GoesOnFromEarlier = (s : Store) → Earlier s → (l : List NoisyCall)
+    → runImage l (s .image) ≡ runPlain cabinet (imageCalls l) (s .rules) (s .plain)
+
+-- There too refusals 1 and 2 never come again, whether the store runs or has stopped, by earlier calls or since.
+unfoldable pub FormStaysFromEarlier : Type 0
+FormStaysFromEarlier = (g : Image) → EarlierImage g → (l : List NoisyCall) → formRefusal (imageAfter l g) ≡ 0

@@ -4,5 +4,6 @@ pub mod Images
 pub mod Claims
 pub mod Rails
 pub mod GoesOn
+pub mod BrokenWire
 pub mod Protection
 pub mod MoveLists

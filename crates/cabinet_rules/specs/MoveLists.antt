@@ -11,10 +11,10 @@ use Rattle.method.specs.MoveList.{notListed}
 use Rattle.method.specs.Rules.{look, ok, refused, retired, row, settle, start}
 use Rattle.control_form.specs.ControlForm.{controlForm, formRows}
 use Rattle.cabinet_rules.specs.Cabinet.{cabinet}
-use Rattle.cabinet_rules.specs.Claims.{NoStopBy, NoisyCall, NoisyCallBy, imageAfter, imageAfterBy, imageCalls}
-use Rattle.cabinet_rules.specs.Claims.{noisy}
-use Rattle.cabinet_rules.specs.Delivery.{base, current}
-use Rattle.cabinet_rules.specs.Images.{Image, answer, answerBy, controlIn, next, nextBy, stateIn}
+use Rattle.cabinet_rules.specs.Claims.{NoStopBy, NoisyCall, imageAfter, imageCalls, noisy}
+use Rattle.cabinet_rules.specs.Delivery.{current}
+use Rattle.cabinet_rules.specs.GoesOn.{Earlier, Store}
+use Rattle.cabinet_rules.specs.Images.{Image, answer, controlIn, next, stateIn}
 
 -- ---- the call
 -- The list of an image.
@@ -72,10 +72,8 @@ NoneIsFinal = (m : Byte) (before : Image) → answer (start m) before ≡ ok
     → (room : ℕ) → listAnswerOn room (imageAfter l (next (start m) before)) ≡ noList
     → NeverSettles (imageAfter l (next (start m) before))
 
--- The same where the base's calls came first.
-unfoldable pub NoneIsFinalFromBase : Type 0
-NoneIsFinalFromBase = (m : Byte) (before : Image) → answerBy base (start m) before ≡ ok
-    → (l : List (NoisyCallBy base)) → NoStopBy base l (nextBy base (start m) before)
-    → (r : List NoisyCall) → NoStopBy current r (imageAfterBy base l (nextBy base (start m) before))
-    → (room : ℕ) → listAnswerOn room (imageAfter r (imageAfterBy base l (nextBy base (start m) before))) ≡ noList
-    → NeverSettles (imageAfter r (imageAfterBy base l (nextBy base (start m) before)))
+-- The same from a store that earlier deliveries left.
+unfoldable pub NoneIsFinalFromEarlier : Type 0
+NoneIsFinalFromEarlier = (s : Store) → Earlier s → (l : List NoisyCall) → NoStopBy current l (s .image)
+    → (room : ℕ) → listAnswerOn room (imageAfter l (s .image)) ≡ noList
+    → NeverSettles (imageAfter l (s .image))

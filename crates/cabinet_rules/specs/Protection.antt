@@ -6,18 +6,16 @@ use mathlib.Core.Path.{_≡_}
 use Rattle.lists.specs.Tests.{allBelow}
 use Rattle.image.specs.Layout.{cardCount}
 use Rattle.mask.specs.Masks.{Byte}
-use Rattle.mask.specs.Placements.{olderFromMask}
 use Rattle.method.specs.Growth.{plainAfter}
 use Rattle.method.specs.OneRecordList.{isStop, zeroed}
 use Rattle.method.specs.PlainList.{plainProtected, plainStart}
 use Rattle.method.specs.Protection.{protection}
 use Rattle.method.specs.Rules.{fail, ok, start, state}
 use Rattle.cabinet_rules.specs.Cabinet.{cabinet}
-use Rattle.cabinet_rules.specs.Claims.{NoStopBy, NoisyCall, NoisyCallBy, imageAfter, imageAfterBy, imageCalls}
-use Rattle.cabinet_rules.specs.Claims.{noisy}
-use Rattle.cabinet_rules.specs.Delivery.{base, current}
-use Rattle.cabinet_rules.specs.GoesOn.{plainThen, rulesThen}
-use Rattle.cabinet_rules.specs.Images.{Image, answer, answerBy, next, nextBy, refusalOn}
+use Rattle.cabinet_rules.specs.Claims.{NoStopBy, NoisyCall, imageAfter, imageCalls, noisy}
+use Rattle.cabinet_rules.specs.Delivery.{current}
+use Rattle.cabinet_rules.specs.GoesOn.{Earlier, Store}
+use Rattle.cabinet_rules.specs.Images.{Image, answer, next, refusalOn}
 
 -- No fail of a card would answer 'stopped' on this image.
 unfoldable pub noFailStopsOn : Image → Bool
@@ -38,13 +36,9 @@ ProtectedByPlainListOnImages = (m : Byte) (before : Image) → answer (start m) 
     ≡ protection cabinet (plainProtected cabinet
     (plainAfter cabinet (imageCalls l) (zeroed cabinet m) (plainStart cabinet m)))
 
--- The same where the base's calls came first: the plain record list is fed them too.
-unfoldable pub ProtectedFromBase : Type 0
-ProtectedFromBase = (m : Byte) (before : Image) → answerBy base (start m) before ≡ ok
-    → (l : List (NoisyCallBy base)) → NoStopBy base l (nextBy base (start m) before)
-    → (r : List NoisyCall) → NoStopBy current r (imageAfterBy base l (nextBy base (start m) before))
+-- The same from a store that earlier deliveries left: the plain record list was fed their calls too.
+unfoldable pub ProtectedFromEarlier : Type 0
+ProtectedFromEarlier = (s : Store) → Earlier s → (l : List NoisyCall) → NoStopBy current l (s .image)
     → (noise : ℕ → ℕ)
-    → answer state (noisy noise (imageAfter r (imageAfterBy base l (nextBy base (start m) before))))
-    ≡ protection cabinet (plainProtected cabinet
-    (plainAfter cabinet (imageCalls r)
-    (rulesThen base current olderFromMask m l) (plainThen base current olderFromMask m l)))
+    → answer state (noisy noise (imageAfter l (s .image)))
+    ≡ protection cabinet (plainProtected cabinet (plainAfter cabinet (imageCalls l) (s .rules) (s .plain)))

@@ -32,26 +32,29 @@ fn refused(refusal: u8) -> Access
     }
 }
 
-// Rows 3, 4 and 5.
-fn early_rows(k: Control, tran: Tran, rec: Rec) -> u8
-    ensures { λ r. ⌜ r ≡ earlyRows (meaning k) (tran .0) (rec .0) ⌝ }
+// Rows 3, 4 and 5; whether the call's other numbers are in range is given.
+fn early_rows(k: Control, tran: Tran, rec: Rec, in_range: bool) -> u8
+    ensures { λ r. ⌜ r ≡ earlyRows (meaning k) (tran .0) (rec .0) in_range 0 ⌝ }
 {
+    if !in_range {
+        return 3;
+    }
     if rec.0 as usize >= RECORD_COUNT {
         return 3;
     }
     promise::rows::tran_refusal(k, tran)
 }
 
-// The record's rows and holders.
-pub fn look_up(image: &[u8], tran: Tran, rec: Rec) -> Access
-    ensures { λ r. ⌜ LooksUp (now (image .entry)) (tran .0) (rec .0) r ⌝ }
+// The record's rows and holders; whether the call's other numbers are in range is given.
+pub fn look_up(image: &[u8], tran: Tran, rec: Rec, in_range: bool) -> Access
+    ensures { λ r. ⌜ LooksUp (now (image .entry)) (tran .0) (rec .0) in_range r ⌝ }
 {
     let found = control_form::read(image);
     if found.refusal != 0 {
         return refused(found.refusal);
     }
     let k = found.control;
-    let early = early_rows(k, tran, rec);
+    let early = early_rows(k, tran, rec, in_range);
     if early != 0 {
         return refused(early);
     }

@@ -18,14 +18,14 @@ use Rattle.method.specs.Rules.{place, refusal, rollback, row, settle, start, st
 use Rattle.method.proofs.Moves.{moved}
 use Rattle.cabinet_rules.specs.Cabinet.{cabinet}
 use Rattle.cabinet_rules.specs.Claims.{NoStopBy, NoisyCall, imageAfter, imageAfterBy, imageCalls, noisy}
-use Rattle.cabinet_rules.specs.Delivery.{PartOf, base, current}
+use Rattle.cabinet_rules.specs.Delivery.{PartOf, current}
 use Rattle.cabinet_rules.specs.Images.{Image, answer, controlIn, next, nextBy, refusalBy, stateIn, unlessRefusedImage}
-use Rattle.cabinet_rules.specs.MoveLists.{AreMoves, ListSettles, NeverSettles, NoShorterList, NoneIsFinal, NoneIsFinalFromBase}
+use Rattle.cabinet_rules.specs.MoveLists.{AreMoves, ListSettles, NeverSettles, NoShorterList, NoneIsFinal, NoneIsFinalFromEarlier}
 use Rattle.cabinet_rules.specs.MoveLists.{listAnswerOn, listRefusal, movesOn}
 use Rattle.cabinet_rules.proofs.Form.{currentLaws}
 use Rattle.cabinet_rules.proofs.Lawful.{lawful}
 use Rattle.cabinet_rules.proofs.MoveLists.{list-settles, listed-clear, move-shows, no-shorter-list, none-clear, none-is-final}
-use Rattle.cabinet_rules.proofs.MoveLists.{none-is-final-from-base, settle-shown}
+use Rattle.cabinet_rules.proofs.MoveLists.{none-is-final-from-earlier, settle-shown}
 use Rattle.cabinet_rules.proofs.Running.{running-image, running-shows}
 use Rattle.cabinet_rules.proofs.Shows.{Shows, noise-shows}
 use Rattle.move_list.specs.Plans.{moveFor}
@@ -199,6 +199,5 @@ unfolding NoneIsFinalOfCalls NoneIsFinal
 none-is-final-of-calls m before behind d = rw (d .leaves) (none-final (next (start (byte m)) before) (none-is-final (byte m) before (sym (d .answers))))
 
 pub none-goes-on-of-calls : NoneGoesOnOfCalls
-unfolding NoneGoesOnOfCalls NoneIsFinalFromBase
-none-goes-on-of-calls m before e earlier runs =
-    none-final (imageAfterBy base earlier (nextBy base (start m) before)) (none-is-final-from-base m before e earlier runs)
+unfolding NoneGoesOnOfCalls NoneIsFinalFromEarlier
+none-goes-on-of-calls s e = none-final (s .image) (none-is-final-from-earlier s e)

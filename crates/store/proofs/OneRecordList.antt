@@ -4,16 +4,14 @@ use mathlib.Core.Bool.{Bool, cond, false, true}
 use mathlib.Core.List.{List, [], _∷_}
 use mathlib.Core.Path.{_∙_, _≡_, ap, refl, sym}
 use Rattle.mask.specs.Masks.{byte}
-use Rattle.mask.specs.Placements.{olderFromMask}
 use Rattle.method.specs.OneRecordList.{Observation, isLast, observe, plainObserve, runPlain, settleAccepted, zeroed}
 use Rattle.method.specs.PlainList.{PlainList, plainNext, plainStart}
-use Rattle.method.specs.Rules.{Call, State, nextState, start}
+use Rattle.method.specs.Rules.{Call, State, nextState}
 use Rattle.cabinet_rules.specs.Cabinet.{cabinet}
-use Rattle.cabinet_rules.specs.Claims.{imageAfterBy, noisy}
-use Rattle.cabinet_rules.specs.Delivery.{base, current}
-use Rattle.cabinet_rules.specs.GoesOn.{plainThen, rulesThen}
-use Rattle.cabinet_rules.specs.Images.{Image, nextBy}
-use Rattle.cabinet_rules.proofs.Base.{sound-from-base}
+use Rattle.cabinet_rules.specs.Claims.{noisy}
+use Rattle.cabinet_rules.specs.Delivery.{current}
+use Rattle.cabinet_rules.specs.Images.{Image}
+use Rattle.cabinet_rules.proofs.Earlier.{earlier-sound}
 use Rattle.cabinet_rules.proofs.Form.{currentLaws}
 use Rattle.cabinet_rules.proofs.Sound.{Sound, Steps, noise-sound, start-sound, step-sound}
 use Rattle.promise.specs.Promise.{Done, asked}
@@ -51,12 +49,10 @@ run-observed (storeCall x ∷ l) g z q s r =
     (λ t. run-observed l (x .left) (nextState cabinet (asked (x .call)) z) (plainAfterCall (asked (x .call)) z q) t (r .1))
 run-observed (listCall x ∷ l) g z q s r = run-observed l (noisy (x .noise) g) z q (noise-sound current currentLaws (x .noise) g z q s) (r .1)
 
--- DEMAND 3, going on from the memory that the base's calls left
+-- DEMAND 3, going on from a store that earlier deliveries left
 pub goes-on-of-calls : GoesOnOfCalls
 unfolding GoesOnOfCalls
-goes-on-of-calls m before e earlier runs l =
-    run-observed l (imageAfterBy base earlier (nextBy base (start m) before)) (rulesThen base current olderFromMask m earlier) (plainThen base current olderFromMask m earlier)
-    (sound-from-base m before e earlier runs)
+goes-on-of-calls s e l = run-observed l (s .image) (s .rules) (s .plain) (earlier-sound s e)
 
 -- DEMAND 3
 pub one-record-list-of-calls : OneRecordListOfCalls

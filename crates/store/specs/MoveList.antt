@@ -3,12 +3,12 @@ use Prim.Native.Nat.{_≤_, ℕ}
 use lib.ListN.{length, take}
 use mathlib.Core.List.{List, map}
 use mathlib.Core.Path.{_≡_}
-use Rattle.mask.specs.Masks.{Byte, byte}
-use Rattle.method.specs.Rules.{Call, ok, refused, retired, settle, start}
+use Rattle.mask.specs.Masks.{byte}
+use Rattle.method.specs.Rules.{Call, refused, retired, settle, start}
 use Rattle.cabinet_rules.specs.Cabinet.{cabinet}
-use Rattle.cabinet_rules.specs.Claims.{NoStopBy, NoisyCallBy, imageAfterBy, noisy}
-use Rattle.cabinet_rules.specs.Delivery.{base}
-use Rattle.cabinet_rules.specs.Images.{Image, answerBy, controlIn, nextBy}
+use Rattle.cabinet_rules.specs.Claims.{noisy}
+use Rattle.cabinet_rules.specs.GoesOn.{Earlier, Store}
+use Rattle.cabinet_rules.specs.Images.{Image, controlIn}
 use Rattle.move_list.specs.Promise.{ListDone}
 use Rattle.move_list.specs.declared.Listed.the-variants.{Moves, None}
 use Rattle.move_list.specs.declared.Move.{Move}
@@ -57,8 +57,6 @@ NoneIsFinalOn g = (l : List RunCall) → Ran l g → NoStop l
 unfoldable pub NoneIsFinalOfCalls : Type 0
 NoneIsFinalOfCalls = (m : ℕ) (before behind : Image) → Done (start (byte m)) before Ok behind → NoneIsFinalOn behind
 
--- And on memory that the base's calls left after a start that said ok, none of which stopped the store.
+-- And on the memory of a store that earlier deliveries left.
 unfoldable pub NoneGoesOnOfCalls : Type 0
-NoneGoesOnOfCalls = (m : Byte) (before : Image) → answerBy base (start m) before ≡ ok
-    → (earlier : List (NoisyCallBy base)) → NoStopBy base earlier (nextBy base (start m) before)
-    → NoneIsFinalOn (imageAfterBy base earlier (nextBy base (start m) before))
+NoneGoesOnOfCalls = (s : Store) → Earlier s → NoneIsFinalOn (s .image)

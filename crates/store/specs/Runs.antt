@@ -4,16 +4,14 @@ use mathlib.Core.Bool.{cond}
 use mathlib.Core.List.{List, [], _∷_}
 use mathlib.Core.Logic.{_≢_}
 use mathlib.Core.Path.{_≡_}
-use Rattle.mask.specs.Masks.{Byte, byte}
-use Rattle.mask.specs.Placements.{olderFromMask}
+use Rattle.mask.specs.Masks.{byte}
 use Rattle.method.specs.OneRecordList.{Observation, isLast, observe, runPlain, zeroed}
 use Rattle.method.specs.PlainList.{plainStart}
-use Rattle.method.specs.Rules.{Call, ok, start}
+use Rattle.method.specs.Rules.{Call, start}
 use Rattle.cabinet_rules.specs.Cabinet.{cabinet}
-use Rattle.cabinet_rules.specs.Claims.{NoStopBy, NoisyCallBy, imageAfterBy, noisy}
-use Rattle.cabinet_rules.specs.Delivery.{base, current}
-use Rattle.cabinet_rules.specs.GoesOn.{plainThen, rulesThen}
-use Rattle.cabinet_rules.specs.Images.{Image, answerBy, nextBy}
+use Rattle.cabinet_rules.specs.Claims.{noisy}
+use Rattle.cabinet_rules.specs.GoesOn.{Earlier, Store}
+use Rattle.cabinet_rules.specs.Images.{Image}
 use Rattle.move_list.specs.Promise.{ListDone}
 use Rattle.move_list.specs.declared.Listed.{Listed}
 use Rattle.move_list.specs.declared.Move.{Move}
@@ -84,11 +82,8 @@ OneRecordListOfCalls = (m : ℕ) (before behind : Image) → Done (start (byte m
     → (l : List RunCall) → Ran l behind
     → observed l ≡ runPlain cabinet (callsOf l) (zeroed cabinet (byte m)) (plainStart cabinet (byte m))
 
--- DEMAND 3 of the calls, going on. The same on memory that the base's calls left after a start that said ok, none of
--- which stopped the store: the plain record list is fed the base's calls first.
+-- DEMAND 3 of the calls, going on. The same on the memory of a store that earlier deliveries left: the plain record
+-- list was fed their calls too.
 unfoldable pub GoesOnOfCalls : Type 0
-GoesOnOfCalls = (m : Byte) (before : Image) → answerBy base (start m) before ≡ ok
-    → (earlier : List (NoisyCallBy base)) → NoStopBy base earlier (nextBy base (start m) before)
-    → (l : List RunCall) → Ran l (imageAfterBy base earlier (nextBy base (start m) before))
-    → observed l ≡ runPlain cabinet (callsOf l) (rulesThen base current olderFromMask m earlier)
-    (plainThen base current olderFromMask m earlier)
+GoesOnOfCalls = (s : Store) → Earlier s → (l : List RunCall) → Ran l (s .image)
+    → observed l ≡ runPlain cabinet (callsOf l) (s .rules) (s .plain)

@@ -1,7 +1,8 @@
 -- The proof of `store`. Assumes nothing.
-use Prim.Native.Nat.{_<_}
+use lib.Dec.{ltb}
+use mathlib.Core.Path.{refl}
 use borrow.Author.Needs.{needs}
-use Rattle.image.specs.Layout.{valueBound}
+use Rattle.cabinet_rules.specs.Delivery.{brokenWire}
 use Rattle.records.proofs.Calls.{newest-usable, rec-fits, store-held, store-new, store-refused, tran-fits, whole}
 use Rattle.records.proofs.store.Statement.{statement}
 use Rattle.records.proofs.store.Tie as tie
@@ -16,8 +17,7 @@ returns : tie.Need-returns
 returns c =
     let u = c .before .before in
     let a = u .before .before .before .args in
-    let fits : a .value < valueBound = search needs in
-    store-refused (a .image .now) (a .tran .0) (a .rec .0) _ (u .look-up .ensures .refusal-is) (c .if1 .taken) (a .value) fits
+    store-refused (a .image .now) (a .tran .0) (a .rec .0) _ (c .if1 .taken) (a .value) (u .look-up .ensures .refusal-is)
 
 lay-requires : tie.Need-lay-requires
 lay-requires c κs =
@@ -27,8 +27,8 @@ lay-requires c κs =
     let g = a .image .now in
     let found = u .look-up .result in
     let ready = u .look-up .ensures .ready (e .if1 .left) in (
-      (whole g (a .tran .0) (a .rec .0) found ready, rec-fits g (a .tran .0) (a .rec .0) found ready, tran-fits g (a .tran .0) (a .rec .0) found ready),
-      (newest-usable g (a .tran .0) (a .rec .0) found ready, ready .newest-is),
+      (whole g (a .tran .0) (a .rec .0) (ltb (a .value) brokenWire) found ready, rec-fits g (a .tran .0) (a .rec .0) (ltb (a .value) brokenWire) found ready, tran-fits g (a .tran .0) (a .rec .0) (ltb (a .value) brokenWire) found ready),
+      (newest-usable g (a .tran .0) (a .rec .0) (ltb (a .value) brokenWire) found ready, ready .newest-is),
     )
 
 same-length-2 : tie.Need-same-length-2
@@ -41,8 +41,7 @@ returns-2 c =
     let e = t .before .before .before in
     let u = e .before .before in
     let a = u .before .before .before .args in
-    let fits : a .value < valueBound = search needs in
-    store-new (a .image .now) (a .tran .0) (a .rec .0) (u .look-up .result) (u .look-up .ensures .ready (e .if1 .left)) (a .value) fits _ (t .if2 .taken) (y .lay .ensures)
+    store-new (a .image .now) (a .tran .0) (a .rec .0) (ltb (a .value) brokenWire) (u .look-up .result) (u .look-up .ensures .ready (e .if1 .left)) (a .value) refl _ (t .if2 .taken) (y .lay .ensures)
 
 lock-all-requires : tie.Need-lock-all-requires
 lock-all-requires c κs =
@@ -52,7 +51,7 @@ lock-all-requires c κs =
     let g = a .image .now in
     let found = u .look-up .result in
     let ready = u .look-up .ensures .ready (e .if1 .left) in
-    ((whole g (a .tran .0) (a .rec .0) found ready, rec-fits g (a .tran .0) (a .rec .0) found ready, tran-fits g (a .tran .0) (a .rec .0) found ready), ready .holders-are)
+    ((whole g (a .tran .0) (a .rec .0) (ltb (a .value) brokenWire) found ready, rec-fits g (a .tran .0) (a .rec .0) (ltb (a .value) brokenWire) found ready, tran-fits g (a .tran .0) (a .rec .0) (ltb (a .value) brokenWire) found ready), ready .holders-are)
 
 same-length-3 : tie.Need-same-length-3
 same-length-3 c = search needs
@@ -64,8 +63,7 @@ returns-3 c =
     let e = t .before .before .before in
     let u = e .before .before in
     let a = u .before .before .before .args in
-    let fits : a .value < valueBound = search needs in
-    store-held (a .image .now) (a .tran .0) (a .rec .0) (u .look-up .result) (u .look-up .ensures .ready (e .if1 .left)) (a .value) fits _ (t .if2 .left) (y .lock-all .ensures)
+    store-held (a .image .now) (a .tran .0) (a .rec .0) (ltb (a .value) brokenWire) (u .look-up .result) (u .look-up .ensures .ready (e .if1 .left)) (a .value) refl _ (t .if2 .left) (y .lock-all .ensures)
 
 pub store-spec : {M : Type 1} → statement M
 store-spec =

@@ -1,0 +1,61 @@
+-- The delivery of A.1 to A.4 meets what is asked of a delivery, and the one in force follows it. Assumes nothing.
+use borrow.Author.Tests.{ltb-true}
+use mathlib.Core.List.{List, [], _∷_, map}
+use mathlib.Core.Path.{_≡_, ap, refl, subst, sym}
+use Rattle.image.specs.Layout.{valueBound}
+use Rattle.mask.specs.Placements.{Placement}
+use Rattle.mask.proofs.SiteLaws.{site-count, site-distinct, site-member}
+use Rattle.method.specs.ControlPart.{part}
+use Rattle.method.specs.Growth.{grownControl}
+use Rattle.method.proofs.Capacity.{ControlInv}
+use Rattle.method.proofs.Growth.{control-inv-grown, form-grown}
+use Rattle.method.proofs.Invariant.{Form}
+use Rattle.control.specs.ControlBytes.{Part, controlByte}
+use Rattle.cabinet_rules.specs.Cabinet.{cabinet, rulesOf}
+use Rattle.cabinet_rules.specs.Delivery.{current, twoRails}
+use Rattle.cabinet_rules.specs.GoesOn.{growthOf}
+use Rattle.cabinet_rules.proofs.Form.{controlLaws}
+use Rattle.cabinet_rules.proofs.GoesOn.{Follows, keeps}
+use Rattle.cabinet_rules.proofs.Lawful.{ControlLaws, DeliveryLaws, RuleLaws, lawful, lawfulBy}
+
+pub railRules : RuleLaws twoRails
+railRules = record {
+  site-count = site-count;
+  site-member = site-member;
+  site-distinct = site-distinct;
+  mask-back = λ m. refl;
+  value-fits = λ n e. ltb-true n valueBound e;
+}
+
+-- ---- a control part stays as it is
+same-list : (l : List Placement) → map (λ (p : Placement). p) l ≡ l
+same-list [] = refl
+same-list (p ∷ l) = ap (λ (t : List Placement). p ∷ t) (same-list l)
+
+same-part : (k : Part) → grownControl (rulesOf twoRails) (growthOf twoRails current (λ p. p)) k ≡ k
+same-part k = ap (λ (l : List Placement). part (k .stopped) l (k .newest) (k .working) (k .failed) (k .home) (k .setting)) (same-list (k .older))
+
+pub current-follows : Follows twoRails current (λ p. p)
+current-follows = record { same-mask = λ p. refl; same-sites = λ p b. refl; same-bytes = λ k n h. ap (λ (x : Part). controlByte x n) (sym (same-part k)) }
+
+module _ (k : Part) where
+  form-now : Form (rulesOf twoRails) k → Form cabinet k
+  form-now f = subst (Form cabinet) (same-part k)
+      (form-grown (rulesOf twoRails) (lawfulBy twoRails railRules) (growthOf twoRails current (λ p. p)) (keeps twoRails current (λ p. p) current-follows) lawful k f)
+
+  inv-now : ControlInv (rulesOf twoRails) (lawfulBy twoRails railRules) k → ControlInv cabinet lawful k
+  inv-now u = subst (ControlInv cabinet lawful) (same-part k)
+      (control-inv-grown (rulesOf twoRails) (lawfulBy twoRails railRules) (growthOf twoRails current (λ p. p)) (keeps twoRails current (λ p. p) current-follows) lawful k u)
+
+-- ---- control bytes are those of the delivery in force
+pub railControl : ControlLaws twoRails railRules
+railControl = record {
+  reads = λ k f u. controlLaws .reads k (form-now k f) (inv-now k u);
+  formed = λ k f u. controlLaws .formed k (form-now k f) (inv-now k u);
+  stop-read = λ k f u. controlLaws .stop-read k (form-now k f) (inv-now k u);
+  stop-formed = λ k f u. controlLaws .stop-formed k (form-now k f) (inv-now k u);
+  same-failed = λ g. refl;
+}
+
+abbrev pub railLaws : DeliveryLaws twoRails
+railLaws = record { rules = railRules; control = railControl }
