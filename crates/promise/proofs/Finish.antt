@@ -14,7 +14,7 @@ use Rattle.method.specs.PlainList.{orRefused}
 use Rattle.method.specs.Rules.{Call, Plan, row, unwritten, writing}
 use Rattle.method.proofs.Refusals.{row-clear}
 use Rattle.control.specs.ControlBytes.{Part, controlByte}
-use Rattle.control_form.specs.ControlForm.{controlForm, formRefusal, formRows}
+use Rattle.control_form.specs.ControlForm.{controlForm, formRefusal}
 use Rattle.control.specs.Meaning.{putControl}
 use Rattle.control_form.specs.Reading.{Reads}
 use Rattle.control.specs.declared.Control.{Control}
@@ -50,24 +50,16 @@ unfolding answerBy nextBy
 by-row c g zero e d = absurd (d refl)
 by-row c g (suc n) e d = let r : refusalOn c g ≡ suc n = sym e in record { answers = rw r; leaves = rw r }
 
--- rows 1 and 2 over any rows below them: where one applies it is the answer, else they do not count
-pub form-rows : (g : Image) (below n : ℕ) → n ≡ formRefusal g → n ≢ 0 → n ≡ formRows false (controlForm g) g below
-unfolding formRefusal
-form-rows g below n e d = go (not (eqb (length g) imageSize)) (not (controlForm g)) e
-  where
-    go : (a b : Bool) → n ≡ row 1 a (row 2 b 0) → n ≡ row 1 a (row 2 b below)
-    go true b h = h
-    go false true h = h
-    go false false h = absurd (d h)
-
-pub form-clear : (g : Image) (below : ℕ) → formRefusal g ≡ 0 → formRows false (controlForm g) g below ≡ below
-form-clear g below clear = rw (eq-eqb (length g) imageSize (form-long g clear), form-good g clear)
-
 module _ (c : Call cabinet) (late : isStart c ≡ false) (g : Image) where
   -- 1 and 2
   pub form-row : (n : ℕ) → n ≡ formRefusal g → n ≢ 0 → n ≡ refusalOn c g
-  unfolding refusalBy
-  form-row n e d = rw late (form-rows g (rowsOn c g) n e d)
+  unfolding refusalBy formRefusal
+  form-row n e d = rw late (go (not (eqb (length g) imageSize)) (not (controlForm g)) e)
+    where
+      go : (a b : Bool) → n ≡ row 1 a (row 2 b 0) → n ≡ row 1 a (row 2 b (rowsOn c g))
+      go true b h = h
+      go false true h = h
+      go false false h = absurd (d h)
 
   pub by-form : (n : ℕ) → n ≡ formRefusal g → n ≢ 0 → Done c g (Refused n) g
   by-form n e d = by-row c g n (form-row n e d) d
@@ -75,7 +67,7 @@ module _ (c : Call cabinet) (late : isStart c ≡ false) (g : Image) where
   module _ (clear : formRefusal g ≡ 0) where
     pub refusal-rules : refusalOn c g ≡ rowsOn c g
     unfolding refusalBy
-    refusal-rules = rw late (form-clear g (rowsOn c g) clear)
+    refusal-rules = rw (eq-eqb (length g) imageSize (form-long g clear), form-good g clear, late)
 
     -- 3 and up
     pub by-rules : (n : ℕ) → n ≡ rowsOn c g → n ≢ 0 → Done c g (Refused n) g

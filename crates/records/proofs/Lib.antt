@@ -1,4 +1,5 @@
 pub mod Rows
+pub mod Values
 pub mod Reading
 pub mod Locking
 pub mod LookUp

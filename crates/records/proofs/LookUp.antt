@@ -5,7 +5,6 @@ use mathlib.Core.Bool.{Bool, _&&_, and-true, false, not, true}
 use mathlib.Core.Logic.{_≢_}
 use mathlib.Core.Path.{_∙_, _≡_, ap, refl, sym}
 use native.Mathlib.Omega.{arith}
-use Rattle.lists.proofs.Bools.{and-l, and-r}
 use Rattle.image.specs.Layout.{recordCount, slotCount}
 use Rattle.mask.specs.Placements.{meant}
 use Rattle.method.specs.ControlPart.{isOpen}
@@ -13,23 +12,21 @@ use Rattle.method.specs.Rules.{View, delete, get, refusal, row, store}
 use Rattle.method.proofs.Refusals.{row-3}
 use Rattle.control.specs.ControlBytes.{Part}
 use Rattle.control.specs.Meaning.{meaning}
-use Rattle.control_form.specs.ControlForm.{controlForm, formRows}
 use Rattle.control_form.specs.Reading.{Reads}
 use Rattle.control_form.specs.declared.Found.{Found}
 use Rattle.cabinet_rules.specs.Cabinet.{cabinet, tranOk}
 use Rattle.cabinet_rules.specs.Delivery.{brokenWire}
-use Rattle.cabinet_rules.specs.Images.{Image, controlIn, refusalBy, refusalOn}
-use Rattle.promise.specs.Given.{Given}
-use Rattle.promise.proofs.Finish.{form-clear, given}
+use Rattle.cabinet_rules.specs.Images.{Image, controlIn, refusalOn}
+use Rattle.promise.specs.Given.{Given, rowsOn}
+use Rattle.promise.proofs.Finish.{given, refusal-rules}
 use Rattle.trail.specs.Trail.{Lists, holdersIn}
 use Rattle.trail.specs.declared.Holders.{Holders}
-use Rattle.records.specs.Access.{LooksUp, earlyRows, recordRefusal}
+use Rattle.records.specs.Access.{LooksUp, earlyRows}
 use Rattle.records.specs.Slots.{lockedOutIn}
 use Rattle.records.specs.declared.access.Access.{Access}
 use Rattle.records.proofs.Rows.{rec-lt}
 
--- ---- the rows of the three calls
--- those of store and delete are those of get, where the value is in range
+-- ---- the rows of the three calls are those of get, where a value is in range
 pub store-rows : (k : Part) (v : View cabinet) (t r n : ℕ) → ltb n brokenWire ≡ true → refusal cabinet (get t r) k v ≡ refusal cabinet (store t r n) k v
 unfolding refusal
 store-rows k v t r n h = rw (h, and-true (tranOk t && ltb r recordCount))
@@ -37,20 +34,6 @@ store-rows k v t r n h = rw (h, and-true (tranOk t && ltb r recordCount))
 pub delete-rows : (k : Part) (v : View cabinet) (t r : ℕ) → refusal cabinet (get t r) k v ≡ refusal cabinet (delete t r) k v
 unfolding refusal
 delete-rows k v t r = refl
-
--- the whole tables
-module _ (g : Image) (t r : ℕ) where
-  pub get-table : recordRefusal g t r true ≡ refusalOn (get t r) g
-  unfolding refusalBy refusal
-  get-table = rw (and-true (tranOk t && ltb r recordCount))
-
-  pub store-table : (n : ℕ) → recordRefusal g t r (ltb n brokenWire) ≡ refusalOn (store t r n) g
-  unfolding refusalBy refusal
-  store-table n = refl
-
-  pub delete-table : recordRefusal g t r true ≡ refusalOn (delete t r) g
-  unfolding refusalBy refusal
-  delete-table = get-table
 
 -- ---- rows 3, 4 and 5, with those below them
 rows-more : (a s o : Bool) (n below : ℕ) → n ≢ 0 → n ≡ row 3 (not a) (row 4 s (row 5 (not o) 0)) → n ≡ row 3 (not a) (row 4 s (row 5 (not o) below))
@@ -65,55 +48,47 @@ rows-clear true true o below e = absurd (omega arith)
 rows-clear true false false below e = absurd (omega arith)
 rows-clear true false true below e = refl
 
-module _ (g : Image) (t r : ℕ) (fits : Bool) where
-  pub refused-up : (a : Access) (n : ℕ) → a .refusal ≡ n → n ≢ 0 → n ≡ recordRefusal g t r fits → LooksUp g t r fits a
+module _ (g : Image) (t r : ℕ) where
+  pub refused-up : (a : Access) (n : ℕ) → a .refusal ≡ n → n ≢ 0 → n ≡ refusalOn (get t r) g → LooksUp g t r a
   refused-up a n e d is = record { refusal-is = e ∙ is; ready = λ z. absurd (d (sym e ∙ z)) }
 
-  module _ (f : Found) (reads : Reads g f) (z : f .refusal ≡ 0) (n : ℕ) (e : n ≡ earlyRows (meaning (f .control)) t r fits 0) where
+  module _ (f : Found) (reads : Reads g f) (z : f .refusal ≡ 0) (n : ℕ) (e : n ≡ earlyRows (meaning (f .control)) t r) where
     is-given : Given (f .control) g
     is-given = given reads z
 
-    -- rows 1 and 2 do not apply
-    whole-table : (below : ℕ) → below ≡ formRows false (controlForm g) g below
-    whole-table below = sym (form-clear g below (is-given .formed))
+    whole-table : rowsOn (get t r) g ≡ refusalOn (get t r) g
+    whole-table = sym (refusal-rules (get t r) refl g (is-given .formed))
 
-    early-is : n ≡ earlyRows (controlIn g) t r fits 0
-    early-is = e ∙ ap (λ (k : Part). earlyRows k t r fits 0) (is-given .is .means)
+    early-is : n ≡ earlyRows (controlIn g) t r
+    early-is = e ∙ ap (λ (k : Part). earlyRows k t r) (is-given .is .means)
 
-    pub early-row : n ≢ 0 → n ≡ recordRefusal g t r fits
+    pub early-row : n ≢ 0 → n ≡ refusalOn (get t r) g
     early-row d =
-        rows-more (tranOk t && ltb r recordCount && fits) (controlIn g .stopped) (isOpen (controlIn g) t) n (row 7 (lockedOutIn g t r) 0) d early-is
-        ∙ whole-table (earlyRows (controlIn g) t r fits (row 7 (lockedOutIn g t r) 0))
+        unfold refusal in (rows-more (tranOk t && ltb r recordCount) (controlIn g .stopped) (isOpen (controlIn g) t) n (row 7 (lockedOutIn g t r) 0) d early-is)
+        ∙ whole-table
 
     -- none of 3, 4 and 5 applies
     module _ (clear : n ≡ 0) where
-      all-fit : (tranOk t && ltb r recordCount && fits) ≡ true
-      all-fit = row-3 (tranOk t && ltb r recordCount && fits) (sym early-is ∙ clear) .0
-
-      fits-is : fits ≡ true
-      fits-is = and-r (tranOk t && ltb r recordCount) fits all-fit
+      ranges : (tranOk t && ltb r recordCount) ≡ true
+      ranges = row-3 (tranOk t && ltb r recordCount) (sym early-is ∙ clear) .0
 
       pub rec-known : r < recordCount
-      rec-known = rec-lt t r (and-l (tranOk t && ltb r recordCount) fits all-fit)
+      rec-known = rec-lt t r ranges
 
-      late-row : (b : Bool) → lockedOutIn g t r ≡ b → row 7 b 0 ≡ earlyRows (controlIn g) t r fits (row 7 (lockedOutIn g t r) 0)
+      late-row : (b : Bool) → lockedOutIn g t r ≡ b → row 7 b 0 ≡ rowsOn (get t r) g
       late-row b l = ap (λ (x : Bool). row 7 x 0) (sym l)
-          ∙ sym (rows-clear (tranOk t && ltb r recordCount && fits) (controlIn g .stopped) (isOpen (controlIn g) t) (row 7 (lockedOutIn g t r) 0) (sym early-is ∙ clear))
+          ∙ sym (unfold refusal in (rows-clear (tranOk t && ltb r recordCount) (controlIn g .stopped) (isOpen (controlIn g) t) (row 7 (lockedOutIn g t r) 0) (sym early-is ∙ clear)))
 
-      late-table : (b : Bool) → lockedOutIn g t r ≡ b → row 7 b 0 ≡ recordRefusal g t r fits
-      late-table b l = late-row b l ∙ whole-table (earlyRows (controlIn g) t r fits (row 7 (lockedOutIn g t r) 0))
-
-      pub locked-row : lockedOutIn g t r ≡ true → 7 ≡ recordRefusal g t r fits
-      locked-row l = late-table true l
+      pub locked-row : lockedOutIn g t r ≡ true → 7 ≡ refusalOn (get t r) g
+      locked-row l = late-row true l ∙ whole-table
 
       pub ready-up : (a : Access) → lockedOutIn g t r ≡ false → a .refusal ≡ 0 → meant (a .newest) ≡ meaning (f .control) .newest
-          → Lists (a .holders) (holdersIn g (r / slotCount)) → LooksUp g t r fits a
+          → Lists (a .holders) (holdersIn g (r / slotCount)) → LooksUp g t r a
       ready-up a l is new held = record {
-        refusal-is = is ∙ late-table false l;
+        refusal-is = is ∙ late-row false l ∙ whole-table;
         ready = λ y. record {
           formed = is-given .formed;
-          accepted = late-row false l ∙ unfold refusal in (rw (fits-is, and-true (tranOk t && ltb r recordCount)));
-          fits-is = fits-is;
+          accepted = late-row false l;
           newest-is = new ∙ ap (λ (k : Part). k .newest) (is-given .is .means);
           holders-are = held;
         };

@@ -2,10 +2,12 @@
 use Prim.Native.Nat.{_<_, _≤_, ℕ}
 use borrow.Author.Tests.{le-ltb, lt-ltb, ltb-true}
 use lib.Dec.{ltb}
-use mathlib.Core.Bool.{Bool, _&&_, and-false, and-true, false, true}
-use mathlib.Core.Path.{_≡_}
+use mathlib.Core.Bool.{Bool, _&&_, and-false, and-true, not, true}
+use mathlib.Core.Path.{_∙_, _≡_, ap, sym}
 use Rattle.lists.proofs.Bools.{and-l, and-r}
 use Rattle.image.specs.Layout.{recordCount, tranBound}
+use Rattle.method.specs.ControlPart.{isOpen}
+use Rattle.method.specs.Rules.{row}
 use Rattle.control.specs.ControlBytes.{Part}
 use Rattle.cabinet_rules.specs.Cabinet.{tranOk}
 use Rattle.promise.specs.Rows.{tranRows}
@@ -20,14 +22,12 @@ module _ (t r : ℕ) (e : (tranOk t && ltb r recordCount) ≡ true) where
   pub rec-lt : r < recordCount
   rec-lt = ltb-true r recordCount (and-r (tranOk t) (ltb r recordCount) e)
 
--- ---- rows 3, 4 and 5, by the ranges of the call's other numbers and of the record
-module _ (k : Part) (t r : ℕ) (fits : Bool) where
-  pub early-unfit : fits ≡ false → 3 ≡ earlyRows k t r fits 0
-  early-unfit e = rw (e, and-false (tranOk t && ltb r recordCount))
-
-  pub early-over : recordCount ≤ r → 3 ≡ earlyRows k t r fits 0
+-- ---- rows 3, 4 and 5, by the record's range
+module _ (k : Part) (t r : ℕ) where
+  pub early-over : recordCount ≤ r → 3 ≡ earlyRows k t r
   early-over h = rw (le-ltb r recordCount h, and-false (tranOk t))
 
-  pub early-in : fits ≡ true → r < recordCount → tranRows k t ≡ earlyRows k t r fits 0
+  pub early-in : r < recordCount → tranRows k t ≡ earlyRows k t r
   unfolding tranRows
-  early-in e h = rw (e, lt-ltb r recordCount h, and-true (tranOk t), and-true (tranOk t))
+  early-in h = ap (λ (x : Bool). row 3 (not x) (row 4 (k .stopped) (row 5 (not (isOpen k t)) 0)))
+      (sym (ap (λ (x : Bool). tranOk t && x) (lt-ltb r recordCount h) ∙ and-true (tranOk t)))

@@ -1,7 +1,9 @@
 // What every call on a record asks first: rows 1 to 5 and 7 of the refusal table, and the holders of its block.
 ghost use mathlib.Core.Path.{_≡_};
 ghost use Rattle.control.specs.Meaning.{meaning};
-ghost use Rattle.records.specs.Access.{LooksUp, earlyRows};
+ghost use lib.Dec.{ltb};
+ghost use Rattle.cabinet_rules.specs.Delivery.{brokenWire};
+ghost use Rattle.records.specs.Access.{LooksUp, earlyRows, withValue};
 use control::Control;
 use image::Rec;
 use image::Tran;
@@ -10,6 +12,9 @@ use trail::Holders;
 
 // Records 0 to 511.
 const RECORD_COUNT: usize = image::BLOCK_COUNT * image::SLOT_COUNT;
+
+// New feeder drives read this value as a broken wire; store takes the values below it.
+const BROKEN_WIRE: u16 = 65535;
 
 // A row of the refusal table, or else 0 with the newest placement and the holders of the record's block.
 pub struct Access {
@@ -32,29 +37,26 @@ fn refused(refusal: u8) -> Access
     }
 }
 
-// Rows 3, 4 and 5; whether the call's other numbers are in range is given.
-fn early_rows(k: Control, tran: Tran, rec: Rec, in_range: bool) -> u8
-    ensures { λ r. ⌜ r ≡ earlyRows (meaning k) (tran .0) (rec .0) in_range 0 ⌝ }
+// Rows 3, 4 and 5.
+fn early_rows(k: Control, tran: Tran, rec: Rec) -> u8
+    ensures { λ r. ⌜ r ≡ earlyRows (meaning k) (tran .0) (rec .0) ⌝ }
 {
-    if !in_range {
-        return 3;
-    }
     if rec.0 as usize >= RECORD_COUNT {
         return 3;
     }
     promise::rows::tran_refusal(k, tran)
 }
 
-// The record's rows and holders; whether the call's other numbers are in range is given.
-pub fn look_up(image: &[u8], tran: Tran, rec: Rec, in_range: bool) -> Access
-    ensures { λ r. ⌜ LooksUp (now (image .entry)) (tran .0) (rec .0) in_range r ⌝ }
+// The record's rows and holders.
+pub fn look_up(image: &[u8], tran: Tran, rec: Rec) -> Access
+    ensures { λ r. ⌜ LooksUp (now (image .entry)) (tran .0) (rec .0) r ⌝ }
 {
     let found = control_form::read(image);
     if found.refusal != 0 {
         return refused(found.refusal);
     }
     let k = found.control;
-    let early = early_rows(k, tran, rec, in_range);
+    let early = early_rows(k, tran, rec);
     if early != 0 {
         return refused(early);
     }
@@ -67,4 +69,21 @@ pub fn look_up(image: &[u8], tran: Tran, rec: Rec, in_range: bool) -> Access
         newest: k.newest(),
         holders: holders,
     }
+}
+
+// The refusal of a store, from that of a get of the record: a value out of range is one row more, 3, and the lowest
+// number applies.
+pub fn with_value(refusal: u8, value: u16) -> u8
+    ensures { λ r. ⌜ r ≡ withValue (ltb value brokenWire) refusal ⌝ }
+{
+    if value < BROKEN_WIRE {
+        return refusal;
+    }
+    if refusal == 0 {
+        return 3;
+    }
+    if refusal < 3 {
+        return refusal;
+    }
+    3
 }

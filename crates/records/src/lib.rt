@@ -10,14 +10,11 @@ use image::Tran;
 use promise::Answer;
 use slot::Entry;
 
-// New feeder drives read this value as a broken wire; store takes the values below it.
-pub const BROKEN_WIRE: u16 = 65535;
-
 // The own pending state if the first holder's slot is locked by this transaction, else the committed one.
 pub fn get(image: &[u8], tran: Tran, rec: Rec) -> Answer
     ensures { λ r. ⌜ Done (asked (Call.Get tran rec)) (now (image .entry)) r (now (image .entry)) ⌝ }
 {
-    let found = access::look_up(image, tran, rec, true);
+    let found = access::look_up(image, tran, rec);
     if found.refusal != 0 {
         return Answer::Refused(found.refusal);
     }
@@ -26,13 +23,14 @@ pub fn get(image: &[u8], tran: Tran, rec: Rec) -> Answer
 }
 
 // Every holder's slot is locked and given the pending value. With no holder, both sites of the newest placement get
-// the block. A record that has a value out of range from before keeps it until it is stored or deleted.
+// the block. A record that has a value out of range from before keeps it until it is stored anew or deleted.
 pub fn store(image: &mut [u8], tran: Tran, rec: Rec, value: u16) -> Answer
     ensures { λ r. ⌜ Done (asked (Call.Store tran rec value)) (now (image .entry)) r (now (image .exit)) ⌝ }
 {
-    let found = access::look_up(image, tran, rec, value < BROKEN_WIRE);
-    if found.refusal != 0 {
-        return Answer::Refused(found.refusal);
+    let found = access::look_up(image, tran, rec);
+    let refusal = access::with_value(found.refusal, value);
+    if refusal != 0 {
+        return Answer::Refused(refusal);
     }
     let pending = Entry {
         present: true,
@@ -52,7 +50,7 @@ pub fn store(image: &mut [u8], tran: Tran, rec: Rec, value: u16) -> Answer
 pub fn delete(image: &mut [u8], tran: Tran, rec: Rec) -> Answer
     ensures { λ r. ⌜ Done (asked (Call.Delete tran rec)) (now (image .entry)) r (now (image .exit)) ⌝ }
 {
-    let found = access::look_up(image, tran, rec, true);
+    let found = access::look_up(image, tran, rec);
     if found.refusal != 0 {
         return Answer::Refused(found.refusal);
     }

@@ -1,5 +1,4 @@
 -- The proof of `delete`. Assumes nothing.
-use mathlib.Core.Bool.{true}
 use mathlib.Core.Path.{_∙_, ap}
 use borrow.Author.Needs.{needs}
 use borrow.Author.Tests.{not-false, not-true}
@@ -23,7 +22,7 @@ returns : tie.Need-returns
 returns c =
     let u = c .before .before in
     let a = u .before .before .before .args in
-    delete-refused (a .image .now) (a .tran .0) (a .rec .0) _ (c .if1 .taken) (u .look-up .ensures .refusal-is)
+    delete-refused (a .image .now) (a .tran .0) (a .rec .0) _ (u .look-up .ensures .refusal-is) (c .if1 .taken)
 
 read-first-requires : tie.Need-read-first-requires
 read-first-requires c κs =
@@ -33,7 +32,7 @@ read-first-requires c κs =
     let g = a .image .now in
     let found = u .look-up .result in
     let ready = u .look-up .ensures .ready (e .if1 .left) in
-    ((whole g (a .tran .0) (a .rec .0) true found ready, rec-fits g (a .tran .0) (a .rec .0) true found ready), ready .holders-are)
+    ((whole g (a .tran .0) (a .rec .0) found ready, rec-fits g (a .tran .0) (a .rec .0) found ready), ready .holders-are)
 
 same-length-2 : tie.Need-same-length-2
 same-length-2 c = search needs
@@ -44,7 +43,7 @@ returns-2 c =
     let e = f .before .before in
     let u = e .before .before in
     let a = u .before .before .before .args in
-    delete-absent (a .image .now) (a .tran .0) (a .rec .0) true (u .look-up .result) (u .look-up .ensures .ready (e .if1 .left)) (f .read-first .result) (f .read-first .ensures)
+    delete-absent (a .image .now) (a .tran .0) (a .rec .0) (u .look-up .result) (u .look-up .ensures .ready (e .if1 .left)) (f .read-first .result) (f .read-first .ensures)
     (not-true _ (c .if2 .taken))
 
 absent-requires : tie.Need-absent-requires
@@ -59,7 +58,7 @@ lock-all-requires c κs =
     let g = a .image .now in
     let found = u .look-up .result in
     let ready = u .look-up .ensures .ready (e .if1 .left) in
-    ((whole g (a .tran .0) (a .rec .0) true found ready, rec-fits g (a .tran .0) (a .rec .0) true found ready, tran-fits g (a .tran .0) (a .rec .0) true found ready), ready .holders-are)
+    ((whole g (a .tran .0) (a .rec .0) found ready, rec-fits g (a .tran .0) (a .rec .0) found ready, tran-fits g (a .tran .0) (a .rec .0) found ready), ready .holders-are)
 
 same-length-3 : tie.Need-same-length-3
 same-length-3 c = search needs
@@ -74,7 +73,7 @@ returns-3 c =
     let u = e .before .before in
     let a = u .before .before .before .args in
     let g = a .image .now in
-    delete-done g (a .tran .0) (a .rec .0) true (u .look-up .result) (u .look-up .ensures .ready (e .if1 .left)) (f .read-first .result) _ (f .read-first .ensures)
+    delete-done g (a .tran .0) (a .rec .0) (u .look-up .result) (u .look-up .ensures .ready (e .if1 .left)) (f .read-first .result) _ (f .read-first .ensures)
     (not-false _ (t .if2 .left))
     (y .lock-all .ensures ∙ ap (λ (x : Entry). laid (lockHolders cabinet (controlIn g) (look cabinet (stateIn g)) (a .tran .0) (a .rec .0) (stateOf x)) g) (n .absent .ensures))
 

@@ -1,5 +1,4 @@
 -- The proof of `get`. Assumes nothing.
-use mathlib.Core.Bool.{true}
 use borrow.Author.Needs.{needs}
 use Rattle.records.proofs.Calls.{get-done, get-refused, rec-fits, whole}
 use Rattle.records.proofs.get.Statement.{statement}
@@ -12,7 +11,7 @@ returns : tie.Need-returns
 returns c =
     let u = c .before .before in
     let a = u .before .before .args in
-    get-refused (a .image .now) (a .tran .0) (a .rec .0) _ (c .if1 .taken) (u .look-up .ensures .refusal-is)
+    get-refused (a .image .now) (a .tran .0) (a .rec .0) _ (u .look-up .ensures .refusal-is) (c .if1 .taken)
 
 read-first-requires : tie.Need-read-first-requires
 read-first-requires c κs =
@@ -20,7 +19,7 @@ read-first-requires c κs =
     let a = u .before .before .args in
     let ready = u .look-up .ensures .ready (c .if1 .left) in
     let found = u .look-up .result in
-    ((whole (a .image .now) (a .tran .0) (a .rec .0) true found ready, rec-fits (a .image .now) (a .tran .0) (a .rec .0) true found ready), ready .holders-are)
+    ((whole (a .image .now) (a .tran .0) (a .rec .0) found ready, rec-fits (a .image .now) (a .tran .0) (a .rec .0) found ready), ready .holders-are)
 
 reply-requires : tie.Need-reply-requires
 reply-requires c κs = search needs
@@ -31,7 +30,7 @@ returns-2 c =
     let e = f .before in
     let u = e .before .before in
     let a = u .before .before .args in
-    get-done (a .image .now) (a .tran .0) (a .rec .0) true (u .look-up .result) (u .look-up .ensures .ready (e .if1 .left)) (f .read-first .result) (c .reply .result)
+    get-done (a .image .now) (a .tran .0) (a .rec .0) (u .look-up .result) (u .look-up .ensures .ready (e .if1 .left)) (f .read-first .result) (c .reply .result)
     (f .read-first .ensures) (c .reply .ensures)
 
 pub get-spec : {M : Type 1} → statement M

@@ -1,14 +1,18 @@
 -- The proof of `store`. Assumes nothing.
 use lib.Dec.{ltb}
-use mathlib.Core.Path.{refl}
+use mathlib.Core.Path.{_∙_, sym}
 use borrow.Author.Needs.{needs}
 use Rattle.cabinet_rules.specs.Delivery.{brokenWire}
 use Rattle.records.proofs.Calls.{newest-usable, rec-fits, store-held, store-new, store-refused, tran-fits, whole}
+use Rattle.records.proofs.Values.{with-clear}
 use Rattle.records.proofs.store.Statement.{statement}
 use Rattle.records.proofs.store.Tie as tie
 
 look-up-requires : tie.Need-look-up-requires
 look-up-requires c κs = search needs
+
+with-value-requires : tie.Need-with-value-requires
+with-value-requires c κs = search needs
 
 same-length : tie.Need-same-length
 same-length c = search needs
@@ -17,7 +21,7 @@ returns : tie.Need-returns
 returns c =
     let u = c .before .before in
     let a = u .before .before .before .args in
-    store-refused (a .image .now) (a .tran .0) (a .rec .0) _ (c .if1 .taken) (a .value) (u .look-up .ensures .refusal-is)
+    store-refused (a .image .now) (a .tran .0) (a .rec .0) (a .value) _ _ (c .before .with-value .ensures) (u .look-up .ensures .refusal-is) (c .if1 .taken)
 
 lay-requires : tie.Need-lay-requires
 lay-requires c κs =
@@ -26,9 +30,10 @@ lay-requires c κs =
     let a = u .before .before .before .args in
     let g = a .image .now in
     let found = u .look-up .result in
-    let ready = u .look-up .ensures .ready (e .if1 .left) in (
-      (whole g (a .tran .0) (a .rec .0) (ltb (a .value) brokenWire) found ready, rec-fits g (a .tran .0) (a .rec .0) (ltb (a .value) brokenWire) found ready, tran-fits g (a .tran .0) (a .rec .0) (ltb (a .value) brokenWire) found ready),
-      (newest-usable g (a .tran .0) (a .rec .0) (ltb (a .value) brokenWire) found ready, ready .newest-is),
+    let clear = with-clear (ltb (a .value) brokenWire) _ (sym (e .before .with-value .ensures) ∙ e .if1 .left) in
+    let ready = u .look-up .ensures .ready (clear .1) in (
+      (whole g (a .tran .0) (a .rec .0) found ready, rec-fits g (a .tran .0) (a .rec .0) found ready, tran-fits g (a .tran .0) (a .rec .0) found ready),
+      (newest-usable g (a .tran .0) (a .rec .0) found ready, ready .newest-is),
     )
 
 same-length-2 : tie.Need-same-length-2
@@ -41,7 +46,8 @@ returns-2 c =
     let e = t .before .before .before in
     let u = e .before .before in
     let a = u .before .before .before .args in
-    store-new (a .image .now) (a .tran .0) (a .rec .0) (ltb (a .value) brokenWire) (u .look-up .result) (u .look-up .ensures .ready (e .if1 .left)) (a .value) refl _ (t .if2 .taken) (y .lay .ensures)
+    let clear = with-clear (ltb (a .value) brokenWire) _ (sym (e .before .with-value .ensures) ∙ e .if1 .left) in
+    store-new (a .image .now) (a .tran .0) (a .rec .0) (u .look-up .result) (u .look-up .ensures .ready (clear .1)) (a .value) (clear .0) _ (t .if2 .taken) (y .lay .ensures)
 
 lock-all-requires : tie.Need-lock-all-requires
 lock-all-requires c κs =
@@ -50,8 +56,9 @@ lock-all-requires c κs =
     let a = u .before .before .before .args in
     let g = a .image .now in
     let found = u .look-up .result in
-    let ready = u .look-up .ensures .ready (e .if1 .left) in
-    ((whole g (a .tran .0) (a .rec .0) (ltb (a .value) brokenWire) found ready, rec-fits g (a .tran .0) (a .rec .0) (ltb (a .value) brokenWire) found ready, tran-fits g (a .tran .0) (a .rec .0) (ltb (a .value) brokenWire) found ready), ready .holders-are)
+    let clear = with-clear (ltb (a .value) brokenWire) _ (sym (e .before .with-value .ensures) ∙ e .if1 .left) in
+    let ready = u .look-up .ensures .ready (clear .1) in
+    ((whole g (a .tran .0) (a .rec .0) found ready, rec-fits g (a .tran .0) (a .rec .0) found ready, tran-fits g (a .tran .0) (a .rec .0) found ready), ready .holders-are)
 
 same-length-3 : tie.Need-same-length-3
 same-length-3 c = search needs
@@ -63,13 +70,15 @@ returns-3 c =
     let e = t .before .before .before in
     let u = e .before .before in
     let a = u .before .before .before .args in
-    store-held (a .image .now) (a .tran .0) (a .rec .0) (ltb (a .value) brokenWire) (u .look-up .result) (u .look-up .ensures .ready (e .if1 .left)) (a .value) refl _ (t .if2 .left) (y .lock-all .ensures)
+    let clear = with-clear (ltb (a .value) brokenWire) _ (sym (e .before .with-value .ensures) ∙ e .if1 .left) in
+    store-held (a .image .now) (a .tran .0) (a .rec .0) (u .look-up .result) (u .look-up .ensures .ready (clear .1)) (a .value) (clear .0) _ (t .if2 .left) (y .lock-all .ensures)
 
 pub store-spec : {M : Type 1} → statement M
 store-spec =
     tie.close
     (tie.spec
     look-up-requires
+    with-value-requires
     same-length
     returns
     lay-requires

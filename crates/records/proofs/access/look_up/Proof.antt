@@ -4,7 +4,8 @@ use Prim.Native.Nat.{_<_}
 use native.Mathlib.Omega.{arith}
 use borrow.Author.Needs.{needs}
 use Rattle.image.specs.Layout.{recordCount}
-use Rattle.promise.proofs.Finish.{form-rows, given, given-whole}
+use Rattle.method.specs.Rules.{get}
+use Rattle.promise.proofs.Finish.{form-row, given, given-whole}
 use Rattle.records.proofs.LookUp.{early-row, lists-at, locked-row, ready-up, rec-known, refused-up}
 use Rattle.records.proofs.access.look_up.Statement.{statement}
 use Rattle.records.proofs.access.look_up.Tie as tie
@@ -20,8 +21,8 @@ returns c =
     let t = c .before in
     let f = t .before .before in
     let a = f .before .before .args in
-    refused-up (a .image .now) (a .tran .0) (a .rec .0) (a .in-range) (c .refused .result) (f .read .result .refusal) (c .refused .ensures) (t .if1 .taken)
-    (form-rows (a .image .now) _ _ (f .read .ensures .refusal-is) (t .if1 .taken))
+    refused-up (a .image .now) (a .tran .0) (a .rec .0) (c .refused .result) (f .read .result .refusal) (c .refused .ensures) (t .if1 .taken)
+    (form-row (get (a .tran .0) (a .rec .0)) refl (a .image .now) _ (f .read .ensures .refusal-is) (t .if1 .taken))
 
 early-rows-requires : tie.Need-early-rows-requires
 early-rows-requires c κs = search needs
@@ -36,8 +37,8 @@ returns-2 c =
     let e = y .before .before in
     let f = e .before .before in
     let a = f .before .before .args in
-    refused-up (a .image .now) (a .tran .0) (a .rec .0) (a .in-range) (c .refused2 .result) (y .early-rows .result) (c .refused2 .ensures) (t .if2 .taken)
-    (early-row (a .image .now) (a .tran .0) (a .rec .0) (a .in-range) (f .read .result) (f .read .ensures) (e .if1 .left) (y .early-rows .result) (y .early-rows .ensures) (t .if2 .taken))
+    refused-up (a .image .now) (a .tran .0) (a .rec .0) (c .refused2 .result) (y .early-rows .result) (c .refused2 .ensures) (t .if2 .taken)
+    (early-row (a .image .now) (a .tran .0) (a .rec .0) (f .read .result) (f .read .ensures) (e .if1 .left) (y .early-rows .result) (y .early-rows .ensures) (t .if2 .taken))
 
 block-of-requires : tie.Need-block-of-requires
 block-of-requires c κs =
@@ -45,7 +46,7 @@ block-of-requires c κs =
     let e = y .before .before in
     let f = e .before .before in
     let a = f .before .before .args in
-    rec-known (a .image .now) (a .tran .0) (a .rec .0) (a .in-range) (f .read .result) (f .read .ensures) (e .if1 .left) (y .early-rows .result) (y .early-rows .ensures) (c .if2 .left)
+    rec-known (a .image .now) (a .tran .0) (a .rec .0) (f .read .result) (f .read .ensures) (e .if1 .left) (y .early-rows .result) (y .early-rows .ensures) (c .if2 .left)
 
 find-requires : tie.Need-find-requires
 find-requires c κs =
@@ -54,7 +55,7 @@ find-requires c κs =
     let e = y .before .before in
     let f = e .before .before in
     let a = f .before .before .args in
-    let small : a .rec .0 < recordCount = rec-known (a .image .now) (a .tran .0) (a .rec .0) (a .in-range) (f .read .result) (f .read .ensures) (e .if1 .left) (y .early-rows .result) (y .early-rows .ensures) (x .if2 .left) in
+    let small : a .rec .0 < recordCount = rec-known (a .image .now) (a .tran .0) (a .rec .0) (f .read .result) (f .read .ensures) (e .if1 .left) (y .early-rows .result) (y .early-rows .ensures) (x .if2 .left) in
     (given (f .read .ensures) (e .if1 .left), omega arith)
 
 locked-out-requires : tie.Need-locked-out-requires
@@ -65,7 +66,7 @@ locked-out-requires c κs =
     let e = y .before .before in
     let f = e .before .before in
     let a = f .before .before .args in (
-      (given-whole (given (f .read .ensures) (e .if1 .left)), rec-known (a .image .now) (a .tran .0) (a .rec .0) (a .in-range) (f .read .result) (f .read .ensures) (e .if1 .left) (y .early-rows .result) (y .early-rows .ensures) (x .if2 .left)),
+      (given-whole (given (f .read .ensures) (e .if1 .left)), rec-known (a .image .now) (a .tran .0) (a .rec .0) (f .read .result) (f .read .ensures) (e .if1 .left) (y .early-rows .result) (y .early-rows .ensures) (x .if2 .left)),
       lists-at (a .image .now) (c .find .result) (b .block-of .ensures) (c .find .ensures),
     )
 
@@ -81,8 +82,8 @@ returns-3 c =
     let e = y .before .before in
     let f = e .before .before in
     let a = f .before .before .args in
-    refused-up (a .image .now) (a .tran .0) (a .rec .0) (a .in-range) (c .refused3 .result) 7 (c .refused3 .ensures) (λ z. omega arith)
-    (locked-row (a .image .now) (a .tran .0) (a .rec .0) (a .in-range) (f .read .result) (f .read .ensures) (e .if1 .left) (y .early-rows .result) (y .early-rows .ensures) (x .if2 .left) (sym (o .locked-out .ensures) ∙ t .if3 .taken))
+    refused-up (a .image .now) (a .tran .0) (a .rec .0) (c .refused3 .result) 7 (c .refused3 .ensures) (λ z. omega arith)
+    (locked-row (a .image .now) (a .tran .0) (a .rec .0) (f .read .result) (f .read .ensures) (e .if1 .left) (y .early-rows .result) (y .early-rows .ensures) (x .if2 .left) (sym (o .locked-out .ensures) ∙ t .if3 .taken))
 
 newest-requires : tie.Need-newest-requires
 newest-requires c κs =
@@ -100,7 +101,7 @@ returns-4 c =
     let e = y .before .before in
     let f = e .before .before in
     let a = f .before .before .args in
-    ready-up (a .image .now) (a .tran .0) (a .rec .0) (a .in-range) (f .read .result) (f .read .ensures) (e .if1 .left) (y .early-rows .result) (y .early-rows .ensures) (x .if2 .left) _ (sym (o .locked-out .ensures) ∙ t .if3 .left) refl
+    ready-up (a .image .now) (a .tran .0) (a .rec .0) (f .read .result) (f .read .ensures) (e .if1 .left) (y .early-rows .result) (y .early-rows .ensures) (x .if2 .left) _ (sym (o .locked-out .ensures) ∙ t .if3 .left) refl
     (c .newest .ensures) (lists-at (a .image .now) (h .find .result) (b .block-of .ensures) (h .find .ensures))
 
 pub look-up-spec : {M : Type 1} → statement M
