@@ -87,18 +87,19 @@ impl Call {
         }
     }
 
-    /// Every number lies in its range. A mask is a byte and has none.
-    pub fn in_range(&self) -> bool {
+    /// Every number lies in its range by the edition. A mask is a byte and has none.
+    pub fn in_range(&self, edition: Edition) -> bool {
         let transaction_fits = |t: u8| (1..=15).contains(&t);
         let record_fits = |r: u16| (r as usize) < RECORDS;
         let card_fits = |c: u8| (c as usize) < CARDS;
         match *self {
             Call::Start { .. } | Call::Place { .. } | Call::Settle | Call::State => true,
             Call::Begin { transaction, home } => transaction_fits(transaction) && card_fits(home),
-            Call::Get { transaction, record }
-            | Call::Store { transaction, record, .. }
-            | Call::Delete { transaction, record } => {
+            Call::Get { transaction, record } | Call::Delete { transaction, record } => {
                 transaction_fits(transaction) && record_fits(record)
+            }
+            Call::Store { transaction, record, value } => {
+                transaction_fits(transaction) && record_fits(record) && edition.stores(value)
             }
             Call::Commit { transaction } | Call::Rollback { transaction } => {
                 transaction_fits(transaction)
@@ -161,7 +162,7 @@ pub fn perform_by(edition: Edition, image: &mut [u8], call: &Call) -> Answer {
 /// The lowest that applies of refusals 2 to 5, else the control part.
 fn admit(edition: Edition, image: &[u8], call: &Call) -> Result<Control, Answer> {
     let control = Control::read_by(edition, image).ok_or(Answer::Refused(2))?;
-    if !call.in_range() {
+    if !call.in_range(edition) {
         return Err(Answer::Refused(3));
     }
     if control.stopped {

@@ -1,29 +1,42 @@
-//! Which rules are in force. The base's are here to make older images by its own calls.
+//! Which rules are in force. Those of earlier deliveries are here to make older images by their own calls.
 
 use crate::control::Control;
 use crate::sites::Placement;
 
+/// The value that feeder drives read as a broken wire.
+pub const BROKEN_WIRE: u16 = 65_535;
+
 #[derive(Clone, Copy, Debug, PartialEq, Eq)]
 pub enum Edition {
-    /// Document 01 alone: byte 7 is zero, every placement has the old choice of sites, and protected means
-    /// that one placement is active.
+    /// Document 01 alone: byte 7 is zero, every placement has the old choice of sites, protected means that one
+    /// placement is active, and store takes every value.
     Base,
-    /// Document 01 with change requests A.1 and A.2: byte 7 marks the placements that choose their sites by
-    /// rails, and protected means that failing any one working card would not stop the store.
+    /// Document 01 with change requests A.1 to A.4: byte 7 marks the placements that choose their sites by rails, and
+    /// protected means that failing any one working card would not stop the store. A.3 and A.4 change no rule of the
+    /// fifteen calls.
+    Rails,
+    /// As `Rails`, with A.5: 65,535 is outside the range of a value to store.
     Today,
 }
 
 impl Edition {
+    /// The earlier editions by name.
+    pub const NAMES: [(&'static str, Edition); 2] = [("base", Edition::Base), ("rails", Edition::Rails)];
+
+    pub fn named(name: &str) -> Option<Edition> {
+        Edition::NAMES.iter().find(|(known, _)| *known == name).map(|(_, edition)| *edition)
+    }
+
     /// The placement that start, place and fail write.
     pub fn placement(self, mask: u8) -> Placement {
-        Placement { mask, marked: self == Edition::Today }
+        Placement { mask, marked: self != Edition::Base }
     }
 
     /// The bits that byte 7 can have with this many active placements.
     pub fn marks(self, active: usize) -> u8 {
         match self {
             Edition::Base => 0,
-            Edition::Today => !(0xFF >> active),
+            Edition::Rails | Edition::Today => !(0xFF >> active),
         }
     }
 
@@ -31,7 +44,7 @@ impl Edition {
     pub fn refuses_again(self, newest: Placement) -> bool {
         match self {
             Edition::Base => true,
-            Edition::Today => newest.marked,
+            Edition::Rails | Edition::Today => newest.marked,
         }
     }
 
@@ -39,7 +52,15 @@ impl Edition {
     pub fn protected(self, control: &Control) -> bool {
         match self {
             Edition::Base => control.placements.len() == 1,
-            Edition::Today => control.protected(),
+            Edition::Rails | Edition::Today => control.protected(),
+        }
+    }
+
+    /// The value is in the range of those that store takes.
+    pub fn stores(self, value: u16) -> bool {
+        match self {
+            Edition::Base | Edition::Rails => true,
+            Edition::Today => value != BROKEN_WIRE,
         }
     }
 }

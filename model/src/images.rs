@@ -2,6 +2,7 @@
 
 use crate::calls::{Call, Numbers};
 use crate::control::{bit, Control, NO_HOMES};
+use crate::edition::BROKEN_WIRE;
 use crate::image::*;
 use crate::random::Random;
 use crate::sites::{members, sites, Placement};
@@ -96,6 +97,20 @@ pub fn disturb(random: &mut Random, image: &mut [u8]) {
     }
 }
 
+/// Now and then 65,535, committed or pending or both; most often the slot is unlocked.
+fn random_slot(random: &mut Random, slot: &mut Slot, locked: usize) {
+    let broken = random.below(20);
+    if broken < 2 {
+        slot.value = BROKEN_WIRE;
+    }
+    if (1..3).contains(&broken) {
+        slot.pending_value = BROKEN_WIRE;
+    }
+    if !random.chance(locked) {
+        slot.lock = 0;
+    }
+}
+
 /// Tables of any bytes, with few held blocks and few locks.
 pub fn random_tables(random: &mut Random, image: &mut [u8]) {
     random.fill(&mut image[CONTROL..]);
@@ -107,9 +122,7 @@ pub fn random_tables(random: &mut Random, image: &mut [u8]) {
                 image[block_at(card, block).start] &= 0x7F;
             }
             for place in 0..PLACES {
-                if !random.chance(locked) {
-                    change_slot(image, card, block, place, |slot| slot.lock = 0);
-                }
+                change_slot(image, card, block, place, |slot| random_slot(random, slot, locked));
             }
         }
     }
@@ -138,7 +151,8 @@ pub fn random_numbers(random: &mut Random) -> Numbers {
     let card = if random.chance(950) { random.below(8) as u8 } else { random.one_of(&[8, 9, 15, 16, 255]) };
     let record = if random.chance(950) { random.below(512) as u16 } else { random.one_of(&[512, 513, 4095, 65535]) };
     let block = if random.chance(950) { random.below(64) as u16 } else { random.one_of(&[64, 255, 4095, 65535]) };
-    let value = if random.chance(950) { random.below(0x1_0000) as u16 } else { random.one_of(&[0, 1, 0x8000, 0xFFFF]) };
+    let ends = [0, 1, 0x8000, 65534, 65535, 65535];
+    let value = if random.chance(850) { random.below(0x1_0000) as u16 } else { random.one_of(&ends) };
     Numbers { transaction, card, record, block, value, mask: random.byte() }
 }
 

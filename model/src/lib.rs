@@ -1,6 +1,7 @@
 //! A second, plain implementation of the record store of document 01.
 //! Command files are run by it and by the proved program, and the listings are compared.
 
+pub mod broken_wire_situations;
 pub mod calls;
 pub mod clauses;
 pub mod commands;

@@ -43,18 +43,22 @@ pub fn line(number: usize, bytes: &[u8], answer: &Answer) -> String {
     text
 }
 
-/// Runs a whole command file on a zero image, a step for each command.
-pub fn run(commands: &[u8], mut step: impl FnMut(usize, &[u8], Answer)) {
-    let mut image = vec![0u8; LENGTH];
+/// Runs a whole command file on the image, a step for each command.
+pub fn run(image: &mut [u8], commands: &[u8], mut step: impl FnMut(usize, &[u8], Answer)) {
     for (at, bytes) in commands.chunks(COMMAND_BYTES).enumerate() {
-        let answer = answer(&mut image, bytes);
+        let answer = answer(image, bytes);
         step(at + 1, bytes, answer);
     }
 }
 
+/// The whole listing of a command file that goes on from an image.
+pub fn listing_from(image: &[u8], commands: &[u8]) -> String {
+    let mut text = String::new();
+    run(&mut image.to_vec(), commands, |number, bytes, answer| text.push_str(&line(number, bytes, &answer)));
+    text
+}
+
 /// The whole listing of a command file.
 pub fn listing(commands: &[u8]) -> String {
-    let mut text = String::new();
-    run(commands, |number, bytes, answer| text.push_str(&line(number, bytes, &answer)));
-    text
+    listing_from(&[0; LENGTH], commands)
 }

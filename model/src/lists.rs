@@ -7,6 +7,7 @@ use crate::edition::Edition;
 use crate::kinds::{Kind, Maker, KINDS};
 use crate::plain::{Expected, Plain};
 use crate::random::Random;
+use std::ops::RangeInclusive;
 
 const CALLS_IN_A_LIST: usize = 4_000;
 
@@ -14,16 +15,22 @@ const CALLS_IN_A_LIST: usize = 4_000;
 const CALLS_AIMED_AT_REFUSALS: usize = 500;
 
 /// Old placements are retired by then, as a rule.
-const CALLS_FROM_AN_OLDER_IMAGE: usize = 300;
+const CALLS_FROM_AN_OLDER_IMAGE: usize = 200;
 
 /// Lists from older images after each from a zero image: about a third of the calls.
-const OLDER_LISTS: usize = 6;
+const OLDER_LISTS: usize = 9;
 
-/// Base calls that make an older image, so that records are in use.
-const BASE_CALLS: usize = 200;
+/// The editions whose calls leave an older image, one after the other.
+pub const HISTORIES: [&[Edition]; 3] = [&[Edition::Base], &[Edition::Rails], &[Edition::Base, Edition::Rails]];
 
-/// Base calls until as many placements are active as are wished.
-const MOST_BASE_CALLS: usize = 2_000;
+/// Earlier calls that make an older image, so that records are in use.
+const EARLIER_CALLS: usize = 200;
+
+/// By each further edition, so few that placements of the one before often stay active.
+const FURTHER_EARLIER_CALLS: usize = 20;
+
+/// Earlier calls until as many placements are active as are wished.
+const MOST_EARLIER_CALLS: usize = 2_000;
 
 /// A maker of calls, and the plain list that they feed.
 pub struct List {
@@ -33,31 +40,51 @@ pub struct List {
     maker: Maker,
     /// None before an accepted start and after a stop.
     pub plain: Option<Plain>,
-    pub from_older: bool,
+    /// The editions whose calls left the image that the list begins with; none left one of zeros.
+    pub history: &'static [Edition],
     pub calls: usize,
 }
 
 impl List {
     fn new(edition: Edition, name: &'static str, kind: Kind, seed: u64) -> List {
         let calls = if kind == Kind::Refusals { CALLS_AIMED_AT_REFUSALS } else { CALLS_IN_A_LIST };
-        List { edition, name, maker: Maker::by(edition, kind, seed), plain: None, from_older: false, calls }
+        List { edition, name, maker: Maker::by(edition, kind, seed), plain: None, history: &[], calls }
     }
 
-    /// Goes on from what calls of the base left after a start, not stopped, most often with this many active.
-    fn older(name: &'static str, kind: Kind, seed: u64, active: usize) -> List {
-        let mut list = List::new(Edition::Base, name, kind, seed);
-        for made in 0.. {
-            let ready = |plain: &Plain| plain.active.len() == active || made >= MOST_BASE_CALLS;
-            if made >= BASE_CALLS && list.plain.as_ref().is_some_and(ready) {
-                break;
-            }
-            let bytes = list.next_command();
-            if let Some(call) = read_command(&bytes) {
-                list.expect(&call);
+    /// Goes on from what calls of earlier editions left after a start, not stopped, most often with this many active.
+    /// One in three has many values pending.
+    fn older(history: &'static [Edition], name: &'static str, kind: Kind, seed: u64, active: usize) -> List {
+        let mut list = List::new(history[0], name, kind, seed);
+        list.make_earlier_calls(EARLIER_CALLS, if history.len() == 1 { active..=active } else { 1..=4 });
+        for edition in &history[1..] {
+            list.go_on_by(*edition);
+            list.make_earlier_calls(FURTHER_EARLIER_CALLS, active..=active);
+        }
+        if seed % 3 == 0 {
+            for _ in 0..list.maker.leave_pending() {
+                list.make_earlier_call();
             }
         }
         list.go_on_by(Edition::Today);
-        List { from_older: true, calls: CALLS_FROM_AN_OLDER_IMAGE, ..list }
+        List { history, calls: CALLS_FROM_AN_OLDER_IMAGE, ..list }
+    }
+
+    /// So many at least, until the store runs, most often with so many active.
+    fn make_earlier_calls(&mut self, least: usize, active: RangeInclusive<usize>) {
+        for made in 0.. {
+            let ready = |plain: &Plain| active.contains(&plain.active.len()) || made >= MOST_EARLIER_CALLS;
+            if made >= least && self.plain.as_ref().is_some_and(ready) {
+                break;
+            }
+            self.make_earlier_call();
+        }
+    }
+
+    fn make_earlier_call(&mut self) {
+        let bytes = self.next_command();
+        if let Some(call) = read_command(&bytes) {
+            self.expect(&call);
+        }
     }
 
     fn go_on_by(&mut self, edition: Edition) {
@@ -66,6 +93,10 @@ impl List {
         if let Some(plain) = &mut self.plain {
             plain.go_on_by(edition);
         }
+    }
+
+    pub fn from_older(&self) -> bool {
+        !self.history.is_empty()
     }
 
     /// Where the list begins, before its first command.
@@ -116,7 +147,8 @@ impl Iterator for Lists {
         if part == 0 {
             return Some(List::new(Edition::Today, name, kind, seed));
         }
+        let history = HISTORIES[part % HISTORIES.len()];
         let active = 1 + self.random.below(4);
-        Some(List::older(name, kind, seed, active))
+        Some(List::older(history, name, kind, seed, active))
     }
 }

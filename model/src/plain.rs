@@ -77,7 +77,7 @@ impl Plain {
         let placed = |card: u8| self.active.iter().any(|placement| has(placement.mask, card as usize));
         match *call {
             Call::Settle | Call::Fail { .. } | Call::Move { .. } | Call::State | Call::Load { .. } => None,
-            _ if !call.in_range() => Some(3),
+            _ if !call.in_range(self.edition) => Some(3),
             Call::Start { mask } => lowest(&[(9, count(mask) < 2)]),
             Call::Begin { transaction, home } => {
                 lowest(&[(6, is_open(transaction)), (8, !has(self.newest().mask, home as usize))])

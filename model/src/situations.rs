@@ -1,7 +1,9 @@
 //! What is special about an answered call, by name, so that it can be counted.
 
+use crate::broken_wire_situations::broken_wire_situations;
 use crate::calls::{Answer, Call};
 use crate::control::{bit, has, Control};
+use crate::edition::Edition;
 use crate::image::*;
 use crate::protection_situations::protection_situations;
 use crate::rail_situations::rail_situations;
@@ -32,12 +34,15 @@ pub const SITUATIONS: &[&str] = &[
     "load above 0",
 ];
 
-/// The names, given the image before the call. Refusals 2, 3 and 4 have none.
+/// The names, given the image before the call. Of refusals 2, 3 and 4, only stores of 65,535 have some.
 pub fn situations(before: &[u8], call: &Call, answer: &Answer) -> Vec<String> {
-    let Some(control) = Control::read(before).filter(|control| !control.stopped && call.in_range()) else {
-        return Vec::new();
+    let mut found: Vec<String> =
+        broken_wire_situations(before, call, answer).into_iter().map(String::from).collect();
+    let in_range = call.in_range(Edition::Today);
+    let Some(control) = Control::read(before).filter(|control| !control.stopped && in_range) else {
+        return found;
     };
-    let mut found = match *call {
+    found.extend(match *call {
         Call::Get { transaction, record } => of_get(before, &control, transaction, record, answer),
         Call::Store { .. } | Call::Delete { .. } | Call::Commit { .. } | Call::Rollback { .. } => {
             of_writes(before, &control, call, answer)
@@ -45,7 +50,7 @@ pub fn situations(before: &[u8], call: &Call, answer: &Answer) -> Vec<String> {
         Call::Move { .. } | Call::Settle | Call::Load { .. } => of_blocks(before, &control, call, answer),
         Call::Fail { card } => of_fail(before, &control, card as usize, answer),
         _ => of_cards(before, &control, call, answer),
-    };
+    });
     found.extend(rail_situations(&control, call, answer));
     found.extend(protection_situations(&control, call, answer));
     found

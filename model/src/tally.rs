@@ -1,5 +1,6 @@
 //! Counts of answers, refusals and situations over command files.
 
+use crate::broken_wire_situations::{LEFT_BROKEN_WIRE, NO_BROKEN_WIRE};
 use crate::calls::Answer;
 use crate::commands::{read_command, COMMAND_BYTES};
 use crate::image::LENGTH;
@@ -95,7 +96,7 @@ impl Tally {
     /// Answers of the operations, and situations, that do not occur.
     pub fn missing(&self) -> Vec<String> {
         let pairs = possible().into_iter().filter(|pair| !self.pairs.contains_key(pair));
-        let situations = SITUATIONS.iter().chain(ON_RAILS).chain(PROTECTION);
+        let situations = SITUATIONS.iter().chain(ON_RAILS).chain(PROTECTION).chain(NO_BROKEN_WIRE);
         let situations = situations.filter(|name| self.count(name) == 0).map(|name| name.to_string());
         pairs.chain(situations).collect()
     }
@@ -105,8 +106,8 @@ impl Tally {
         let possible = possible();
         let pairs = self.pairs.keys().filter(|pair| !possible.contains(*pair)).cloned();
         // A fail in the newest of four always stops, the third of four has a failed card, and a file leaves no
-        // placement unmarked.
-        let never = ["placed with 4 active", "protected with 4 active"].iter().chain(OVER_OLD);
+        // placement unmarked and no record with 65,535.
+        let never = ["placed with 4 active", "protected with 4 active"].iter().chain(OVER_OLD).chain(LEFT_BROKEN_WIRE);
         let situations = never.filter(|name| self.count(name) > 0).map(|name| name.to_string());
         pairs.chain(situations).collect()
     }

@@ -1,11 +1,13 @@
 //! Demand 3: the store answers as the plain record list does, and stops exactly
 //! when the rule says, with any bytes in the tables of failed cards. Beyond it, state
 //! says what the plain list's cards and placements call for. The lists are those of
-//! the differential run, also from images that the base's calls left.
+//! the differential run, also from images that earlier calls left.
 
+use model::broken_wire_situations::{broken_wire_situations, LEFT_BROKEN_WIRE, NO_BROKEN_WIRE};
 use model::calls::{perform, Answer, Call};
 use model::commands::read_command;
 use model::control::Control;
+use model::edition::Edition;
 use model::images::disturb;
 use model::lists::{List, Lists};
 use model::plain::Expected;
@@ -25,10 +27,15 @@ struct Seen {
 }
 
 impl Seen {
-    fn add_situations(&mut self, control: &Option<Control>, call: &Call, answer: &Answer) {
-        let Some(control) = control.as_ref().filter(|control| !control.stopped && call.in_range()) else { return };
-        let names = [rail_situations(control, call, answer), protection_situations(control, call, answer)];
-        for name in names.into_iter().flatten() {
+    fn add_situations(&mut self, before: &[u8], call: &Call, answer: &Answer) {
+        let mut names: Vec<String> =
+            broken_wire_situations(before, call, answer).into_iter().map(String::from).collect();
+        let in_range = call.in_range(Edition::Today);
+        if let Some(control) = Control::read(before).filter(|control| !control.stopped && in_range) {
+            names.extend(rail_situations(&control, call, answer));
+            names.extend(protection_situations(&control, call, answer));
+        }
+        for name in names {
             *self.situations.entry(name).or_insert(0) += 1;
         }
     }
@@ -39,11 +46,11 @@ fn run(list: &mut List, random: &mut Random, calls: usize, seen: &mut Seen) {
     for _ in 0..calls {
         seen.calls += 1;
         let Some(call) = read_command(&list.next_command()) else { continue };
-        let before = Control::read(&image);
-        if before.is_some() {
+        if Control::read(&image).is_some() {
             disturb(random, &mut image);
             seen.noisy += (image[6] != 0) as usize;
         }
+        let before = image.clone();
         let answer = perform(&mut image, &call);
         seen.add_situations(&before, &call, &answer);
         if let Some(expected) = list.expect(&call) {
@@ -81,7 +88,7 @@ fn run_lists(seed: u64, calls: usize) -> Seen {
             break;
         }
         let calls = list.calls.min(left);
-        seen.from_older += if list.from_older { calls } else { 0 };
+        seen.from_older += if list.from_older() { calls } else { 0 };
         run(&mut list, &mut random, calls, &mut seen);
     }
     seen
@@ -89,9 +96,9 @@ fn run_lists(seed: u64, calls: usize) -> Seen {
 
 /// Half of the 200,000 calls at which a differential run must have met every class are in lists.
 #[test]
-fn every_situation_over_old_placements_and_of_state() {
+fn every_situation_over_older_images_and_of_state() {
     let seen = run_lists(1, 100_000);
-    let wanted = OVER_OLD.iter().chain(PROTECTION);
+    let wanted = OVER_OLD.iter().chain(PROTECTION).chain(LEFT_BROKEN_WIRE).chain(NO_BROKEN_WIRE);
     let missing: Vec<_> = wanted.filter(|name| !seen.situations.contains_key(**name)).collect();
     assert!(missing.is_empty(), "{missing:?}");
 }

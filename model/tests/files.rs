@@ -25,11 +25,12 @@ fn stored_listings() {
     assert_eq!(tally.impossible(), Vec::<String>::new());
 }
 
-/// The answers but those to state, in which the editions differ whatever the sites.
-fn answers_by(edition: Edition, commands: &[u8]) -> Vec<Answer> {
-    let mut image = vec![0; LENGTH];
+/// Different answers by the two editions to the same command file. State is left out: it differs whatever the sites.
+fn different(one: Edition, other: Edition, commands: &[u8]) -> Vec<(Call, Answer)> {
+    let (mut by_one, mut by_other) = (vec![0; LENGTH], vec![0; LENGTH]);
     let calls = commands.chunks(COMMAND_BYTES).filter_map(read_command).filter(|call| *call != Call::State);
-    calls.map(|call| perform_by(edition, &mut image, &call)).collect()
+    let answers = calls.map(|call| (call, perform_by(one, &mut by_one, &call), perform_by(other, &mut by_other, &call)));
+    answers.filter(|(_, one, other)| one != other).map(|(call, _, other)| (call, other)).collect()
 }
 
 /// A program with the old choice of sites fails on every kind.
@@ -37,8 +38,17 @@ fn answers_by(edition: Edition, commands: &[u8]) -> Vec<Answer> {
 fn answers_tell_the_rails() {
     for (name, _) in KINDS {
         let (commands, _) = stored(name);
-        let (base, today) = (answers_by(Edition::Base, &commands), answers_by(Edition::Today, &commands));
-        let different = base.iter().zip(&today).filter(|(base, today)| base != today).count();
-        assert!(different > 0, "{name}: {different} of {}", today.len());
+        assert!(!different(Edition::Base, Edition::Rails, &commands).is_empty(), "{name}");
+    }
+}
+
+/// A program that stores 65,535 fails on every kind, and first at a store of it.
+#[test]
+fn answers_tell_the_broken_wire() {
+    for (name, _) in KINDS {
+        let (commands, _) = stored(name);
+        let first = different(Edition::Rails, Edition::Today, &commands).first().copied();
+        let refused = matches!(first, Some((Call::Store { value: 65_535, .. }, Answer::Refused(3))));
+        assert!(refused, "{name}: {first:?}");
     }
 }

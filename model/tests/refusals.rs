@@ -8,6 +8,24 @@ use model::image::*;
 use model::random::Random;
 use model::sites::{sites, Placement};
 
+/// Refusal 3.
+fn outside_range(call: &Call) -> bool {
+    let no_transaction = |number: u8| number == 0 || number > 15;
+    match *call {
+        Call::Start { .. } | Call::Place { .. } | Call::Settle | Call::State => false,
+        Call::Begin { transaction, home } => no_transaction(transaction) || home > 7,
+        Call::Get { transaction, record } | Call::Delete { transaction, record } => {
+            no_transaction(transaction) || record > 511
+        }
+        Call::Store { transaction, record, value } => {
+            no_transaction(transaction) || record > 511 || value == 65_535
+        }
+        Call::Commit { transaction } | Call::Rollback { transaction } => no_transaction(transaction),
+        Call::Fit { card } | Call::Withdraw { card } | Call::Fail { card } | Call::Load { card } => card > 7,
+        Call::Move { card, block } => card > 7 || block > 63,
+    }
+}
+
 /// Refusal 7.
 fn locked_by_other(image: &[u8], control: &Control, transaction: u8, record: u16) -> bool {
     let (block, place) = (record as usize / 8, record as usize % 8);
@@ -84,7 +102,7 @@ fn lowest_number_and_no_change() {
             let wanted = match (call, Control::read(&before)) {
                 (Call::Start { mask }, _) => (count(mask) < 2).then_some(9),
                 (_, None) => Some(2),
-                (_, Some(_)) if !call.in_range() => Some(3),
+                (_, Some(_)) if outside_range(&call) => Some(3),
                 (_, Some(control)) => (4..15).find(|n| applies(*n, &before, &control, &call)),
             };
             match answer {

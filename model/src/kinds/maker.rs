@@ -6,7 +6,7 @@ use super::{Kind, KINDS};
 use crate::calls::{perform_by, Answer, Call};
 use crate::commands::{read_command, write_command, COMMAND_BYTES};
 use crate::control::Control;
-use crate::edition::Edition;
+use crate::edition::{Edition, BROKEN_WIRE};
 use crate::image::{CONTROL, LENGTH, RECORDS};
 use crate::random::Random;
 use std::collections::VecDeque;
@@ -64,6 +64,23 @@ impl Maker {
         self.edition = edition;
         if let Some(control) = self.running() {
             self.plan_going_on(&control);
+        }
+    }
+
+    /// Plans commands that leave values pending, and says how many.
+    pub fn leave_pending(&mut self) -> usize {
+        if let Some(control) = self.running() {
+            self.plan_pending(&control);
+        }
+        self.plan.len()
+    }
+
+    /// Plans commands that use the records that are there. Nothing comes between.
+    pub(super) fn use_all(&mut self) {
+        if let Some(control) = self.running() {
+            self.plan.clear();
+            self.plan_use_of_all(&control);
+            self.steady = true;
         }
     }
 
@@ -137,6 +154,11 @@ impl Maker {
 
     /// A start, or a call that is refused where no store runs.
     fn outside(&mut self) -> Call {
+        if self.random.chance(150) {
+            // Refused for its value rather than for the stop.
+            let (transaction, record) = (1 + self.random.below(15) as u8, self.record());
+            return Call::Store { transaction, record, value: BROKEN_WIRE };
+        }
         if !self.random.chance(self.profile.outside) {
             return self.start_call();
         }

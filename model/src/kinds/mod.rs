@@ -9,6 +9,7 @@ mod special;
 pub use maker::Maker;
 
 use crate::commands::COMMAND_BYTES;
+use crate::edition::Edition;
 
 #[derive(Clone, Copy, Debug, PartialEq, Eq)]
 pub enum Kind {
@@ -50,15 +51,40 @@ pub fn names() -> String {
     KINDS.map(|(name, _)| name).join(" ")
 }
 
-/// A whole command file. Noise ends within a command.
-pub fn generate(kind: Kind, seed: u64, commands: usize) -> Vec<u8> {
-    let mut maker = Maker::new(kind, seed);
+/// The next commands of the maker.
+fn commands_of(maker: &mut Maker, commands: usize) -> Vec<u8> {
     let mut file = Vec::with_capacity((commands + 1) * COMMAND_BYTES);
     for _ in 0..commands {
         file.extend(maker.next_command());
     }
+    file
+}
+
+/// A whole command file. Noise ends within a command.
+pub fn generate(kind: Kind, seed: u64, commands: usize) -> Vec<u8> {
+    let mut maker = Maker::new(kind, seed);
+    let mut file = commands_of(&mut maker, commands);
     if kind == Kind::Noise {
         file.extend(maker.part_of_a_command());
     }
     file
+}
+
+/// Commands of an earlier edition, which leave values pending, the image after them, and today's commands, which go on
+/// from there and use the records first.
+pub struct Older {
+    pub earlier: Vec<u8>,
+    pub image: Vec<u8>,
+    pub commands: Vec<u8>,
+}
+
+pub fn generate_older(edition: Edition, kind: Kind, seed: u64, earlier: usize, commands: usize) -> Older {
+    let mut maker = Maker::by(edition, kind, seed);
+    let mut earlier = commands_of(&mut maker, earlier);
+    let more = maker.leave_pending();
+    earlier.extend(commands_of(&mut maker, more));
+    let image = maker.image().to_vec();
+    maker.go_on_by(Edition::Today);
+    maker.use_all();
+    Older { earlier, image, commands: commands_of(&mut maker, commands) }
 }

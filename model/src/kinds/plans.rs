@@ -1,10 +1,10 @@
 //! Plans: lists of calls that belong together.
 
-use super::arguments::{all_held, idle, misplaced, move_call, safe};
+use super::arguments::{all_held, committed_records, idle, locked_records, misplaced, move_call, safe};
 use super::maker::Maker;
 use crate::calls::{perform_by, Call};
 use crate::control::{bit, count, has, Control};
-use crate::edition::Edition;
+use crate::edition::{Edition, BROKEN_WIRE};
 use crate::image::held;
 use crate::sites::members;
 
@@ -153,17 +153,80 @@ impl Maker {
     }
 
     /// Under other rules than before, most often a placement is added, by a place or a
-    /// failure, and records are used; else the plan goes on.
+    /// failure, and records are used, or those that are there are; else the plan goes on.
     pub(super) fn plan_going_on(&mut self, control: &Control) {
         if self.random.chance(250) {
             return;
         }
         self.plan.clear();
         self.steady = false;
-        match self.random.below(3) {
-            0 => self.plan_reorganisation(control),
-            1 if control.placements.len() < 3 => self.plan_place(control),
+        match self.random.below(6) {
+            0..=2 => self.plan_reorganisation(control),
+            3 => self.plan_use_of_all(control),
+            4 if control.placements.len() < 3 => self.plan_place(control),
             _ => self.plan_four(control),
+        }
+    }
+
+    /// Some transactions store values by turns and stay open. Nothing comes between.
+    pub(super) fn plan_pending(&mut self, control: &Control) {
+        self.plan.clear();
+        let mut closed: Vec<u8> = (1..=15).filter(|transaction| !control.is_open(*transaction)).collect();
+        self.random.shuffle(&mut closed);
+        closed.truncate(4);
+        let homes = members(control.newest().mask);
+        for transaction in &closed {
+            self.plan.push_back(Call::Begin { transaction: *transaction, home: self.random.one_of(&homes) as u8 });
+        }
+        for transaction in closed.repeat(6) {
+            let (record, value) = (self.record(), self.value());
+            self.plan.push_back(Call::Store { transaction, record, value });
+        }
+        self.steady = true;
+    }
+
+    /// Records that are there are read and changed: committed ones by two transactions, one of which is rolled back,
+    /// and pending ones by their own.
+    pub(super) fn plan_use_of_all(&mut self, control: &Control) {
+        let (transaction, home) = self.newcomer(control);
+        for close in [Call::Rollback { transaction }, Call::Commit { transaction }] {
+            self.plan.push_back(Call::Begin { transaction, home });
+            let mut committed = committed_records(&self.image, control);
+            self.random.shuffle(&mut committed);
+            for record in committed.into_iter().take(20) {
+                self.plan_use(transaction, record);
+            }
+            self.plan.push_back(close);
+        }
+        let mut pending = locked_records(&self.image, control);
+        self.random.shuffle(&mut pending);
+        for (transaction, record) in pending {
+            self.plan_use(transaction, record);
+        }
+        self.plan_closes(control);
+    }
+
+    /// The record is read and perhaps changed.
+    fn plan_use(&mut self, transaction: u8, record: u16) {
+        self.plan.push_back(Call::Get { transaction, record });
+        let value = self.value();
+        self.plan.extend(match self.random.below(5) {
+            0 => Some(Call::Store { transaction, record, value }),
+            1 => Some(Call::Store { transaction, record, value: BROKEN_WIRE }),
+            2 => Some(Call::Delete { transaction, record }),
+            _ => None,
+        });
+    }
+
+    /// Every open transaction closes, some by the failure of their home.
+    fn plan_closes(&mut self, control: &Control) {
+        for transaction in control.open() {
+            let home = control.homes[transaction as usize].expect("an open transaction has a home");
+            self.plan.push_back(match self.random.below(3) {
+                0 if !control.stops_without(home as usize) => Call::Fail { card: home },
+                0 | 1 => Call::Rollback { transaction },
+                _ => Call::Commit { transaction },
+            });
         }
     }
 

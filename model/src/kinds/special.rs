@@ -72,7 +72,7 @@ impl Maker {
         let card = self.random.one_of(&[0, 1, 6, 7, 7, 8, 9, 15]);
         let record = self.random.one_of(&[0, 7, 8, 255, 256, 503, 504, 511, 511, 512, 513, 1023, 4095]);
         let block = self.random.one_of(&[0, 1, 31, 62, 63, 63, 64, 65, 511, 512, 4095]);
-        let value = self.random.one_of(&[0, 1, 0x7FFF, 0x8000, 0xFFFF]);
+        let value = self.random.one_of(&[0, 1, 0x7FFF, 0x8000, 65533, 65534, 65534, 65535, 65535]);
         let mask = self.random.one_of(&[
             0x00, 0x80, 0x01, 0x10, 0xC0, 0x81, 0x03, 0x18, 0xFF, 0xFE, 0x7F, 0x100, 0x180, 0x1C0, 0x8000, 0xFFFF,
         ]);
