@@ -1,6 +1,7 @@
 #!/bin/sh
 # Makes the stored command files and their listings anew, from fixed seeds:
-# tests/listings/KIND/stdin and stdout.
+# tests/listings/KIND/stdin and stdout; tests/older/EDITION/earlier, the image
+# that it leaves, and stdin and stdout, which go on from there.
 set -eu
 cd "$(dirname "$0")"
 cargo build --release --offline --quiet
@@ -22,5 +23,14 @@ long 109 4000
 refusals 110 3000
 pairs 111 3000
 sweep 112 3000
+LIST
+while read -r edition kind seed earlier commands; do
+    folder=../tests/older/$edition
+    mkdir -p "$folder"
+    target/release/older "$edition" "$kind" "$seed" "$earlier" "$commands" "$folder"
+    target/release/listing "$folder/image" < "$folder/stdin" > "$folder/stdout"
+done <<LIST
+base mixed 1837 400 1200
+rails mixed 366 400 1200
 LIST
 target/release/count ../tests/listings/*/stdin

@@ -1,0 +1,105 @@
+//! The stored command files that go on from images of earlier editions.
+
+use model::broken_wire_situations::{broken_wire_situations, LEFT_BROKEN_WIRE, NO_BROKEN_WIRE};
+use model::calls::perform_by;
+use model::commands::{read_command, COMMAND_BYTES};
+use model::control::Control;
+use model::edition::{Edition, BROKEN_WIRE};
+use model::image::{held_blocks, read_slot, LENGTH, PLACES};
+use model::listing::{answer, listing_from};
+use model::sites::members;
+use model::Call;
+use std::collections::BTreeSet;
+use std::path::Path;
+use std::process::{Command, Stdio};
+
+fn path(case: &str, file: &str) -> String {
+    format!("{}/../tests/older/{case}/{file}", env!("CARGO_MANIFEST_DIR"))
+}
+
+fn stored(case: &str, file: &str) -> Vec<u8> {
+    std::fs::read(path(case, file)).unwrap()
+}
+
+fn calls(commands: &[u8]) -> impl Iterator<Item = Call> + '_ {
+    commands.chunks(COMMAND_BYTES).filter_map(read_command)
+}
+
+#[test]
+fn earlier_commands_leave_the_images() {
+    for (case, edition) in Edition::NAMES {
+        let mut image = vec![0; LENGTH];
+        for call in calls(&stored(case, "earlier")) {
+            perform_by(edition, &mut image, &call);
+        }
+        assert!(image == stored(case, "image"), "{case}");
+    }
+}
+
+#[test]
+fn listings_go_on_from_the_images() {
+    for (case, _) in Edition::NAMES {
+        let listing = listing_from(&stored(case, "image"), &stored(case, "stdin"));
+        assert!(listing.as_bytes() == stored(case, "stdout"), "{case}");
+    }
+}
+
+/// The blocks in which 65,535 is committed, and those in which it is pending.
+fn blocks_with_it(image: &[u8], control: &Control) -> [BTreeSet<usize>; 2] {
+    let mut found = [BTreeSet::new(), BTreeSet::new()];
+    for card in members(control.working) {
+        for block in held_blocks(image, card) {
+            for slot in (0..PLACES).map(|place| read_slot(image, card, block, place)) {
+                found[0].extend((slot.committed() == Some(BROKEN_WIRE)).then_some(block));
+                found[1].extend((slot.lock != 0 && slot.pending() == Some(BROKEN_WIRE)).then_some(block));
+            }
+        }
+    }
+    found
+}
+
+/// Several placements are active, and 65,535 is in many blocks, committed and pending.
+#[test]
+fn images_have_broken_wires() {
+    for (case, edition) in Edition::NAMES {
+        let image = stored(case, "image");
+        let control = Control::read_by(edition, &image).expect("the form is whole");
+        assert!(!control.stopped && control.placements.len() >= 2, "{case}");
+        let [committed, pending] = blocks_with_it(&image, &control);
+        assert!(committed.len() >= 5 && pending.len() >= 5, "{case}: {committed:?} {pending:?}");
+    }
+}
+
+#[test]
+fn every_situation_in_each() {
+    for (case, _) in Edition::NAMES {
+        let mut image = stored(case, "image");
+        let mut met = BTreeSet::new();
+        for bytes in stored(case, "stdin").chunks(COMMAND_BYTES) {
+            let before = image.clone();
+            let answer = answer(&mut image, bytes);
+            met.extend(read_command(bytes).map_or(Vec::new(), |call| broken_wire_situations(&before, &call, &answer)));
+        }
+        let wanted = LEFT_BROKEN_WIRE.iter().chain(NO_BROKEN_WIRE);
+        let missing: Vec<_> = wanted.filter(|name| !met.contains(**name)).collect();
+        assert!(missing.is_empty(), "{case}: {missing:?}");
+    }
+}
+
+/// The exit status of the model's program, and what it prints.
+fn program(image: &Path, commands: &str) -> (Option<i32>, Vec<u8>) {
+    let mut program = Command::new(env!("CARGO_BIN_EXE_listing"));
+    program.arg(image).stdin(std::fs::File::open(commands).unwrap()).stderr(Stdio::null());
+    let output = program.output().unwrap();
+    (output.status.code(), output.stdout)
+}
+
+#[test]
+fn program_goes_on_from_an_image() {
+    for (case, _) in Edition::NAMES {
+        let (image, stdin) = (path(case, "image"), path(case, "stdin"));
+        assert_eq!(program(image.as_ref(), &stdin), (Some(0), stored(case, "stdout")), "{case}");
+        // Another length is none of an image's.
+        assert_eq!(program(stdin.as_ref(), &stdin), (Some(2), vec![]), "{case}");
+    }
+}
