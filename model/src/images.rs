@@ -99,7 +99,7 @@ pub fn disturb(random: &mut Random, image: &mut [u8]) {
 
 /// Now and then 65,535, committed or pending or both; most often the slot is unlocked.
 fn random_slot(random: &mut Random, slot: &mut Slot, locked: usize) {
-    let broken = random.below(20);
+    let broken = random.below(10);
     if broken < 2 {
         slot.value = BROKEN_WIRE;
     }

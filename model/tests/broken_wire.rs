@@ -47,7 +47,8 @@ fn refused_between_2_and_4() {
     assert_refused(&open, &STORE, 3);
     assert_refused(&started(0xC0), &STORE, 3);
     let mut locked = open.clone();
-    make(Edition::Today, &mut locked, &[Begin { transaction: 2, home: 1 }, Store { transaction: 2, record: 9, value: 1 }]);
+    let lock = [Begin { transaction: 2, home: 1 }, Store { transaction: 2, record: 9, value: 1 }];
+    make(Edition::Today, &mut locked, &lock);
     assert_refused(&locked, &STORE, 3);
     let mut stopped = open.clone();
     assert_eq!(perform(&mut stopped, &Fail { card: 1 }), Answer::Stopped);

@@ -25,12 +25,19 @@ fn stored_listings() {
     assert_eq!(tally.impossible(), Vec::<String>::new());
 }
 
-/// Different answers by the two editions to the same command file. State is left out: it differs whatever the sites.
+/// The calls of a command file that the editions answer differently, with the other's answers. State is left out: it
+/// differs whatever the sites.
 fn different(one: Edition, other: Edition, commands: &[u8]) -> Vec<(Call, Answer)> {
     let (mut by_one, mut by_other) = (vec![0; LENGTH], vec![0; LENGTH]);
     let calls = commands.chunks(COMMAND_BYTES).filter_map(read_command).filter(|call| *call != Call::State);
-    let answers = calls.map(|call| (call, perform_by(one, &mut by_one, &call), perform_by(other, &mut by_other, &call)));
-    answers.filter(|(_, one, other)| one != other).map(|(call, _, other)| (call, other)).collect()
+    let mut found = Vec::new();
+    for call in calls {
+        let answer = perform_by(other, &mut by_other, &call);
+        if perform_by(one, &mut by_one, &call) != answer {
+            found.push((call, answer));
+        }
+    }
+    found
 }
 
 /// A program with the old choice of sites fails on every kind.
