@@ -1,6 +1,7 @@
 //! Comparison of the archive with the model: the answer, and every byte of the image after each call.
 
 pub mod archive;
+pub mod broken_wire;
 pub mod cases;
 pub mod lent;
 pub mod lists;

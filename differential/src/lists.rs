@@ -1,17 +1,19 @@
 //! Long lists of calls with any bytes in the tables of failed cards, compared with the plain record list too.
-//! Some go on from an image that calls of the base left.
+//! Some go on from an image that calls of earlier editions left.
 
 use crate::archive::code;
+use crate::broken_wire;
 use crate::move_lists::{self, MoveLists, Origin};
 use crate::pair::{Outcome, Pair, Request, ALIGNMENTS};
 use crate::protection::{self, IN_LIST};
 use crate::run::Run;
 use model::commands::read_command;
 use model::control::Control;
+use model::edition::Edition;
 use model::image::table_at;
 use model::images::disturb;
 use model::kinds::KINDS;
-use model::lists::{List, Lists};
+use model::lists::{List, Lists, HISTORIES};
 use model::plain::{Expected, Plain};
 use model::rail_situations::{rail_situations, OVER_OLD};
 use model::sites::members;
@@ -35,8 +37,8 @@ fn list_name(kind: &str, from_older: bool) -> String {
     format!("call of a list of kind {kind}{}", if from_older { ", from an older image" } else { "" })
 }
 
-fn beginning_name(active: usize) -> String {
-    format!("list from an older image with {active} active")
+fn beginning_name(history: &[Edition], active: usize) -> String {
+    format!("list from an image of {history:?} with {active} active")
 }
 
 fn plain_name(operation: usize, refused: bool) -> String {
@@ -47,7 +49,7 @@ fn plain_name(operation: usize, refused: bool) -> String {
 /// Classes of calls in lists that a run must meet.
 pub fn classes() -> Vec<String> {
     let mut all: Vec<String> = KINDS.iter().flat_map(|(name, _)| [false, true].map(|o| list_name(name, o))).collect();
-    all.extend((1..=4).map(beginning_name));
+    all.extend(HISTORIES.iter().flat_map(|history| (1..=4).map(|active| beginning_name(history, active))));
     all.extend(PLAIN_OPERATIONS.flat_map(|operation| [plain_name(operation, false), plain_name(operation, true)]));
     all.push(plain_name(STATE, false));
     all.extend([NOISE, STOP, NO_STOP].map(String::from));
@@ -79,13 +81,13 @@ impl ListRun {
         let mut pair = Pair::default();
         pair.load(list.image(), run.random.below(ALIGNMENTS));
         if let Some(plain) = &list.plain {
-            run.cases.add(&beginning_name(plain.active.len()));
+            run.cases.add(&beginning_name(list.history, plain.active.len()));
         }
         ListRun { pair, list }
     }
 
     fn run(&mut self, run: &mut Run, move_lists: &mut MoveLists, most: usize) {
-        let name = list_name(self.list.name, self.list.from_older);
+        let name = list_name(self.list.name, self.list.from_older());
         for _ in 0..self.list.calls.min(most) {
             let bytes = self.list.next_command();
             self.disturb(run);
@@ -97,9 +99,9 @@ impl ListRun {
             let wide = matches!(call, Call::Move { block: 256.., .. });
             let by_bytes = wide || run.random.chance(300);
             let request = if by_bytes { Request::Command(&bytes) } else { Request::Call(call) };
-            let before = Control::read(self.pair.image());
+            let before = self.pair.image().to_vec();
             let outcome = run.perform(&mut self.pair, &request);
-            count_situations(run, before, &call, &outcome);
+            count_situations(run, &before, &call, &outcome);
             self.compare_with_plain(run, &request, &call, &outcome);
             if self.list.plain.is_some() && move_lists.chance(MOVES_LISTED) {
                 move_lists.check(run, Origin::Reached, self.pair.archive_image());
@@ -138,9 +140,11 @@ impl ListRun {
     }
 }
 
-/// What is special in a store with old placements, and about a state.
-fn count_situations(run: &mut Run, before: Option<Control>, call: &Call, outcome: &Outcome) {
-    let Some(control) = before.filter(|control| !control.stopped && call.in_range()) else { return };
+/// What is special about 65,535, in a store with old placements, and about a state.
+fn count_situations(run: &mut Run, before: &[u8], call: &Call, outcome: &Outcome) {
+    broken_wire::count(run, broken_wire::IN_LIST, before, call, &outcome.answer);
+    let in_range = call.in_range(Edition::Today);
+    let Some(control) = Control::read(before).filter(|control| !control.stopped && in_range) else { return };
     for name in rail_situations(&control, call, &outcome.answer) {
         run.cases.add(&name);
     }

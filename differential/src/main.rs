@@ -3,7 +3,7 @@
 //! Exit 1 on a difference, or if a run that is long enough misses a class of cases.
 
 use differential::run::Run;
-use differential::{lists, move_lists, protection, single};
+use differential::{broken_wire, lists, move_lists, protection, single};
 use std::process::exit;
 use std::time::Instant;
 
@@ -32,6 +32,7 @@ fn run_all(run: &mut Run, calls: usize) -> Vec<String> {
         single::argument_classes(),
         lists::classes(),
         protection::classes(),
+        broken_wire::classes(),
         move_lists::image_classes(),
     ];
     run.cases.faults(&single::image_classes(), &named.concat())

@@ -1,6 +1,7 @@
 //! Random calls of any arguments, and commands of any bytes.
 
 use model::commands::{read_command, Fields, COMMAND_BYTES};
+use model::edition::BROKEN_WIRE;
 use model::images::{random_call, random_numbers};
 use model::random::Random;
 use model::tally::OPERATIONS;
@@ -9,6 +10,7 @@ use model::Call;
 /// More bytes than any command has.
 const MOST_BYTES: usize = 12;
 
+const STORE_OF_65535: &str = "well-formed command of a store of 65535";
 const BLOCK_OVER_255: &str = "command of a block over 255";
 const OPERATION_15: &str = "command of operation 15";
 const MASK_OVER_255: &str = "command of a mask over 255";
@@ -26,7 +28,7 @@ fn well_formed(operation: usize) -> String {
 /// Classes of a command's bytes that a run must meet.
 pub fn command_classes() -> Vec<String> {
     let mut all: Vec<String> = (0..15).map(well_formed).collect();
-    all.extend([BLOCK_OVER_255, OPERATION_15, MASK_OVER_255, FIELD_TOO_MANY].map(String::from));
+    all.extend([STORE_OF_65535, BLOCK_OVER_255, OPERATION_15, MASK_OVER_255, FIELD_TOO_MANY].map(String::from));
     all.extend(LENGTHS.map(String::from));
     all
 }
@@ -37,6 +39,7 @@ pub fn command_class(bytes: &[u8]) -> String {
     };
     let fields = Fields::unpack(five);
     match (read_command(bytes), fields.operation) {
+        (Some(Call::Store { value: BROKEN_WIRE, .. }), _) => STORE_OF_65535.into(),
         (Some(Call::Move { block: 256.., .. }), _) => BLOCK_OVER_255.into(),
         (Some(_), operation) => well_formed(operation.into()),
         (None, 15) => OPERATION_15.into(),
@@ -49,6 +52,9 @@ pub fn command_class(bytes: &[u8]) -> String {
 pub const RECORD_ENDS: [(u16, &str); 5] = [
     (0, "record 0"), (511, "record 511"), (512, "record 512"), (4095, "record 4095"), (65535, "record 65535"),
 ];
+
+/// Values to store at the ends that a run must meet.
+pub const VALUE_ENDS: [(u16, &str); 3] = [(0, "value 0"), (65534, "value 65534"), (65535, "value 65535")];
 
 /// Makes calls so that arguments of one byte take every value.
 #[derive(Default)]

@@ -1,9 +1,10 @@
 //! Single calls on images of any length and contents.
 
+use crate::broken_wire;
 use crate::cases::{Entries, COMMAND_ENTRY, ENTRIES};
 use crate::pair::{Pair, Request, ALIGNMENTS};
 use crate::protection::{self, SINGLE};
-use crate::requests::{command_class, command_classes, random_command, Requests, RECORD_ENDS};
+use crate::requests::{command_class, command_classes, random_command, Requests, RECORD_ENDS, VALUE_ENDS};
 use crate::run::Run;
 use model::clauses::{broken, broken_control, Clause, CLAUSES};
 use model::control::Control;
@@ -62,7 +63,7 @@ pub fn image_classes() -> Vec<String> {
 /// Classes of arguments that a run must meet.
 pub fn argument_classes() -> Vec<String> {
     let mut all = command_classes();
-    all.extend(RECORD_ENDS.map(|(_, name)| name.to_string()));
+    all.extend(RECORD_ENDS.iter().chain(&VALUE_ENDS).map(|(_, name)| name.to_string()));
     all.extend([MALFORMED_BEFORE_1, MALFORMED_BEFORE_2].map(String::from));
     all
 }
@@ -137,8 +138,10 @@ fn calls_on(run: &mut Run, pair: &mut Pair, requests: &mut Requests, image: &[u8
             let call = requests.call(&mut run.random);
             let request = Request::Call(call);
             let outcome = run.perform(pair, &request);
-            count_record(run, &call);
+            count_ends(run, &call);
             count_state(run, image, &call, outcome.answer);
+            broken_wire::count_image(run, image, &call);
+            broken_wire::count(run, broken_wire::SINGLE, image, &call, &outcome.answer);
             entries[request.operation()] += 1;
         }
         if pair.image() != image {
@@ -159,11 +162,18 @@ fn count_command(run: &mut Run, image: &[u8], bytes: &[u8], answer: Answer) {
     }
 }
 
-fn count_record(run: &mut Run, call: &Call) {
+fn count_ends(run: &mut Run, call: &Call) {
     if let Call::Get { record, .. } | Call::Store { record, .. } | Call::Delete { record, .. } = *call {
-        for (_, name) in RECORD_ENDS.iter().filter(|(end, _)| *end == record) {
-            run.cases.add(name);
-        }
+        count_end(run, &RECORD_ENDS, record);
+    }
+    if let Call::Store { value, .. } = *call {
+        count_end(run, &VALUE_ENDS, value);
+    }
+}
+
+fn count_end(run: &mut Run, ends: &[(u16, &str)], number: u16) {
+    for (_, name) in ends.iter().filter(|(end, _)| *end == number) {
+        run.cases.add(name);
     }
 }
 
