@@ -12,9 +12,9 @@
  * allowed: another length than 21,024 is refused with 1, a broken control part with 2. An image of
  * zeros is refused with 2 until its first start. A refused call leaves the image as found.
  *
- * Numbers: cards 0 to 7, blocks 0 to 63, records 0 to 511, transactions 1 to 15. Record r lies in
- * block r / 8. A mask is a set of cards in a byte; card 0 is its highest bit (80 hex). C converts
- * an argument to the parameter's type before the call: card 256 would be card 0.
+ * Numbers: cards 0 to 7, blocks 0 to 63, records 0 to 511, transactions 1 to 15, values to store 0 to
+ * 65,534. Record r lies in block r / 8. A mask is a set of cards in a byte; card 0 is its highest bit
+ * (80 hex). C converts an argument to the parameter's type before the call: card 256 would be card 0.
  *
  * An answer is kind * 65536 + number; ok is 0. The number is 0 where the kind has none. If several
  * refusals apply, the lowest is returned, except that a command's form (15) comes first. Refusals 1,
@@ -105,8 +105,9 @@ uint32_t nolpigat_get(const uint8_t *image, size_t length, uint8_t transaction, 
 
 /* store: every holder's slot is locked and given the pending value. With no holder, both sites of
  * the newest placement get the block, all else in it zero.
- * transaction: 1 to 15, open; record: 0 to 511; value: any.
- * Answer: ok. Refused: 3; 5 not open; 7 locked by another. */
+ * transaction: 1 to 15, open; record: 0 to 511; value: 0 to 65,534. Records that have 65,535 from
+ * before, committed or pending, are read and kept as others are.
+ * Answer: ok. Refused: 3, also for value 65,535; 5 not open; 7 locked by another. */
 uint32_t nolpigat_store(uint8_t *image, size_t length, uint8_t transaction, uint16_t record,
                         uint16_t value);
 

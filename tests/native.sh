@@ -34,6 +34,15 @@ lists() {
     done
 }
 
+# goes_on COMMAND..: with the image of each stored case it prints that case's listing, and it takes no other length.
+goes_on() {
+    for folder in "$root"/tests/older/*; do
+        "$@" "$folder/image" <"$folder/stdin" >"$scratch/listing" && cmp "$scratch/listing" "$folder/stdout" || return 1
+        "$@" "$folder/stdin" <"$folder/stdin"
+        [ $? -eq 2 ] || return 1
+    done
+}
+
 # compile ARGUMENT..: with the compiler, the standard and the language of `native`.
 compile() {
     "$compiler" "-std=$standard" -Wall -Wextra -pedantic -Werror "-I$root/include" -x "$language" "$@"
@@ -55,6 +64,10 @@ listing() {
     build "$root/examples/c/listing.c" && lists "$program"
 }
 
+older() {
+    build "$root/examples/c/listing.c" && goes_on "$program"
+}
+
 calls() {
     build "$root/tests/calls.c" || return 1
     for file in "$root"/crates/cabinet/stdin "$root"/tests/listings/*/stdin; do
@@ -73,13 +86,16 @@ move_list() {
 # native COMPILER STANDARD LANGUAGE
 native() {
     compiler=$1 standard=$2 language=$3
-    for test in header first listing calls moves move_list; do
+    for test in header first listing older calls moves move_list; do
         check "$test, $compiler $standard" "$test"
     done
 }
 
+# rust SUBCOMMAND ARGUMENT..
 rust() {
-    cargo "$@" --offline --quiet --manifest-path "$root/bindings/rust/Cargo.toml"
+    subcommand=$1
+    shift
+    cargo "$subcommand" --offline --quiet --manifest-path "$root/bindings/rust/Cargo.toml" "$@"
 }
 
 [ -f "$archive" ] || check 'archive' build_archive
@@ -92,5 +108,6 @@ fi
 RUSTFLAGS="${RUSTFLAGS-} -D warnings"
 export RUSTFLAGS
 check 'listing, Rust' lists rust run --example listing
+check 'older, Rust' goes_on rust run --example listing --
 check 'cargo test' rust test
 exit $failed

@@ -20,11 +20,10 @@
 //! has cards on both. The placements in an image that was written before this rule keep their sites; a [`place`] of
 //! the same mask puts them on two rails.
 //!
-//! Cards are 0 to 7, blocks 0 to 63, records 0 to 511, transactions 1 to 15; record r lies in block r / 8. A mask is
-//! a set of cards in a byte, card 0 its highest bit. No call panics: what cannot be done is
+//! Cards are 0 to 7, blocks 0 to 63, records 0 to 511, transactions 1 to 15, values to store 0 to 65,534; record r lies
+//! in block r / 8. A mask is a set of cards in a byte, card 0 its highest bit. No call panics: what cannot be done is
 //! [refused](Answer::Refused), and the lowest number that applies is returned. Refusals 1, 2 and 4 come from every
-//! call but [`start`], and 3 from every call with a number other than a mask or a value; each function names its
-//! others.
+//! call but [`start`], and 3 from every call with a number other than a mask; each function names its others.
 
 #![deny(missing_docs)]
 
@@ -88,9 +87,10 @@ pub fn get(image: &[u8], transaction: u8, record: u16) -> Answer {
 }
 
 /// Every holder's slot is locked and given the pending value. With no holder, both sites of the newest placement get
-/// the block.
+/// the block. The value is 0 to 65,534. Records that have 65,535 from before, committed or pending, are read and kept
+/// as others are.
 ///
-/// Answer: [`Ok`](Answer::Ok). Refused: as [`get`].
+/// Answer: [`Ok`](Answer::Ok). Refused: as [`get`], and 3 also for the value 65,535.
 pub fn store(image: &mut [u8], transaction: u8, record: u16, value: u16) -> Answer {
     ask!(nolpigat_store(image.as_mut_ptr(), image.len(), transaction, record, value))
 }

@@ -31,10 +31,14 @@ fn failed() -> Vec<u8> {
     image
 }
 
+/// Where the slot of record 9 on a card begins.
+fn slot_place(card: usize) -> usize {
+    32 + card * 2624 + 41 + 1 + 5
+}
+
 /// The slot of record 9 on a card.
 fn slot(image: &[u8], card: usize) -> &[u8] {
-    let place = 32 + card * 2624 + 41 + 1 + 5;
-    &image[place..place + 5]
+    &image[slot_place(card)..slot_place(card) + 5]
 }
 
 #[test]
@@ -68,6 +72,57 @@ fn store_locks_both_sites() {
         assert_eq!(slot(&image, card), [0x00, 0x00, 0x0C, 0x48, 0xD0]);
     }
     assert_eq!(slot(&image, 0), [0; 5]);
+}
+
+#[test]
+fn largest_value() {
+    let mut image = stored();
+    assert_eq!(store(&mut image, 1, 9, 65_534), Answer::Ok);
+    assert_eq!(get(&image, 1, 9), Answer::Value(65_534));
+    assert_eq!(store(&mut image, 1, 9, 65_535), Answer::Refused(3));
+    assert_eq!(get(&image, 1, 9), Answer::Value(65_534));
+}
+
+/// Record 9 has a 65,535 of an earlier store: with these slot bytes, and transaction 1 open.
+fn left(bytes: [u8; 5]) -> Vec<u8> {
+    let mut image = stored();
+    for card in [1, 2] {
+        let place = slot_place(card);
+        image[place..place + 5].copy_from_slice(&bytes);
+    }
+    image
+}
+
+#[test]
+fn committed_65535_is_used_as_before() {
+    let mut image = left([0xFF, 0xFF, 0x80, 0x00, 0x00]);
+    assert_eq!(get(&image, 1, 9), Answer::Value(65_535));
+    assert_eq!(load(&image, 1), Answer::Load(1));
+    assert_eq!(store(&mut image, 1, 9, 65_535), Answer::Refused(3));
+    assert_eq!(store(&mut image, 1, 9, 7), Answer::Ok);
+    assert_eq!(rollback(&mut image, 1), Answer::Ok);
+    assert_eq!(fail(&mut image, 1), Answer::Placed(0xA0));
+    assert_eq!(move_block(&mut image, 2, 1), Answer::Copies(1));
+    assert_eq!(slot(&image, 0), [0xFF, 0xFF, 0x80, 0x00, 0x00]);
+    assert_eq!(begin(&mut image, 1, 0), Answer::Ok);
+    assert_eq!(delete(&mut image, 1, 9), Answer::Ok);
+    assert_eq!(commit(&mut image, 1), Answer::Ok);
+    assert_eq!(slot(&image, 0), [0; 5]);
+}
+
+#[test]
+fn pending_65535_is_used_as_before() {
+    let image = left([0x00, 0x00, 0x0F, 0xFF, 0xFC]);
+    assert_eq!(get(&image, 1, 9), Answer::Value(65_535));
+    let mut deleted = image.clone();
+    assert_eq!(delete(&mut deleted, 1, 9), Answer::Ok);
+    assert_eq!(get(&deleted, 1, 9), Answer::Absent);
+    let mut rolled_back = image.clone();
+    assert_eq!(rollback(&mut rolled_back, 1), Answer::Ok);
+    assert_eq!(slot(&rolled_back, 1), [0; 5]);
+    let mut committed = image;
+    assert_eq!(commit(&mut committed, 1), Answer::Ok);
+    assert_eq!(slot(&committed, 1), [0xFF, 0xFF, 0x80, 0x00, 0x00]);
 }
 
 #[test]

@@ -61,7 +61,7 @@ fn broken_control_form() {
 
 #[test]
 fn numbers_outside_their_ranges() {
-    let calls: [Call; 16] = [
+    let calls: [Call; 19] = [
         |image| begin(image, 0, 0),
         |image| begin(image, 16, 0),
         |image| begin(image, 2, 8),
@@ -69,6 +69,9 @@ fn numbers_outside_their_ranges() {
         |image| get(image, 1, 512),
         |image| store(image, 1, 512, 0),
         |image| store(image, 1, u16::MAX, 0),
+        |image| store(image, 1, 9, 65_535),
+        |image| store(image, 2, 9, 65_535),
+        |image| command(image, &[0x31, 0, 9, 0xFF, 0xFF]),
         |image| delete(image, 1, 512),
         |image| commit(image, 0),
         |image| rollback(image, u8::MAX),
@@ -82,6 +85,25 @@ fn numbers_outside_their_ranges() {
     for call in calls {
         assert_refused(&opened(), call, 3);
     }
+}
+
+/// The value is refused before the stop, before the transaction that is not open and before another's lock.
+#[test]
+fn value_outside_its_range_comes_first() {
+    let stores: [Call; 2] = [|image| store(image, 1, 9, 65_535), |image| store(image, 3, 9, 65_535)];
+    let mut locked = opened();
+    assert_eq!(begin(&mut locked, 2, 1), Answer::Ok);
+    assert_eq!(store(&mut locked, 2, 9, 4660), Answer::Ok);
+    let mut stopped = vec![0; IMAGE_SIZE];
+    assert_eq!(start(&mut stopped, 0xC0), Answer::Ok);
+    assert_eq!(fail(&mut stopped, 1), Answer::Stopped);
+    for call in stores {
+        assert_refused(&locked, call, 3);
+        assert_refused(&stopped, call, 3);
+    }
+    assert_refused(&locked, |image| store(image, 1, 9, 65_534), 7);
+    assert_refused(&locked, |image| store(image, 3, 9, 65_534), 5);
+    assert_refused(&stopped, |image| store(image, 1, 9, 65_534), 4);
 }
 
 #[test]
