@@ -30,7 +30,7 @@ while read -r edition kind seed earlier commands; do
     target/release/older "$edition" "$kind" "$seed" "$earlier" "$commands" "$folder"
     target/release/listing "$folder/image" < "$folder/stdin" > "$folder/stdout"
 done <<LIST
-base mixed 1837 400 1200
-rails mixed 366 400 1200
+base mixed 2399 400 1200
+rails mixed 1977 400 1200
 LIST
 target/release/count ../tests/listings/*/stdin

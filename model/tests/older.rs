@@ -1,14 +1,14 @@
 //! The stored command files that go on from images of earlier editions.
 
 use model::broken_wire_situations::{broken_wire_situations, LEFT_BROKEN_WIRE, NO_BROKEN_WIRE};
-use model::calls::perform_by;
+use model::calls::{perform, perform_by};
 use model::commands::{read_command, COMMAND_BYTES};
 use model::control::Control;
 use model::edition::{Edition, BROKEN_WIRE};
-use model::image::{held_blocks, read_slot, LENGTH, PLACES};
+use model::image::{held_blocks, place_of, read_slot, Slot, LENGTH, PLACES, RECORDS};
 use model::listing::{answer, listing_from};
-use model::sites::members;
-use model::Call;
+use model::sites::{holders, members};
+use model::{Answer, Call};
 use std::collections::BTreeSet;
 use std::path::Path;
 use std::process::{Command, Stdio};
@@ -83,6 +83,35 @@ fn every_situation_in_each() {
         let wanted = LEFT_BROKEN_WIRE.iter().chain(NO_BROKEN_WIRE);
         let missing: Vec<_> = wanted.filter(|name| !met.contains(**name)).collect();
         assert!(missing.is_empty(), "{case}: {missing:?}");
+    }
+}
+
+/// Records in which the transaction has a pending 65,535.
+fn pending_records(image: &[u8], transaction: u8) -> BTreeSet<u16> {
+    let control = Control::read(image).expect("the form is whole");
+    let slot = |record: u16| {
+        let (block, place) = place_of(record);
+        holders(image, &control, block).first().map(|card| read_slot(image, *card, block, place))
+    };
+    let pending = |slot: Slot| slot.lock == transaction && slot.pending() == Some(BROKEN_WIRE);
+    (0..RECORDS as u16).filter(|record| slot(*record).is_some_and(pending)).collect()
+}
+
+/// A pending 65,535 that is committed is read after it.
+#[test]
+fn committed_ones_are_read() {
+    for (case, _) in Edition::NAMES {
+        let mut image = stored(case, "image");
+        let (mut committed, mut read) = (BTreeSet::new(), BTreeSet::new());
+        for call in calls(&stored(case, "stdin")) {
+            let before = image.clone();
+            match (call, perform(&mut image, &call)) {
+                (Call::Commit { transaction }, Answer::Ok) => committed.extend(pending_records(&before, transaction)),
+                (Call::Get { record, .. }, Answer::Value(BROKEN_WIRE)) => read.extend(committed.get(&record).copied()),
+                _ => {}
+            }
+        }
+        assert!(!read.is_empty(), "{case}: {committed:?}");
     }
 }
 

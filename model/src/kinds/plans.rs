@@ -186,7 +186,7 @@ impl Maker {
     }
 
     /// Records that are there are read and changed: committed ones by two transactions, one of which is rolled back,
-    /// and pending ones by their own.
+    /// and pending ones by their own, which close. Then these are read again.
     pub(super) fn plan_use_of_all(&mut self, control: &Control) {
         let (transaction, home) = self.newcomer(control);
         for close in [Call::Rollback { transaction }, Call::Commit { transaction }] {
@@ -200,10 +200,12 @@ impl Maker {
         }
         let mut pending = locked_records(&self.image, control);
         self.random.shuffle(&mut pending);
-        for (transaction, record) in pending {
-            self.plan_use(transaction, record);
+        for (transaction, record) in &pending {
+            self.plan_use(*transaction, *record);
         }
-        self.plan_closes(control);
+        let left = control.newest().mask & !self.plan_closes(control);
+        self.plan.push_back(Call::Begin { transaction, home: self.random.one_of(&members(left)) as u8 });
+        self.plan.extend(pending.into_iter().map(|(_, record)| Call::Get { transaction, record }));
     }
 
     /// The record is read and perhaps changed.
@@ -218,16 +220,20 @@ impl Maker {
         });
     }
 
-    /// Every open transaction closes, some by the failure of their home.
-    fn plan_closes(&mut self, control: &Control) {
+    /// Every open transaction closes, one perhaps by the failure of its home. The mask of the card that fails.
+    fn plan_closes(&mut self, control: &Control) -> u8 {
+        let mut failed = 0;
         for transaction in control.open() {
             let home = control.homes[transaction as usize].expect("an open transaction has a home");
-            self.plan.push_back(match self.random.below(3) {
-                0 if !control.stops_without(home as usize) => Call::Fail { card: home },
-                0 | 1 => Call::Rollback { transaction },
+            let fails = failed == 0 && !control.stops_without(home as usize) && self.random.chance(300);
+            self.plan.push_back(match self.random.below(2) {
+                _ if fails => Call::Fail { card: home },
+                0 => Call::Rollback { transaction },
                 _ => Call::Commit { transaction },
             });
+            failed |= if fails { bit(home as usize) } else { 0 };
         }
+        failed
     }
 
     /// A place, and records are written and read after it.
