@@ -4,8 +4,8 @@ use super::maker::Maker;
 use crate::calls::{Call, Numbers};
 use crate::control::{bit, has, Control};
 use crate::edition::BROKEN_WIRE;
-use crate::image::{held, held_blocks, place_of, read_slot, Slot, CARDS, RECORDS};
-use crate::sites::{holders, members, sites};
+use crate::image::{held, held_blocks, CARDS, RECORDS};
+use crate::sites::{members, sites};
 
 /// Cards that a fit takes.
 pub(super) fn idle(control: &Control) -> Vec<usize> {
@@ -26,27 +26,6 @@ pub(super) fn safe(control: &Control, mask: u8) -> Vec<usize> {
 pub(super) fn all_held(image: &[u8], mask: u8) -> Vec<(usize, usize)> {
     let blocks = |card: usize| held_blocks(image, card).into_iter().map(move |block| (card, block));
     members(mask).into_iter().flat_map(blocks).collect()
-}
-
-/// The slot of each record at its first holder, where it has one.
-fn first_slots(image: &[u8], control: &Control) -> Vec<(u16, Slot)> {
-    let slot = |record: u16| {
-        let (block, place) = place_of(record);
-        holders(image, control, block).first().map(|card| read_slot(image, *card, block, place))
-    };
-    (0..RECORDS as u16).filter_map(|record| Some((record, slot(record)?))).collect()
-}
-
-/// The records that open transactions lock, as transaction and record.
-pub(super) fn locked_records(image: &[u8], control: &Control) -> Vec<(u8, u16)> {
-    let locks = first_slots(image, control).into_iter().map(|(record, slot)| (slot.lock, record));
-    locks.filter(|(lock, _)| *lock != 0 && control.is_open(*lock)).collect()
-}
-
-/// The records that have a committed value and no lock.
-pub(super) fn committed_records(image: &[u8], control: &Control) -> Vec<u16> {
-    let present = first_slots(image, control).into_iter().filter(|(_, slot)| slot.present && slot.lock == 0);
-    present.map(|(record, _)| record).collect()
 }
 
 /// A move of the block from the card would change something.

@@ -69,9 +69,8 @@ impl Maker {
 
     /// Plans commands that leave values pending, and says how many.
     pub fn leave_pending(&mut self) -> usize {
-        if let Some(control) = self.running() {
-            self.plan_pending(&control);
-        }
+        let Some(control) = self.running() else { return 0 };
+        self.plan_pending(&control);
         self.plan.len()
     }
 

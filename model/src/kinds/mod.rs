@@ -5,6 +5,7 @@ mod maker;
 mod plans;
 mod profiles;
 mod special;
+mod uses;
 
 pub use maker::Maker;
 
