@@ -38,7 +38,7 @@ lists() {
 goes_on() {
     for folder in "$root"/tests/older/*; do
         "$@" "$folder/image" <"$folder/stdin" >"$scratch/listing" && cmp "$scratch/listing" "$folder/stdout" || return 1
-        "$@" "$folder/stdin" <"$folder/stdin"
+        "$@" "$folder/stdin" </dev/null
         [ $? -eq 2 ] || return 1
     done
 }
