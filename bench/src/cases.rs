@@ -120,7 +120,7 @@ fn common(state: &'static str, image: &[u8]) -> Vec<Case> {
         case("start", image, vec![Call::Start { mask: 0xFF }; 4]),
         case("begin", image, begins(image)),
         case("get", &open, records(|transaction, record| Call::Get { transaction, record })),
-        case("store", &open, records(|transaction, record| Call::Store { transaction, record, value: !record })),
+        case("store", &open, records(|transaction, record| Call::Store { transaction, record, value: 0xFFFE - record })),
         case("delete", &open, records(|transaction, record| Call::Delete { transaction, record })),
         case("commit", &locked, transactions(|transaction| Call::Commit { transaction })),
         case("rollback", &locked, transactions(|transaction| Call::Rollback { transaction })),

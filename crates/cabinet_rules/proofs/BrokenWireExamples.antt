@@ -1,13 +1,13 @@
 -- Examples of document 02, A.5: records that an earlier delivery left with 65,535. Assumes nothing.
 use lib.ListN.{length}
-use mathlib.Core.List.{List, [], _∷_, map}
-use mathlib.Core.Logic.{inl}
+use mathlib.Core.List.{List, [], _++_, _∷_, map}
+use mathlib.Core.Logic.{inl, inr}
 use mathlib.Core.Path.{_∙_, _≡_, ap, refl}
 use borrow.Author.Tests.{eq-eqb}
 use Rattle.lists.specs.Tabulate.{tabulate}
 use Rattle.image.specs.Layout.{imageSize}
 use Rattle.mask.specs.Masks.{byte, hasCard, isWithin, members, size, withCard, withoutCard}
-use Rattle.mask.specs.Placements.{acrossRails, memberAt, membersAfter, railSites, sitesOf}
+use Rattle.mask.specs.Placements.{acrossRails, memberAt, membersAfter, olderFromMask, railSites, sitesOf}
 use Rattle.slot.specs.Blocks.{endSlots, endedByte, isHeld, lockSlot, putSlot, wordAt}
 use Rattle.slot.specs.Words.{slotOf, wordOf}
 use Rattle.method.specs.Growth.{plainAfter, rulesAfter}
@@ -18,8 +18,8 @@ use Rattle.method.specs.Rules.{get, holders, layBlock, lockHolders, look, move,
 use Rattle.method.specs.Rules.{refusal, refused, rollback, settle, settled, settledAt, start, store, trail, value}
 use Rattle.cabinet_rules.specs.Cabinet.{cabinet, placeRows, startRow}
 use Rattle.cabinet_rules.specs.Claims.{NoStopBy, NoisyCallBy, imageCalls, runImage}
-use Rattle.cabinet_rules.specs.Delivery.{brokenWire, current, twoRails}
-use Rattle.cabinet_rules.specs.GoesOn.{Earlier, GoesOnFromEarlier, Store, calledStore, startedStore, takenOver}
+use Rattle.cabinet_rules.specs.Delivery.{base, brokenWire, current, twoRails}
+use Rattle.cabinet_rules.specs.GoesOn.{Earlier, GoesOnFromEarlier, Store, StoreBy, calledStore, startedStore, takenOver}
 use Rattle.cabinet_rules.specs.Images.{Image, answerBy, refusalBy}
 use Rattle.cabinet_rules.proofs.Earlier.{goes-on-from-earlier}
 use Rattle.cabinet_rules.proofs.Examples.{answers}
@@ -28,87 +28,130 @@ use Rattle.cabinet_rules.proofs.Examples.{answers}
 abbrev plainly : List (Call cabinet) → List (NoisyCallBy current)
 plainly = map (λ c. (λ n. 0, c))
 
--- What A.1 to A.4 did after a start with cards 0, 1, 4 and 5: record 9, in block 1, has 65,535; record 17, in block 2, has it pending by
--- transaction 2.
-abbrev earlierCalls : List (NoisyCallBy twoRails)
-earlierCalls = plainly (begin 1 0 ∷ store 1 9 brokenWire ∷ commit 1 ∷ begin 2 0 ∷ store 2 17 brokenWire ∷ [])
+-- What calls of the delivery in force show on the image of a store that earlier ones left: what the plain record list says.
+module _ (s : Store) (e : Earlier s) where
+  shown : List (Call cabinet) → List (Observation cabinet)
+  shown l = runImage (plainly l) (s .image)
 
+  said : List (Call cabinet) → List (Observation cabinet)
+  said l = runPlain cabinet l (s .rules) (s .plain)
+
+  shown-said : (l : List (Call cabinet)) → shown l ≡ said l
+  unfolding shown said GoesOnFromEarlier
+  shown-said l = goes-on-from-earlier s e (plainly l) ∙ ap (λ (x : List (Call cabinet)). runPlain cabinet x (s .rules) (s .plain)) (calls-alone l)
+    where
+      calls-alone : (l : List (Call cabinet)) → imageCalls (plainly l) ≡ l
+      calls-alone [] = refl
+      calls-alone (c ∷ l) = ap (λ (x : List (Call cabinet)). c ∷ x) (calls-alone l)
+
+-- Record 9, in block 1, gets 65,535, and record 17, in block 2, gets it pending by transaction 2.
+abbrev committing : List (Call cabinet)
+committing = begin 1 0 ∷ store 1 9 brokenWire ∷ commit 1 ∷ []
+
+abbrev pendingCalls : List (Call cabinet)
+pendingCalls = begin 2 0 ∷ store 2 17 brokenWire ∷ []
+
+-- On memory of any contents that has an image's length.
 module _ (before : Image) (long : length before ≡ imageSize) where
-  accepted : answerBy twoRails (start (byte 0xCC)) before ≡ ok
-  unfolding answerBy refusalBy refusal act startRow size members hasCard
-  accepted = rw (eq-eqb (length before) imageSize long)
+  -- ---- A.1 to A.4 made these calls after a start with cards 0, 1, 4 and 5
+  abbrev wasRails : StoreBy twoRails
+  wasRails = calledStore twoRails (plainly (committing ++ pendingCalls)) (startedStore twoRails (byte 0xCC) before)
 
-  -- On memory of any contents of an image's length.
   abbrev left : Store
-  left = takenOver twoRails current (λ p. p) (calledStore twoRails earlierCalls (startedStore twoRails (byte 0xCC) before))
+  left = takenOver twoRails current (λ p. p) wasRails
 
   left-earlier : Earlier left
-  unfolding NoStopBy
+  unfolding NoStopBy answerBy refusalBy refusal act startRow size members hasCard
   left-earlier = record {
-    was = calledStore twoRails earlierCalls (startedStore twoRails (byte 0xCC) before);
+    was = wasRails;
     left = record {
       first = startedStore twoRails (byte 0xCC) before;
-      begins = inl (record { mask = byte 0xCC; before = before; accepted = accepted; is = refl });
-      calls = earlierCalls;
+      begins = inl (record { mask = byte 0xCC; before = before; accepted = rw (eq-eqb (length before) imageSize long); is = refl });
+      calls = plainly (committing ++ pendingCalls);
       runs = (refl, (refl, (refl, (refl, (refl, tt)))));
       is = refl;
     };
     is = refl;
   }
 
-  -- What calls of the delivery in force then show on its image: what the plain record list says.
-  shown : List (Call cabinet) → List (Observation cabinet)
-  shown l = runImage (plainly l) (left .image)
-
-  said : List (Call cabinet) → List (Observation cabinet)
-  said l = runPlain cabinet l (left .rules) (left .plain)
-
-  shown-said : (l : List (Call cabinet)) → shown l ≡ said l
-  unfolding shown said GoesOnFromEarlier
-  shown-said l = goes-on-from-earlier left left-earlier (plainly l) ∙ ap (λ (x : List (Call cabinet)). runPlain cabinet x (left .rules) (left .plain)) (calls-alone l)
-    where
-      calls-alone : (l : List (Call cabinet)) → imageCalls (plainly l) ≡ l
-      calls-alone [] = refl
-      calls-alone (c ∷ l) = ap (λ (x : List (Call cabinet)). c ∷ x) (calls-alone l)
-
   -- read: the committed one, and the own pending one
-  read : shown (begin 3 0 ∷ get 3 9 ∷ get 2 17 ∷ [])
+  read : shown left left-earlier (begin 3 0 ∷ get 3 9 ∷ get 2 17 ∷ [])
       ≡ quiet ∷ client (value brokenWire) ∷ client (value brokenWire) ∷ []
   unfolding said runPlain plainObserve plainNext plainRefusal plainAct plainAfter refusal placeRows isWithin hasCard withCard size members
-  read = shown-said (begin 3 0 ∷ get 3 9 ∷ get 2 17 ∷ []) ∙ refl
+  read = shown-said left left-earlier (begin 3 0 ∷ get 3 9 ∷ get 2 17 ∷ []) ∙ refl
 
   -- moved: from cards 0, 1, 4 and 5 to cards 2, 4 and 5, and read there when the older placement is retired
-  moved : shown (commit 2 ∷ fit 2 ∷ place (byte 0x2C) ∷ move 1 1 ∷ move 4 2 ∷ move 0 2 ∷ settle ∷ begin 3 2 ∷ get 3 9 ∷ get 3 17 ∷ [])
+  moved : shown left left-earlier (commit 2 ∷ fit 2 ∷ place (byte 0x2C) ∷ move 1 1 ∷ move 4 2 ∷ move 0 2 ∷ settle ∷ begin 3 2 ∷ get 3 9 ∷ get 3 17 ∷ [])
       ≡ client ok ∷ quiet ∷ quiet ∷ quiet ∷ quiet ∷ quiet ∷ quiet ∷ quiet ∷ client (value brokenWire) ∷ client (value brokenWire) ∷ []
   unfolding said runPlain plainObserve plainNext plainRefusal plainAct plainAfter settleAccepted rulesAfter nextState apply plan refusal act look trail holders settled settledAt lockHolders layBlock endHeld clearCard moveWrites anyLocked hasCard withCard withoutCard isWithin memberAt membersAfter acrossRails railSites sitesOf startRow placeRows isHeld wordAt slotOf wordOf putSlot lockSlot endedByte endSlots tabulate members size
-  moved = shown-said (commit 2 ∷ fit 2 ∷ place (byte 0x2C) ∷ move 1 1 ∷ move 4 2 ∷ move 0 2 ∷ settle ∷ begin 3 2 ∷ get 3 9 ∷ get 3 17 ∷ []) ∙ refl
+  moved = shown-said left left-earlier (commit 2 ∷ fit 2 ∷ place (byte 0x2C) ∷ move 1 1 ∷ move 4 2 ∷ move 0 2 ∷ settle ∷ begin 3 2 ∷ get 3 9 ∷ get 3 17 ∷ []) ∙ refl
 
   -- deleted: absent for the transaction, and for all once it is committed
-  deleted : shown (begin 3 0 ∷ delete 3 9 ∷ get 3 9 ∷ commit 3 ∷ begin 4 0 ∷ get 4 9 ∷ [])
+  deleted : shown left left-earlier (begin 3 0 ∷ delete 3 9 ∷ get 3 9 ∷ commit 3 ∷ begin 4 0 ∷ get 4 9 ∷ [])
       ≡ quiet ∷ client ok ∷ client absent ∷ client ok ∷ quiet ∷ client absent ∷ []
   unfolding said runPlain plainObserve plainNext plainRefusal plainAct plainAfter refusal placeRows isWithin hasCard withCard size members
-  deleted = shown-said (begin 3 0 ∷ delete 3 9 ∷ get 3 9 ∷ commit 3 ∷ begin 4 0 ∷ get 4 9 ∷ []) ∙ refl
+  deleted = shown-said left left-earlier (begin 3 0 ∷ delete 3 9 ∷ get 3 9 ∷ commit 3 ∷ begin 4 0 ∷ get 4 9 ∷ []) ∙ refl
 
   -- rolled back: a change of the committed one brings it back, and the pending one is dropped
-  rolled-back : shown (begin 3 0 ∷ store 3 9 7 ∷ get 3 9 ∷ rollback 3 ∷ rollback 2 ∷ begin 4 0 ∷ get 4 9 ∷ get 4 17 ∷ [])
+  rolled-back : shown left left-earlier (begin 3 0 ∷ store 3 9 7 ∷ get 3 9 ∷ rollback 3 ∷ rollback 2 ∷ begin 4 0 ∷ get 4 9 ∷ get 4 17 ∷ [])
       ≡ quiet ∷ client ok ∷ client (value 7) ∷ client ok ∷ client ok ∷ quiet ∷ client (value brokenWire) ∷ client absent ∷ []
   unfolding said runPlain plainObserve plainNext plainRefusal plainAct plainAfter refusal placeRows isWithin hasCard withCard size members
-  rolled-back = shown-said (begin 3 0 ∷ store 3 9 7 ∷ get 3 9 ∷ rollback 3 ∷ rollback 2 ∷ begin 4 0 ∷ get 4 9 ∷ get 4 17 ∷ []) ∙ refl
+  rolled-back = shown-said left left-earlier (begin 3 0 ∷ store 3 9 7 ∷ get 3 9 ∷ rollback 3 ∷ rollback 2 ∷ begin 4 0 ∷ get 4 9 ∷ get 4 17 ∷ []) ∙ refl
 
   -- committed: the pending one is what others read then
-  committed : shown (begin 3 0 ∷ get 3 17 ∷ commit 2 ∷ get 3 17 ∷ [])
+  committed : shown left left-earlier (begin 3 0 ∷ get 3 17 ∷ commit 2 ∷ get 3 17 ∷ [])
       ≡ quiet ∷ client (refused 7) ∷ client ok ∷ client (value brokenWire) ∷ []
   unfolding said runPlain plainObserve plainNext plainRefusal plainAct plainAfter refusal placeRows isWithin hasCard withCard size members
-  committed = shown-said (begin 3 0 ∷ get 3 17 ∷ commit 2 ∷ get 3 17 ∷ []) ∙ refl
+  committed = shown-said left left-earlier (begin 3 0 ∷ get 3 17 ∷ commit 2 ∷ get 3 17 ∷ []) ∙ refl
 
   -- and refused: 65,535 alone, before 5 and 7
-  refused-now : shown (store 2 17 brokenWire ∷ store 2 17 65534 ∷ get 2 17 ∷ store 3 17 brokenWire ∷ begin 3 0 ∷ store 3 17 brokenWire ∷ store 3 17 7 ∷ [])
+  refused-now : shown left left-earlier (store 2 17 brokenWire ∷ store 2 17 65534 ∷ get 2 17 ∷ store 3 17 brokenWire ∷ begin 3 0 ∷ store 3 17 brokenWire ∷ store 3 17 7 ∷ [])
       ≡ client (refused 3) ∷ client ok ∷ client (value 65534) ∷ client (refused 3) ∷ quiet ∷ client (refused 3) ∷ client (refused 7) ∷ []
   unfolding said runPlain plainObserve plainNext plainRefusal plainAct plainAfter refusal placeRows isWithin hasCard withCard size members
-  refused-now = shown-said (store 2 17 brokenWire ∷ store 2 17 65534 ∷ get 2 17 ∷ store 3 17 brokenWire ∷ begin 3 0 ∷ store 3 17 brokenWire ∷ store 3 17 7 ∷ []) ∙ refl
+  refused-now = shown-said left left-earlier (store 2 17 brokenWire ∷ store 2 17 65534 ∷ get 2 17 ∷ store 3 17 brokenWire ∷ begin 3 0 ∷ store 3 17 brokenWire ∷ store 3 17 7 ∷ []) ∙ refl
 
   -- the answers of the moves, which the plain record list does not have: one copy, two, none, and one placement retired
   move-answers : answers (commit 2 ∷ fit 2 ∷ place (byte 0x2C) ∷ move 1 1 ∷ move 4 2 ∷ move 0 2 ∷ settle ∷ begin 3 2 ∷ get 3 9 ∷ get 3 17 ∷ []) (left .rules)
       ≡ (0 ∷ []) ∷ (0 ∷ []) ∷ (0 ∷ []) ∷ (6 ∷ 1 ∷ []) ∷ (6 ∷ 2 ∷ []) ∷ (6 ∷ 0 ∷ []) ∷ (7 ∷ 1 ∷ []) ∷ (0 ∷ []) ∷ (1 ∷ brokenWire ∷ []) ∷ (1 ∷ brokenWire ∷ []) ∷ []
   unfolding rulesAfter answers answerOf nextState apply plan refusal act look trail holders settled settledAt lockHolders layBlock endHeld clearCard moveWrites anyLocked hasCard withCard withoutCard isWithin memberAt membersAfter acrossRails railSites sitesOf startRow placeRows isHeld wordAt slotOf wordOf putSlot lockSlot endedByte endSlots tabulate members size
   move-answers = refl
+
+  -- ---- the base made the first of these calls, and A.1 to A.4 the others
+  abbrev wasBase : StoreBy base
+  wasBase = calledStore base (plainly committing) (startedStore base (byte 0xCC) before)
+
+  abbrev wasBoth : StoreBy twoRails
+  wasBoth = calledStore twoRails (plainly pendingCalls) (takenOver base twoRails olderFromMask wasBase)
+
+  abbrev leftByBoth : Store
+  leftByBoth = takenOver twoRails current (λ p. p) wasBoth
+
+  both-earlier : Earlier leftByBoth
+  unfolding NoStopBy answerBy refusalBy refusal act startRow size members hasCard
+  both-earlier = record {
+    was = wasBoth;
+    left = record {
+      first = takenOver base twoRails olderFromMask wasBase;
+      begins = inr (record {
+        was = wasBase;
+        left = record {
+          first = startedStore base (byte 0xCC) before;
+          begins = inl (record { mask = byte 0xCC; before = before; accepted = rw (eq-eqb (length before) imageSize long); is = refl });
+          calls = plainly committing;
+          runs = (refl, (refl, (refl, tt)));
+          is = refl;
+        };
+        is = refl;
+      });
+      calls = plainly pendingCalls;
+      runs = (refl, (refl, tt));
+      is = refl;
+    };
+    is = refl;
+  }
+
+  -- both are read, and the pending one is committed
+  by-both : shown leftByBoth both-earlier (begin 3 0 ∷ get 3 9 ∷ get 2 17 ∷ commit 2 ∷ get 3 17 ∷ store 3 17 brokenWire ∷ [])
+      ≡ quiet ∷ client (value brokenWire) ∷ client (value brokenWire) ∷ client ok ∷ client (value brokenWire) ∷ client (refused 3) ∷ []
+  unfolding said runPlain plainObserve plainNext plainRefusal plainAct plainAfter refusal hasCard
+  by-both = shown-said leftByBoth both-earlier (begin 3 0 ∷ get 3 9 ∷ get 2 17 ∷ commit 2 ∷ get 3 17 ∷ store 3 17 brokenWire ∷ []) ∙ refl
