@@ -15,7 +15,7 @@ use Rattle.method.specs.OneRecordList.{Observation, client, plainObserve, quiet
 use Rattle.method.specs.PlainList.{plainAct, plainNext, plainRefusal}
 use Rattle.method.specs.Rules.{Call, absent, act, answerOf, anyLocked, apply, begin, clearCard, commit, delete, endHeld, fit}
 use Rattle.method.specs.Rules.{get, holders, layBlock, lockHolders, look, move, moveWrites, nextState, ok, place, plan}
-use Rattle.method.specs.Rules.{refusal, refused, rollback, settle, settled, settledAt, start, store, trail, value}
+use Rattle.method.specs.Rules.{refusal, refused, rollback, settle, settled, settledAt, store, trail, value}
 use Rattle.cabinet_rules.specs.Cabinet.{cabinet, placeRows, startRow}
 use Rattle.cabinet_rules.specs.Claims.{NoStopBy, NoisyCallBy, imageCalls, runImage}
 use Rattle.cabinet_rules.specs.Delivery.{base, brokenWire, current, twoRails}
@@ -24,7 +24,7 @@ use Rattle.cabinet_rules.specs.Images.{Image, answerBy, refusalBy}
 use Rattle.cabinet_rules.proofs.Earlier.{goes-on-from-earlier}
 use Rattle.cabinet_rules.proofs.Examples.{answers}
 
--- Calls with no noise before them.
+-- Calls by any delivery, with no noise before them.
 abbrev plainly : List (Call cabinet) → List (NoisyCallBy current)
 plainly = map (λ c. (λ n. 0, c))
 
@@ -45,8 +45,8 @@ module _ (s : Store) (e : Earlier s) where
       calls-alone (c ∷ l) = ap (λ (x : List (Call cabinet)). c ∷ x) (calls-alone l)
 
 -- Record 9, in block 1, gets 65,535, and record 17, in block 2, gets it pending by transaction 2.
-abbrev committing : List (Call cabinet)
-committing = begin 1 0 ∷ store 1 9 brokenWire ∷ commit 1 ∷ []
+abbrev committedCalls : List (Call cabinet)
+committedCalls = begin 1 0 ∷ store 1 9 brokenWire ∷ commit 1 ∷ []
 
 abbrev pendingCalls : List (Call cabinet)
 pendingCalls = begin 2 0 ∷ store 2 17 brokenWire ∷ []
@@ -55,7 +55,7 @@ pendingCalls = begin 2 0 ∷ store 2 17 brokenWire ∷ []
 module _ (before : Image) (long : length before ≡ imageSize) where
   -- ---- A.1 to A.4 made these calls after a start with cards 0, 1, 4 and 5
   abbrev wasRails : StoreBy twoRails
-  wasRails = calledStore twoRails (plainly (committing ++ pendingCalls)) (startedStore twoRails (byte 0xCC) before)
+  wasRails = calledStore twoRails (plainly (committedCalls ++ pendingCalls)) (startedStore twoRails (byte 0xCC) before)
 
   abbrev left : Store
   left = takenOver twoRails current (λ p. p) wasRails
@@ -67,7 +67,7 @@ module _ (before : Image) (long : length before ≡ imageSize) where
     left = record {
       first = startedStore twoRails (byte 0xCC) before;
       begins = inl (record { mask = byte 0xCC; before = before; accepted = rw (eq-eqb (length before) imageSize long); is = refl });
-      calls = plainly (committing ++ pendingCalls);
+      calls = plainly (committedCalls ++ pendingCalls);
       runs = (refl, (refl, (refl, (refl, (refl, tt)))));
       is = refl;
     };
@@ -118,7 +118,7 @@ module _ (before : Image) (long : length before ≡ imageSize) where
 
   -- ---- the base made the first of these calls, and A.1 to A.4 the others
   abbrev wasBase : StoreBy base
-  wasBase = calledStore base (plainly committing) (startedStore base (byte 0xCC) before)
+  wasBase = calledStore base (plainly committedCalls) (startedStore base (byte 0xCC) before)
 
   abbrev wasBoth : StoreBy twoRails
   wasBoth = calledStore twoRails (plainly pendingCalls) (takenOver base twoRails olderFromMask wasBase)
@@ -137,7 +137,7 @@ module _ (before : Image) (long : length before ≡ imageSize) where
         left = record {
           first = startedStore base (byte 0xCC) before;
           begins = inl (record { mask = byte 0xCC; before = before; accepted = rw (eq-eqb (length before) imageSize long); is = refl });
-          calls = plainly committing;
+          calls = plainly committedCalls;
           runs = (refl, (refl, (refl, tt)));
           is = refl;
         };

@@ -1,6 +1,7 @@
 -- The proof of `store`. Assumes nothing.
 use lib.Dec.{ltb}
-use mathlib.Core.Path.{_∙_, sym}
+use mathlib.Core.Bool.{true}
+use mathlib.Core.Path.{_∙_, _≡_, sym}
 use borrow.Author.Needs.{needs}
 use Rattle.cabinet_rules.specs.Delivery.{brokenWire}
 use Rattle.records.proofs.Calls.{newest-usable, rec-fits, store-held, store-new, store-refused, tran-fits, whole}
@@ -23,6 +24,10 @@ returns c =
     let a = u .before .before .before .args in
     store-refused (a .image .now) (a .tran .0) (a .rec .0) (a .value) _ _ (c .before .with-value .ensures) (u .look-up .ensures .refusal-is) (c .if1 .taken)
 
+-- no row applies: the value is in range, and the look-up found none
+clear : (e : tie.Else1) → let u = e .before .before in (ltb (u .before .before .before .args .value) brokenWire ≡ true) × (u .look-up .result .refusal ≡ 0)
+clear e = with-clear _ _ (sym (e .before .with-value .ensures) ∙ e .if1 .left)
+
 lay-requires : tie.Need-lay-requires
 lay-requires c κs =
     let e = c .before .before .before .before in
@@ -30,8 +35,7 @@ lay-requires c κs =
     let a = u .before .before .before .args in
     let g = a .image .now in
     let found = u .look-up .result in
-    let clear = with-clear (ltb (a .value) brokenWire) _ (sym (e .before .with-value .ensures) ∙ e .if1 .left) in
-    let ready = u .look-up .ensures .ready (clear .1) in (
+    let ready = u .look-up .ensures .ready (clear e .1) in (
       (whole g (a .tran .0) (a .rec .0) found ready, rec-fits g (a .tran .0) (a .rec .0) found ready, tran-fits g (a .tran .0) (a .rec .0) found ready),
       (newest-usable g (a .tran .0) (a .rec .0) found ready, ready .newest-is),
     )
@@ -46,8 +50,7 @@ returns-2 c =
     let e = t .before .before .before in
     let u = e .before .before in
     let a = u .before .before .before .args in
-    let clear = with-clear (ltb (a .value) brokenWire) _ (sym (e .before .with-value .ensures) ∙ e .if1 .left) in
-    store-new (a .image .now) (a .tran .0) (a .rec .0) (u .look-up .result) (u .look-up .ensures .ready (clear .1)) (a .value) (clear .0) _ (t .if2 .taken) (y .lay .ensures)
+    store-new (a .image .now) (a .tran .0) (a .rec .0) (u .look-up .result) (u .look-up .ensures .ready (clear e .1)) (a .value) (clear e .0) _ (t .if2 .taken) (y .lay .ensures)
 
 lock-all-requires : tie.Need-lock-all-requires
 lock-all-requires c κs =
@@ -56,8 +59,7 @@ lock-all-requires c κs =
     let a = u .before .before .before .args in
     let g = a .image .now in
     let found = u .look-up .result in
-    let clear = with-clear (ltb (a .value) brokenWire) _ (sym (e .before .with-value .ensures) ∙ e .if1 .left) in
-    let ready = u .look-up .ensures .ready (clear .1) in
+    let ready = u .look-up .ensures .ready (clear e .1) in
     ((whole g (a .tran .0) (a .rec .0) found ready, rec-fits g (a .tran .0) (a .rec .0) found ready, tran-fits g (a .tran .0) (a .rec .0) found ready), ready .holders-are)
 
 same-length-3 : tie.Need-same-length-3
@@ -70,8 +72,7 @@ returns-3 c =
     let e = t .before .before .before in
     let u = e .before .before in
     let a = u .before .before .before .args in
-    let clear = with-clear (ltb (a .value) brokenWire) _ (sym (e .before .with-value .ensures) ∙ e .if1 .left) in
-    store-held (a .image .now) (a .tran .0) (a .rec .0) (u .look-up .result) (u .look-up .ensures .ready (clear .1)) (a .value) (clear .0) _ (t .if2 .left) (y .lock-all .ensures)
+    store-held (a .image .now) (a .tran .0) (a .rec .0) (u .look-up .result) (u .look-up .ensures .ready (clear e .1)) (a .value) (clear e .0) _ (t .if2 .left) (y .lock-all .ensures)
 
 pub store-spec : {M : Type 1} → statement M
 store-spec =
