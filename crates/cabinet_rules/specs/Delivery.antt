@@ -1,4 +1,4 @@
--- What the deliveries of this cabinet differ in; the base, and the delivery in force. Assumes nothing.
+-- What the deliveries of this cabinet differ in; the base, A.1 to A.4, and the delivery in force. Assumes nothing.
 use Prim.Native.Nat.{ℕ}
 use lib.Dec.{eqb, ltb}
 use mathlib.Core.Bool.{Bool, _&&_}
