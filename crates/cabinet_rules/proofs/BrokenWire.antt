@@ -21,7 +21,7 @@ use Rattle.control.specs.ControlBytes.{Part}
 use Rattle.control_form.specs.ControlForm.{controlForm, formRows}
 use Rattle.cabinet_rules.specs.BrokenWire.{BrokenWireRefused, ElseAsBefore}
 use Rattle.cabinet_rules.specs.Cabinet.{cabinet, placeRows, rulesOf, tranOk}
-use Rattle.cabinet_rules.specs.Delivery.{brokenWire, current, twoRails}
+use Rattle.cabinet_rules.specs.Delivery.{anyValue, brokenWire, current, storable, twoRails}
 use Rattle.cabinet_rules.specs.Images.{Image, after, answerBy, controlBy, isStart, nextBy, planBy, refusalBy, stateBy}
 use Rattle.cabinet_rules.specs.Images.{Writes, unlessRefusedImage}
 
@@ -30,10 +30,10 @@ abbrev before : Parameters
 before = rulesOf twoRails
 
 -- ---- values: the two ranges differ at 65,535 alone
-same-value : (n : ℕ) → n ≢ brokenWire → ltb n brokenWire ≡ ltb n valueBound
-same-value n d = go (split (ltb n brokenWire))
+same-value : (n : ℕ) → n ≢ brokenWire → storable n ≡ anyValue n
+same-value n d = go (split (storable n))
   where
-    go : (ltb n brokenWire ≡ true) ⊎ (ltb n brokenWire ≡ false) → ltb n brokenWire ≡ ltb n valueBound
+    go : (storable n ≡ true) ⊎ (storable n ≡ false) → storable n ≡ anyValue n
     go (inl e) = let h = ltb-true n brokenWire e in e ∙ sym (lt-ltb n valueBound (omega arith))
     go (inr e) = let h = ltb-false n brokenWire e in e ∙ sym (le-ltb n valueBound (omega arith))
 

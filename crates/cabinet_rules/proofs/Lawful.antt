@@ -30,7 +30,7 @@ use Rattle.method.proofs.Invariant.{Form}
 use Rattle.method.proofs.Laws.{Laws}
 use Rattle.method.proofs.Refusals.{row-clear}
 use Rattle.cabinet_rules.specs.Cabinet.{cabinet, mostPlaced, placeRows, rulesOf, slotSeen, startRow, tranOk}
-use Rattle.cabinet_rules.specs.Delivery.{Delivery, PartOf, brokenWire, current}
+use Rattle.cabinet_rules.specs.Delivery.{Delivery, PartOf, brokenWire, current, railed, storable}
 
 -- ---- slots, as the rules see them
 -- what the rules see of a slot's fields
@@ -175,15 +175,19 @@ pub record DeliveryLaws (D : Delivery) : Type 0 where
   pub rules : RuleLaws D
   pub control : ControlLaws D rules
 
--- ---- the delivery in force
-pub ruleLaws : RuleLaws current
-ruleLaws = record {
+-- ---- since A.1, whatever values store takes that a slot has room for
+pub railedRules : (values : ℕ → Bool) → ((n : ℕ) → values n ≡ true → n < valueBound) → RuleLaws (railed values)
+railedRules values fits = record {
   site-count = site-count;
   site-member = site-member;
   site-distinct = site-distinct;
   mask-back = λ m. refl;
-  value-fits = λ n e. let h : n < brokenWire = ltb-true n brokenWire e in omega arith;
+  value-fits = fits;
 }
+
+-- ---- the delivery in force
+pub ruleLaws : RuleLaws current
+ruleLaws = railedRules storable (λ n e. let h : n < brokenWire = ltb-true n brokenWire e in omega arith)
 
 abbrev pub lawful : Laws cabinet
 lawful = lawfulBy current ruleLaws

@@ -4,7 +4,6 @@ use mathlib.Core.List.{List, [], _∷_, map}
 use mathlib.Core.Path.{_≡_, ap, refl, subst, sym}
 use Rattle.image.specs.Layout.{valueBound}
 use Rattle.mask.specs.Placements.{Placement}
-use Rattle.mask.proofs.SiteLaws.{site-count, site-distinct, site-member}
 use Rattle.method.specs.ControlPart.{part}
 use Rattle.method.specs.Growth.{grownControl}
 use Rattle.method.proofs.Capacity.{ControlInv}
@@ -12,20 +11,14 @@ use Rattle.method.proofs.Growth.{control-inv-grown, form-grown}
 use Rattle.method.proofs.Invariant.{Form}
 use Rattle.control.specs.ControlBytes.{Part, controlByte}
 use Rattle.cabinet_rules.specs.Cabinet.{cabinet, rulesOf}
-use Rattle.cabinet_rules.specs.Delivery.{current, twoRails}
+use Rattle.cabinet_rules.specs.Delivery.{anyValue, current, twoRails}
 use Rattle.cabinet_rules.specs.GoesOn.{growthOf}
 use Rattle.cabinet_rules.proofs.Form.{controlLaws}
 use Rattle.cabinet_rules.proofs.GoesOn.{Follows, keeps}
-use Rattle.cabinet_rules.proofs.Lawful.{ControlLaws, DeliveryLaws, RuleLaws, lawful, lawfulBy}
+use Rattle.cabinet_rules.proofs.Lawful.{ControlLaws, DeliveryLaws, RuleLaws, lawful, lawfulBy, railedRules}
 
 pub railRules : RuleLaws twoRails
-railRules = record {
-  site-count = site-count;
-  site-member = site-member;
-  site-distinct = site-distinct;
-  mask-back = λ m. refl;
-  value-fits = λ n e. ltb-true n valueBound e;
-}
+railRules = railedRules anyValue (λ n e. ltb-true n valueBound e)
 
 -- ---- a control part stays as it is
 same-list : (l : List Placement) → map (λ (p : Placement). p) l ≡ l

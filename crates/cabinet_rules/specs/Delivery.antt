@@ -65,9 +65,9 @@ base = record {
 abbrev pub againByRails : Placement → Byte → Bool
 againByRails newest m = newest .byRails && eqb (m .0) (newest .mask .0)
 
--- Sites are by the placement's mark, and start, place and fail write 1.
-abbrev pub twoRails : Delivery
-twoRails = record {
+-- Sites are by the placement's mark, and start, place and fail write 1; store takes the values given here.
+abbrev pub railed : (ℕ → Bool) → Delivery
+railed values = record {
   Placement = Placement;
   mask = λ p. p .mask;
   sites = sitesOf;
@@ -76,8 +76,11 @@ twoRails = record {
   bytes = controlByte;
   part = controlOf;
   form = formOk;
-  valueInRange = anyValue;
+  valueInRange = values;
 }
+
+abbrev pub twoRails : Delivery
+twoRails = railed anyValue
 
 -- ---- the delivery in force: A.5
 -- New feeder drives read this value as a broken wire.
@@ -85,15 +88,8 @@ abbrev pub brokenWire : ℕ
 brokenWire = 65535
 
 -- Store takes the values below it; nothing else differs.
+abbrev pub storable : ℕ → Bool
+storable n = ltb n brokenWire
+
 abbrev pub current : Delivery
-current = record {
-  Placement = twoRails .Placement;
-  mask = twoRails .mask;
-  sites = twoRails .sites;
-  fromMask = twoRails .fromMask;
-  isAgain = twoRails .isAgain;
-  bytes = twoRails .bytes;
-  part = twoRails .part;
-  form = twoRails .form;
-  valueInRange = λ n. ltb n brokenWire;
-}
+current = railed storable

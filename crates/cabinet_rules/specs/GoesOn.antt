@@ -39,7 +39,7 @@ module _ (D : Delivery) where
     plain = plainAfter (rulesOf D) (imageCallsBy D l) (s .rules) (s .plain);
   }
 
-  -- The start was accepted.
+  -- A store that an accepted start left.
   pub record BegunBy (s : StoreBy) : Type 0 where
     pub mask : Byte
     pub before : Image
@@ -99,7 +99,7 @@ module _ (E D : Delivery) (older : E .Placement → D .Placement) where
     plain = grownPlain (rulesOf E) growthOf (s .plain);
   }
 
-  -- D has it from E.
+  -- A store that D has from E.
   pub record TakenOver (LeftByE : StoreBy E → Type 0) (s : StoreBy D) : Type 0 where
     pub was : StoreBy E
     pub left : LeftByE was
@@ -114,14 +114,14 @@ LeftByBase = LeftBy base (λ s. ⊥)
 abbrev pub LeftByRails : StoreBy twoRails → Type 0
 LeftByRails = LeftBy twoRails (TakenOver base twoRails olderFromMask LeftByBase)
 
--- What the delivery in force may go on with.
+-- Those that the delivery in force has from the earlier ones.
 abbrev pub Store : Type 0
 Store = StoreBy current
 
 abbrev pub Earlier : Store → Type 0
 Earlier = TakenOver twoRails current (λ p. p) LeftByRails
 
--- The images of these and of the stopped stores.
+-- The images that the earlier ones left, of running and of stopped stores.
 abbrev pub EarlierImage : Image → Type 0
 EarlierImage = ImageLeftBy twoRails (ImageLeftBy base (λ g. ⊥))
 

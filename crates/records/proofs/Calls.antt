@@ -18,7 +18,7 @@ use Rattle.method.specs.Slots.{isNone, readBy}
 use Rattle.method.proofs.Refusals.{row-3}
 use Rattle.control_form.specs.ControlForm.{controlForm, formRows}
 use Rattle.cabinet_rules.specs.Cabinet.{cabinet, tranOk}
-use Rattle.cabinet_rules.specs.Delivery.{brokenWire}
+use Rattle.cabinet_rules.specs.Delivery.{storable}
 use Rattle.cabinet_rules.specs.Images.{Image, Writes, controlIn, refusalBy, refusalOn, stateIn}
 use Rattle.promise.specs.Promise.{Done, shown}
 use Rattle.promise.specs.declared.Answer.{Answer as AnswerValue}
@@ -42,8 +42,8 @@ module _ (g : Image) (t r : ℕ) (m : ℕ) (e : m ≡ refusalOn (get t r) g) (d 
   pub delete-refused : Done (delete t r) g (Refused m) g
   delete-refused = by-row (delete t r) g m (e ∙ unfold refusalBy in (ap (formRows false (controlForm g) g) (delete-rows (controlIn g) (look cabinet (stateIn g)) t r))) d
 
-pub store-refused : (g : Image) (t r n m l : ℕ) → m ≡ withValue (ltb n brokenWire) l → l ≡ refusalOn (get t r) g → m ≢ 0 → Done (store t r n) g (Refused m) g
-store-refused g t r n m l e is d = by-row (store t r n) g m (e ∙ ap (withValue (ltb n brokenWire)) is ∙ with-table g t r n) d
+pub store-refused : (g : Image) (t r n m l : ℕ) → m ≡ withValue (storable n) l → l ≡ refusalOn (get t r) g → m ≢ 0 → Done (store t r n) g (Refused m) g
+store-refused g t r n m l e is d = by-row (store t r n) g m (e ∙ ap (withValue (storable n)) is ∙ with-table g t r n) d
 
 -- ---- accepted
 module _ (g : Image) (t r : ℕ) (a : Access) (ready : Ready g t r a) where
@@ -69,18 +69,18 @@ module _ (g : Image) (t r : ℕ) (a : Access) (ready : Ready g t r a) where
       (unfold act in (ap (λ (y : Answer cabinet). unwritten cabinet y (controlIn g)) (sym (f ∙ ap (reply cabinet) e))))
 
   -- store: a new block, or the holders' slots
-  store-done : (n : ℕ) → ltb n brokenWire ≡ true → (w : Writes) (behind : Image) → storeWrites cabinet (controlIn g) (look cabinet (stateIn g)) t r n (holdersIn g (r / slotCount)) ≡ w
+  store-done : (n : ℕ) → storable n ≡ true → (w : Writes) (behind : Image) → storeWrites cabinet (controlIn g) (look cabinet (stateIn g)) t r n (holdersIn g (r / slotCount)) ≡ w
       → behind ≡ laid w g → Done (store t r n) g Ok behind
   store-done n h w behind e l = by-blocks (store t r n) refl g (ready .formed) Ok w behind (ready .accepted ∙ store-rows (controlIn g) (look cabinet (stateIn g)) t r n h)
       (unfold act in (ap (writing cabinet ok (controlIn g)) e)) l
 
-  pub store-new : (n : ℕ) → ltb n brokenWire ≡ true → (behind : Image) → a .holders .count ≡ 0 → behind ≡ laid (layBlock cabinet (controlIn g) t r (some n)) g → Done (store t r n) g Ok behind
+  pub store-new : (n : ℕ) → storable n ≡ true → (behind : Image) → a .holders .count ≡ 0 → behind ≡ laid (layBlock cabinet (controlIn g) t r (some n)) g → Done (store t r n) g Ok behind
   store-new n h behind z l = store-done n h (layBlock cabinet (controlIn g) t r (some n)) behind (ap (storeWrites cabinet (controlIn g) (look cabinet (stateIn g)) t r n) nobody) l
     where
       nobody : holdersIn g (r / slotCount) ≡ []
       nobody = sym (ready .holders-are .are) ∙ ap (λ (i : ℕ). take i (a .holders .cards)) z
 
-  pub store-held : (n : ℕ) → ltb n brokenWire ≡ true → (behind : Image) → a .holders .count ≢ 0 → behind ≡ laid (lockHolders cabinet (controlIn g) (look cabinet (stateIn g)) t r (some n)) g
+  pub store-held : (n : ℕ) → storable n ≡ true → (behind : Image) → a .holders .count ≢ 0 → behind ≡ laid (lockHolders cabinet (controlIn g) (look cabinet (stateIn g)) t r (some n)) g
       → Done (store t r n) g Ok behind
   store-held n h behind d l = store-done n h (lockHolders cabinet (controlIn g) (look cabinet (stateIn g)) t r (some n)) behind (go (holdersIn g (r / slotCount)) some-holder) l
     where

@@ -15,7 +15,7 @@ use Rattle.control.specs.Meaning.{meaning}
 use Rattle.control_form.specs.Reading.{Reads}
 use Rattle.control_form.specs.declared.Found.{Found}
 use Rattle.cabinet_rules.specs.Cabinet.{cabinet, tranOk}
-use Rattle.cabinet_rules.specs.Delivery.{brokenWire}
+use Rattle.cabinet_rules.specs.Delivery.{storable}
 use Rattle.cabinet_rules.specs.Images.{Image, controlIn, refusalOn}
 use Rattle.promise.specs.Given.{Given, rowsOn}
 use Rattle.promise.proofs.Finish.{given, refusal-rules}
@@ -27,7 +27,7 @@ use Rattle.records.specs.declared.access.Access.{Access}
 use Rattle.records.proofs.Rows.{rec-lt}
 
 -- ---- the rows of the three calls are those of get, where a value is in range
-pub store-rows : (k : Part) (v : View cabinet) (t r n : ℕ) → ltb n brokenWire ≡ true → refusal cabinet (get t r) k v ≡ refusal cabinet (store t r n) k v
+pub store-rows : (k : Part) (v : View cabinet) (t r n : ℕ) → storable n ≡ true → refusal cabinet (get t r) k v ≡ refusal cabinet (store t r n) k v
 unfolding refusal
 store-rows k v t r n h = rw (h, and-true (tranOk t && ltb r recordCount))
 

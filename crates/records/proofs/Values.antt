@@ -12,27 +12,27 @@ use Rattle.method.specs.ControlPart.{isOpen}
 use Rattle.method.specs.Rules.{get, refusal, row, store}
 use Rattle.control_form.specs.ControlForm.{controlForm}
 use Rattle.cabinet_rules.specs.Cabinet.{tranOk}
-use Rattle.cabinet_rules.specs.Delivery.{brokenWire}
+use Rattle.cabinet_rules.specs.Delivery.{brokenWire, storable}
 use Rattle.cabinet_rules.specs.Images.{Image, controlIn, refusalBy, refusalOn}
 use Rattle.records.specs.Access.{withValue}
 use Rattle.records.specs.Slots.{lockedOutIn}
 
 -- ---- by what the code asks: the value, and the refusal m of the get
 module _ (n m : ℕ) where
-  pub in-range : n < brokenWire → m ≡ withValue (ltb n brokenWire) m
+  pub in-range : n < brokenWire → m ≡ withValue (storable n) m
   unfolding withValue
   in-range h = rw (lt-ltb n brokenWire h)
 
   module _ (over : brokenWire ≤ n) where
-    pub over-accepted : m ≡ 0 → 3 ≡ withValue (ltb n brokenWire) m
+    pub over-accepted : m ≡ 0 → 3 ≡ withValue (storable n) m
     unfolding withValue
     over-accepted e = rw (le-ltb n brokenWire over, eq-eqb m 0 e)
 
-    pub over-low : m ≢ 0 → m < 3 → m ≡ withValue (ltb n brokenWire) m
+    pub over-low : m ≢ 0 → m < 3 → m ≡ withValue (storable n) m
     unfolding withValue
     over-low d l = rw (le-ltb n brokenWire over, ne-eqb m 0 d, lt-ltb m 3 l)
 
-    pub over-high : m ≢ 0 → 3 ≤ m → 3 ≡ withValue (ltb n brokenWire) m
+    pub over-high : m ≢ 0 → 3 ≤ m → 3 ≡ withValue (storable n) m
     unfolding withValue
     over-high d h = rw (le-ltb n brokenWire over, ne-eqb m 0 d, le-ltb m 3 h)
 
@@ -50,10 +50,10 @@ with-rows false false false true false true l = refl
 with-rows false false false true false false true = refl
 with-rows false false false true false false false = refl
 
-pub with-table : (g : Image) (t r n : ℕ) → withValue (ltb n brokenWire) (refusalOn (get t r) g) ≡ refusalOn (store t r n) g
+pub with-table : (g : Image) (t r n : ℕ) → withValue (storable n) (refusalOn (get t r) g) ≡ refusalOn (store t r n) g
 unfolding refusalBy refusal
 with-table g t r n =
-    with-rows (ltb n brokenWire) (not (eqb (length g) imageSize)) (not (controlForm g)) (tranOk t && ltb r recordCount) (controlIn g .stopped)
+    with-rows (storable n) (not (eqb (length g) imageSize)) (not (controlForm g)) (tranOk t && ltb r recordCount) (controlIn g .stopped)
     (not (isOpen (controlIn g) t)) (lockedOutIn g t r)
 
 -- no row applies: the value is in range, and the get is accepted

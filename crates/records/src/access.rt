@@ -1,8 +1,7 @@
 // What every call on a record asks first: rows 1 to 5 and 7 of the refusal table, and the holders of its block.
 ghost use mathlib.Core.Path.{_≡_};
 ghost use Rattle.control.specs.Meaning.{meaning};
-ghost use lib.Dec.{ltb};
-ghost use Rattle.cabinet_rules.specs.Delivery.{brokenWire};
+ghost use Rattle.cabinet_rules.specs.Delivery.{storable};
 ghost use Rattle.records.specs.Access.{LooksUp, earlyRows, withValue};
 use control::Control;
 use image::Rec;
@@ -74,7 +73,7 @@ pub fn look_up(image: &[u8], tran: Tran, rec: Rec) -> Access
 // The refusal of a store, from that of a get of the record: a value out of range is one row more, 3, and the lowest
 // number applies.
 pub fn with_value(refusal: u8, value: u16) -> u8
-    ensures { λ r. ⌜ r ≡ withValue (ltb value brokenWire) refusal ⌝ }
+    ensures { λ r. ⌜ r ≡ withValue (storable value) refusal ⌝ }
 {
     if value < BROKEN_WIRE {
         return refusal;

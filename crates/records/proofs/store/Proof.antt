@@ -1,9 +1,8 @@
 -- The proof of `store`. Assumes nothing.
-use lib.Dec.{ltb}
 use mathlib.Core.Bool.{true}
 use mathlib.Core.Path.{_∙_, _≡_, sym}
 use borrow.Author.Needs.{needs}
-use Rattle.cabinet_rules.specs.Delivery.{brokenWire}
+use Rattle.cabinet_rules.specs.Delivery.{storable}
 use Rattle.records.proofs.Calls.{newest-usable, rec-fits, store-held, store-new, store-refused, tran-fits, whole}
 use Rattle.records.proofs.Values.{with-clear}
 use Rattle.records.proofs.store.Statement.{statement}
@@ -25,7 +24,7 @@ returns c =
     store-refused (a .image .now) (a .tran .0) (a .rec .0) (a .value) _ _ (c .before .with-value .ensures) (u .look-up .ensures .refusal-is) (c .if1 .taken)
 
 -- no row applies: the value is in range, and the look-up found none
-clear : (e : tie.Else1) → let u = e .before .before in (ltb (u .before .before .before .args .value) brokenWire ≡ true) × (u .look-up .result .refusal ≡ 0)
+clear : (e : tie.Else1) → let u = e .before .before in (storable (u .before .before .before .args .value) ≡ true) × (u .look-up .result .refusal ≡ 0)
 clear e = with-clear _ _ (sym (e .before .with-value .ensures) ∙ e .if1 .left)
 
 lay-requires : tie.Need-lay-requires
