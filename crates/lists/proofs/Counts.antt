@@ -21,6 +21,11 @@ below-all (suc n) f i e h = go (split (eqb i n)) (below-all n f i (and-r (f n) (
     go (inl q) ih = rw (eqb-true i n q) (and-l (f n) (allBelow n f) e)
     go (inr q) ih = let d : i ≡ n → ⊥ = eqb-false i n q in ih (omega arith)
 
+-- Tests that agree below the bound.
+pub below-ext : (n : ℕ) (f g : ℕ → Bool) → ((i : ℕ) → i < n → f i ≡ g i) → allBelow n f ≡ allBelow n g
+below-ext zero f g h = refl
+below-ext (suc n) f g h = ap₂ _&&_ (h n (omega arith)) (below-ext n f g (λ i p. h i (omega arith)))
+
 pub below-none : (n : ℕ) (f : ℕ → Bool) (i : ℕ) → anyBelow n f ≡ false → i < n → f i ≡ false
 below-none zero f i e h = absurd (omega arith)
 below-none (suc n) f i e h = go (split (eqb i n)) (below-none n f i (nor-r (f n) (anyBelow n f) e))
@@ -88,6 +93,10 @@ pub all-below : (n : ℕ) (f : ℕ → Bool) → ((i : ℕ) → i < n → f i �
 all-below zero f h = refl
 all-below (suc n) f h = and-in (f n) (allBelow n f) (h n (omega arith)) (all-below n f (λ i k. h i (omega arith)))
 
+pub none-below : (n : ℕ) (f : ℕ → Bool) → ((i : ℕ) → i < n → f i ≡ false) → anyBelow n f ≡ false
+none-below zero f h = refl
+none-below (suc n) f h = rw (h n (omega arith)) (none-below n f (λ i k. h i (omega arith)))
+
 pub any-below : (n : ℕ) (f : ℕ → Bool) (i : ℕ) → i < n → f i ≡ true → anyBelow n f ≡ true
 any-below zero f i h e = absurd (omega arith)
 any-below (suc n) f i h e = go (split (eqb i n)) (any-below n f i)
@@ -121,9 +130,15 @@ count-some (suc n) f h = go (split (f n)) (count-some n f)
 pub at-pair : (p : ℕ → ℕ → Bool) (m n : ℕ) → allBelow m (λ i. allBelow n (p i)) ≡ true → (i : ℕ) → i < m → (k : ℕ) → k < n → p i k ≡ true
 at-pair p m n t i hi k hk = below-all n (p i) k (below-all m (λ j. allBelow n (p j)) i t hi) hk
 
--- a loop over a test below n: one more that passes, and one that fails
+-- a loop over a test below n: one more number that passes, that fails, or that is counted; and one that fails
 pub all-more : (f : ℕ → Bool) (n : ℕ) → f n ≡ true → allBelow n f ≡ true → allBelow (n + 1) f ≡ true
 all-more f n e h = rw add-one (and-in (f n) (allBelow n f) e h)
+
+pub any-more : (f : ℕ → Bool) (n : ℕ) → f n ≡ false → anyBelow n f ≡ false → anyBelow (n + 1) f ≡ false
+any-more f n e h = rw (add-one, e) h
+
+pub count-more : (f : ℕ → Bool) (n : ℕ) → count (n + 1) f ≡ oneIf (f n) + count n f
+count-more f n = rw add-one
 
 pub all-fails : (f : ℕ → Bool) (n i : ℕ) → i < n → f i ≡ false → allBelow n f ≡ false
 all-fails f n i h e = never-true (allBelow n f) (λ t. tf (f i) (below-all n f i t h) e)

@@ -6,3 +6,4 @@ pub mod Cases
 pub mod Tabulate
 pub mod Segments
 pub mod Each
+pub mod Bytes

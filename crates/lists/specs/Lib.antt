@@ -1,3 +1,4 @@
 pub mod Tests
 pub mod Tabulate
 pub mod Segments
+pub mod Bytes

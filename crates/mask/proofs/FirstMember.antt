@@ -1,27 +1,29 @@
 -- The first member of a mask, and the mask without it. Assumes nothing.
-use mathlib.Core.Path.{_≡_, refl, ap₂}
+use mathlib.Core.Path.{_≡_, refl, sym, ap₂, _∙_}
 use mathlib.Core.Bool.{Bool, true, false, not, _&&_, _||_}
 use mathlib.Core.List.{List, [], _∷_}
 use Prim.Native.Nat.{ℕ, _<_}
+use native.Mathlib.Omega.{arith}
 use lib.Count.{leadingZeros}
 use lib.Dec.{ltb, eqb}
 use lib.ListN.{length, getD, drop}
 use mathlib.Core.Logic.{_≢_}
 use borrow.Author.Tests.{eqb-true, ltb-true, lt-ltb, ne-eqb}
-use Rattle.lists.specs.Tests.{allBelow}
-use Rattle.lists.proofs.Bools.{tf, and-l, and-r, imp-out}
+use Rattle.lists.specs.Tests.{allBelow, elem}
+use Rattle.lists.proofs.Bools.{tf, and-l, and-r, eqb-self, imp-out, or-l}
 use Rattle.lists.proofs.Counts.{below-all}
 use Rattle.image.specs.Layout.{cardCount}
-use Rattle.mask.specs.Masks.{byte, hasCard, withoutCard, members}
+use Rattle.mask.specs.Masks.{Byte, byte, hasCard, withoutCard, members}
+use Rattle.mask.proofs.Masks.{elem-members}
 
 -- Equality of two lists of numbers, as a test.
-sameList : List ℕ → List ℕ → Bool
+unfoldable pub sameList : List ℕ → List ℕ → Bool
 sameList [] [] = true
 sameList [] (y ∷ m) = false
 sameList (x ∷ l) [] = false
 sameList (x ∷ l) (y ∷ m) = eqb x y && sameList l m
 
-same-list : (l m : List ℕ) → sameList l m ≡ true → l ≡ m
+pub same-list : (l m : List ℕ) → sameList l m ≡ true → l ≡ m
 unfolding sameList
 same-list [] [] e = refl
 same-list [] (y ∷ m) e = tf false e refl
@@ -63,12 +65,20 @@ module _ (n : ℕ) (h : n < 256) (some : 0 < length (members (byte n))) where
 
 -- Without it, the others are left.
 restIs : ℕ → Bool
-restIs n = sameList (members (withoutCard (byte n) (leadingZeros 8 n))) (drop 1 (members (byte n)))
+restIs n = sameList (members (withoutCard (byte n) (getD (members (byte n)) 0 0))) (drop 1 (members (byte n)))
 
 test-rest : allBelow 256 restIs ≡ true
-unfolding restIs sameList leadingZeros members hasCard withoutCard
+unfolding restIs sameList members hasCard withoutCard
 test-rest = refl
 
-pub rest-is : (n : ℕ) → n < 256 → members (withoutCard (byte n) (leadingZeros 8 n)) ≡ drop 1 (members (byte n))
+pub rest-is : (n : ℕ) → n < 256 → members (withoutCard (byte n) (getD (members (byte n)) 0 0)) ≡ drop 1 (members (byte n))
 unfolding restIs
 rest-is n h = same-list _ _ (below-all 256 restIs n test-rest h)
+
+-- It is in the mask.
+pub first-in : (m : Byte) → 0 < length (members m) → hasCard m (getD (members m) 0 0) ≡ true
+first-in m h = sym (elem-members m (getD (members m) 0 0)) ∙ head (members m) h
+  where
+    head : (l : List ℕ) → 0 < length l → elem (getD l 0 0) l ≡ true
+    head [] p = absurd (omega arith)
+    head (x ∷ l) p = or-l (eqb x x) (elem x l) (eqb-self x)

@@ -1,5 +1,6 @@
 pub mod Masks
 pub mod Sets
 pub mod FirstMember
+pub mod LastMember
 pub mod SiteLaws
 pub mod SiteTables

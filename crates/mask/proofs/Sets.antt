@@ -1,5 +1,6 @@
 -- What the code computes of masks is what the definitions say of sets of cards. Assumes nothing.
 use mathlib.Core.Path.{_≡_, refl, sym, ap, ap₂, _∙_, fun-ext}
+use mathlib.Core.Logic.{_⊎_, inl, inr}
 use mathlib.Core.Bool.{Bool, true, false, not, _&&_, _||_, Bool·beq}
 use Prim.Native.Nat.{ℕ, _-_, _≤_, _<_}
 use native.Mathlib.Nat.{mod-eq-of-lt}
@@ -7,10 +8,10 @@ use native.Mathlib.Omega.{arith}
 use lib.Bits.{bitAnd, bitOr, and-le-l, or-lt}
 use lib.Count.{ones, onesIn, leadingZeros}
 use lib.Dec.{ltb, eqb}
-use borrow.Author.Tests.{eqb-true, le-ltb, lt-ltb}
+use borrow.Author.Tests.{eq-eqb, eqb-true, le-ltb, lt-ltb}
 use Rattle.lists.specs.Tests.{count, allBelow, anyBelow}
-use Rattle.lists.proofs.Bools.{and-l, and-r, and-in, and-when, imp-out, not-is, same-bool, same-test}
-use Rattle.lists.proofs.Counts.{below-all, at-pair, count-none, count-part, any-below, any-below-out}
+use Rattle.lists.proofs.Bools.{and-l, and-r, and-in, and-when, imp-out, not-is, same-bool, same-test, split}
+use Rattle.lists.proofs.Counts.{all-below, below-all, at-pair, count-none, any-below, any-below-out}
 use Rattle.image.specs.Layout.{cardCount}
 use Rattle.mask.specs.Masks.{
   Byte,
@@ -26,7 +27,7 @@ use Rattle.mask.specs.Masks.{
   areApart,
   isOneMore,
 }
-use Rattle.mask.proofs.Masks.{every-mask, every-pair, has-card, hasBit, has-bit, has-byte, bit-and, bit-or}
+use Rattle.mask.proofs.Masks.{every-mask, every-pair, has-card, hasBit, has-bit, has-byte, bit-and, bit-or, same-number}
 
 -- The count of ones is the number of members.
 test-ones : allBelow 256 (λ n. eqb (ones n) (size (byte n))) ≡ true
@@ -49,9 +50,27 @@ module _ (a b : ℕ) (ha : a < 256) (hb : b < 256) where
   unfolding common size
   common-is = size-is (bitAnd a b) (omega (arith, and-le-l a b)) ∙ ap (count cardCount) (fun-ext has-both)
 
-  pub within-is : eqb (ones (bitAnd a b)) (ones a) ≡ isWithin (byte a) (byte b)
-  unfolding common isWithin size
-  within-is = ap₂ eqb common-is (size-is a ha) ∙ count-part cardCount (hasCard (byte a)) (hasCard (byte b))
+  pub within-is : eqb (bitAnd a b) a ≡ isWithin (byte a) (byte b)
+  unfolding isWithin
+  within-is = same-test (eqb (bitAnd a b) a) (allBelow cardCount test)
+      (λ t. all-below cardCount test (λ c h. into (hasCard (byte a) c) (hasCard (byte b) c) (ap (λ (n : ℕ). hasCard (byte n) c) (sym (eqb-true (bitAnd a b) a t)) ∙ has-both c)))
+      (λ t. eq-eqb (bitAnd a b) a (sym (mod-eq-of-lt low) ∙ same-number (byte (bitAnd a b)) (byte a) (λ c. has-both c ∙ out c t (split (hasCard (byte a) c))) ∙ mod-eq-of-lt ha))
+    where
+      test : ℕ → Bool
+      test c = not (hasCard (byte a) c) || hasCard (byte b) c
+
+      low : bitAnd a b < 256
+      low = omega (arith, and-le-l a b)
+
+      into : (x y : Bool) → x ≡ (x && y) → (not x || y) ≡ true
+      into true y e = sym e
+      into false y e = refl
+
+      out : (c : ℕ) → allBelow cardCount test ≡ true → (hasCard (byte a) c ≡ true) ⊎ (hasCard (byte a) c ≡ false) → (hasCard (byte a) c && hasCard (byte b) c) ≡ hasCard (byte a) c
+      out c t (inr e) = rw e
+      out c t (inl e) =
+          let i : test c ≡ true = below-all cardCount test c t (has-card (byte a) c e) in
+          rw e (rw e at i)
 
   pub apart-is : eqb (ones (bitAnd a b)) 0 ≡ areApart (byte a) (byte b)
   unfolding common areApart

@@ -2,10 +2,10 @@
 ghost use mathlib.Core.Path.{_≡_};
 ghost use mathlib.Core.Bool.{_&&_, cond, not};
 ghost use mathlib.Core.List.{_∷_, []};
-ghost use Prim.Native.Nat.{_<_, _≤_};
+ghost use Prim.Native.Nat.{_-_, _<_, _≤_};
 ghost use lib.Bits.{bitAnd};
 ghost use lib.Dec.{leb};
-ghost use lib.ListN.{length, getD, drop};
+ghost use lib.ListN.{length, getD, drop, take};
 ghost use Rattle.image.specs.Layout.{cardCount, blockCount, copyCount};
 ghost use Rattle.mask.specs.Masks.{
   AreMembers,
@@ -87,7 +87,7 @@ pub fn common(a: u8, b: u8) -> u32
 pub fn within(a: u8, b: u8) -> bool
     ensures { λ r. ⌜ r ≡ isWithin (byte a) (byte b) ⌝ }
 {
-    u8::count_ones(a & b) == u8::count_ones(a)
+    (a & b) == a
 }
 
 // Whether every member of a is in b or in c.
@@ -139,27 +139,52 @@ pub fn one_more(failed: u8, base: u8, mask: u8) -> bool
     false
 }
 
-// The mask without its first member.
-fn without_first(mask: u8) -> u8
+// The first member.
+pub fn first_member(mask: u8) -> Card
     requires { ⌜ 0 < length (members (byte mask)) ⌝ }
-    ensures { λ r. ⌜ members (byte r) ≡ drop 1 (members (byte mask)) ⌝ }
+    ensures { λ r. ⌜ (r .0 ≡ getD (members (byte mask)) 0 0) × (r .0 < cardCount) ⌝ }
 {
-    let first = u8::leading_zeros(mask) as u8;
-    without_card(mask, Card(first))
+    Card(u8::leading_zeros(mask) as u8)
 }
 
-// Member number i, in rising order: the first once i members are taken off.
+// The mask without its first member.
+pub fn without_first(mask: u8) -> u8
+    requires { ⌜ 0 < length (members (byte mask)) ⌝ }
+    ensures { λ r. ⌜ (members (byte r) ≡ drop 1 (members (byte mask)))
+        × (byte r ≡ withoutCard (byte mask) (getD (members (byte mask)) 0 0)) ⌝ }
+{
+    without_card(mask, first_member(mask))
+}
+
+// The mask without its last member. Its bit is the lowest one, and `m & (m - 1)` is m with the lowest bit off.
+fn without_last(mask: u8) -> u8
+    requires { ⌜ 0 < length (members (byte mask)) ⌝ }
+    ensures { λ r. ⌜ members (byte r) ≡ take (length (members (byte mask)) - 1) (members (byte mask)) ⌝ }
+{
+    mask & (mask - 1)
+}
+
+// The last member: the mask less itself without it is that member's bit.
+fn last_member(mask: u8) -> u8
+    requires { ⌜ 0 < length (members (byte mask)) ⌝ }
+    ensures { λ r. ⌜ r ≡ getD (members (byte mask)) (length (members (byte mask)) - 1) 0 ⌝ }
+{
+    u8::leading_zeros(mask - (mask & (mask - 1))) as u8
+}
+
+// Member number i, in rising order: the last once all behind it are taken off. To take off the last needs fewer
+// instructions than to take off the first.
 pub fn nth_member(mask: u8, i: u8) -> u8
     requires { ⌜ i < length (members (byte mask)) ⌝ }
     ensures { λ r. ⌜ r ≡ getD (members (byte mask)) i 0 ⌝ }
 {
     let mut left = mask;
-    let mut k: u8 = 0;
-    while k < i {
-        left = without_first(left);
-        k += 1;
+    let mut k: u8 = u8::count_ones(mask) as u8 - 1;
+    while i < k {
+        left = without_last(left);
+        k -= 1;
     }
-    u8::leading_zeros(left) as u8
+    last_member(left)
 }
 
 // The bits of the rail that the card is not on: cards 0 to 3 hang on one supply rail and 4 to 7 on the other.

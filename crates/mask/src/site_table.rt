@@ -9,6 +9,7 @@ ghost use Rattle.mask.specs.Masks.{AreMembers, byte, members};
 ghost use Rattle.mask.specs.Placements.{Usable, meant};
 ghost use Rattle.mask.specs.SiteTable.{SitesFrom, SitesIn};
 use crate::Placement;
+use crate::first_member;
 use image::CARD_COUNT;
 use image::Card;
 
@@ -17,14 +18,6 @@ use image::Card;
 pub struct SiteTable {
     pub count: u8,
     pub masks: [u8; CARD_COUNT],
-}
-
-// The first member.
-fn first_member(mask: u8) -> Card
-    requires { ⌜ 0 < length (members (byte mask)) ⌝ }
-    ensures { λ r. ⌜ (r .0 ≡ getD (members (byte mask)) 0 0) × (r .0 < cardCount) ⌝ }
-{
-    Card(u8::leading_zeros(mask) as u8)
 }
 
 // The first of these members; where there are none, of all: going round.

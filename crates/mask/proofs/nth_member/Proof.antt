@@ -1,37 +1,48 @@
-use mathlib.Core.Path.{_≡_, refl, ap, _∙_}
-use mathlib.Core.List.{List}
-use Prim.Native.Nat.{ℕ, _-_, _≤_, _<_}
-use native.Mathlib.Nat.{add-zero}
+-- The proof of `nth_member`. The members up to number k are left; at the end k is i, and the last one left is member
+-- number i. Assumes nothing.
+use mathlib.Core.Path.{_∙_, _≡_, ap, sym}
+use Prim.Native.Nat.{_-_, _<_, _≤_, suc, ℕ}
 use native.Mathlib.Omega.{arith}
-use lib.Count.{leading-le}
-use lib.ListN.{length, getD, drop, length-drop}
-use lib.Seq.{getD-drop, drop-drop}
+use lib.Count.{ones}
+use lib.ListN.{getD, length, take}
+use lib.Seq.{take-all}
 use borrow.Author.Needs.{needs}
 use Rattle.mask.specs.Masks.{byte, members}
-use Rattle.mask.proofs.FirstMember.{first-is}
+use Rattle.mask.proofs.LastMember.{left-last, left-length, left-less}
+use Rattle.mask.proofs.Masks.{size-members}
+use Rattle.mask.proofs.Sets.{size-is}
+use Rattle.mask.proofs.SiteLaws.{few-members}
 use Rattle.mask.proofs.nth_member.Statement.{statement}
 use Rattle.mask.proofs.nth_member.Tie as tie
-use Rattle.mask.proofs.nth_member.Reads as reads
-use Rattle.mask.proofs.nth_member.Lts as lts
-use Rattle.mask.proofs.without_first.Reads as without-first-reads
 
 abbrev Inv-loop : tie.InvT-loop
-Inv-loop mask i left₀ k₀ left k = (k ≤ i) × (left < 256) × (members (byte left) ≡ drop k (members (byte mask)))
+Inv-loop mask i left₀ k₀ left k = (i ≤ k) × (k < length (members (byte mask))) × (members (byte left) ≡ take (suc k) (members (byte mask)))
 
 abbrev μ-loop : tie.MeasureT-loop
-μ-loop mask i left₀ k₀ left k = i - k
+μ-loop mask i left₀ k₀ left k = k - i
+
+-- The bits that are set are the members.
+counted : (s : tie.Start Inv-loop μ-loop) → ones (s .args .mask) ≡ length (members (byte (s .args .mask)))
+counted s = size-is (s .args .mask) (omega arith) ∙ sym (size-members (byte (s .args .mask)))
+
+cast-k : tie.Need-cast-k Inv-loop μ-loop
+cast-k c = omega (arith, counted c, few-members (byte (c .args .mask)))
+
+sub-k : tie.Need-sub-k Inv-loop μ-loop
+sub-k c = omega (arith, counted c)
 
 loop-holds : tie.Need-loop-holds Inv-loop μ-loop
-loop-holds c = (search needs, omega arith, refl)
+loop-holds c =
+    let m = c .args .mask in
+    (omega (arith, counted c), omega (arith, counted c), sym (take-all (suc (ones m - 1)) (members (byte m)) (omega (arith, counted c))))
 
-without-first-requires : tie.Need-without-first-requires Inv-loop μ-loop
-without-first-requires c κs =
+without-last-requires : tie.Need-without-last-requires Inv-loop μ-loop
+without-last-requires c κs =
     let l = c .before .loop in
-    let a = c .before .before .args in
-    rw (l .inv .2, length-drop (l .k) (members (byte (a .mask)))) (omega arith)
+    omega (arith, left-length (c .before .before .args .mask) (l .left) (l .k) (l .inv .1) (l .inv .2))
 
-add-k : tie.Need-add-k Inv-loop μ-loop
-add-k c = search needs
+sub-k-2 : tie.Need-sub-k-2 Inv-loop μ-loop
+sub-k-2 c = search needs
 
 loop-less : tie.Need-loop-less Inv-loop μ-loop
 loop-less c = search needs
@@ -39,22 +50,21 @@ loop-less c = search needs
 loop-again : tie.Need-loop-again Inv-loop μ-loop
 loop-again c =
     let l = c .before .before .loop in
-    let a = c .before .before .before .args in
-    (omega arith, search needs, c .without-first .ensures ∙ ap (drop 1) (l .inv .2) ∙ drop-drop 1 (l .k) (members (byte (a .mask))))
+    let m = c .before .before .before .args .mask in
+    let e : l .k ≡ suc (l .k - 1) = omega arith in
+    (omega arith, omega arith, c .without-last .ensures ∙ left-less m (l .left) (l .k) (l .inv .1) (l .inv .2) ∙ ap (λ (n : ℕ). take n (members (byte m))) e)
 
-cast-result : tie.Need-cast-result Inv-loop μ-loop
-cast-result c = omega (arith, leading-le 8 (c .before .loop .left))
+last-member-requires : tie.Need-last-member-requires Inv-loop μ-loop
+last-member-requires c κs =
+    let l = c .before .loop in
+    omega (arith, left-length (c .before .before .args .mask) (l .left) (l .k) (l .inv .1) (l .inv .2))
 
 returns : tie.Need-returns Inv-loop μ-loop
 returns c =
-    let l = c .before .loop in
-    let a = c .before .before .args in
+    let l = c .before .before .loop in
+    let a = c .before .before .before .args in
     let e : l .k ≡ a .i = omega arith in
-    let some : 0 < length (members (byte (l .left))) =
-    rw (l .inv .2, length-drop (l .k) (members (byte (a .mask)))) (omega arith) in
-    first-is (l .left) (l .inv .1) some ∙ ap (λ (m : List ℕ). getD m 0 0) (l .inv .2)
-    ∙ getD-drop (l .k) (members (byte (a .mask))) 0 0
-    ∙ ap (λ (n : ℕ). getD (members (byte (a .mask))) n 0) (add-zero (l .k) ∙ e)
+    c .last-member .ensures ∙ left-last (a .mask) (l .left) (l .k) (l .inv .1) (l .inv .2) ∙ ap (λ (n : ℕ). getD (members (byte (a .mask))) n 0) e
 
 pub nth-member-spec : {M : Type 1} → statement M
 nth-member-spec =
@@ -62,10 +72,12 @@ nth-member-spec =
     (tie.spec
     Inv-loop
     μ-loop
+    cast-k
+    sub-k
     loop-holds
-    without-first-requires
-    add-k
+    without-last-requires
+    sub-k-2
     loop-less
     loop-again
-    cast-result
+    last-member-requires
     returns)

@@ -59,7 +59,7 @@ returns-2 c =
     let a = s .args in
     λ i from. entry-next (a .placement .mask) (a .placement .rails) (a .left) (x .first-member .result .0) (o .across .result) (small s) (s .pre .0) (s .pre .1)
     (x .first-member .ensures .0) (o .across .ensures) (y .first-or .result .0) (c .pair2 .result) (c .pair2 .ensures) i from
-    (t .if1 .left) (w .without-first .result) (w .without-first .ensures) (y .first-or .ensures .0)
+    (t .if1 .left) (w .without-first .result) (w .without-first .ensures .0) (y .first-or .ensures .0)
 
 pub sites-from-spec : {M : Type 1} → statement M
 sites-from-spec =

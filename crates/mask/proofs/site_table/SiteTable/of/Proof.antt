@@ -63,7 +63,7 @@ loop-again c =
       omega (arith, fewer i),
       search needs,
       length-set (l .table .masks) (l .table .count) (s .sites-from .result) ∙ l .inv .2,
-      c .without-first .ensures ∙ ap (drop 1) (l .inv .3) ∙ drop-drop 1 (l .table .count) (members (byte (p .mask))),
+      c .without-first .ensures .0 ∙ ap (drop 1) (l .inv .3) ∙ drop-drop 1 (l .table .count) (members (byte (p .mask))),
       masks-more (isSite (meant p)) (l .table .masks) (l .table .count) (s .sites-from .result) (omega (arith, h, l .inv .2)) (l .inv .4) (s .sites-from .ensures (l .table .count) (l .inv .3)),
     )
 

@@ -1,9 +1,9 @@
--- The proof of `site_table::first_member`. Assumes nothing.
+-- The proof of `first_member`. Assumes nothing.
 use native.Mathlib.Omega.{arith}
 use lib.Count.{leading-le}
 use Rattle.mask.proofs.FirstMember.{first-card, first-is}
-use Rattle.mask.proofs.site_table.first_member.Statement.{statement}
-use Rattle.mask.proofs.site_table.first_member.Tie as tie
+use Rattle.mask.proofs.first_member.Statement.{statement}
+use Rattle.mask.proofs.first_member.Tie as tie
 
 cast-t3 : tie.Need-cast-t3
 cast-t3 c = omega (arith, leading-le 8 (c .args .mask))
