@@ -1,17 +1,17 @@
 -- Tables that are zeroed, as blocks that are written. Assumes nothing.
-use Prim.Native.Nat.{_+_, _<_, _≤_, ℕ}
+use Prim.Native.Nat.{_+_, _<_, ℕ}
 use borrow.Author.Tests.{eq-eqb, le-ltb, lt-ltb, ne-eqb}
 use lib.Dec.{eqb, ltb}
 use lib.ListN.{getD}
-use mathlib.Core.Bool.{cond, true}
+use mathlib.Core.Bool.{cond}
 use mathlib.Core.List.{List}
 use mathlib.Core.Logic.{_≢_, _⊎_, inl, inr}
 use mathlib.Core.Option.{Option, none, some}
 use mathlib.Core.Path.{_∙_, _≡_, ap, refl, sym}
 use native.Mathlib.Omega.{arith}
-use Rattle.lists.proofs.Bools.{eqb-self, tf}
+use Rattle.lists.proofs.Bools.{eqb-self}
 use Rattle.lists.proofs.Cases.{by-eq, lt-eq-gt}
-use Rattle.image.specs.Layout.{Whole, blockAt, blockCount, blockSize, blockStart, cardCount, controlSize, imageSize}
+use Rattle.image.specs.Layout.{Whole, blockAt, blockSize, blockStart, cardCount}
 use Rattle.image.specs.Layout.{putTable, tableSize, zeros}
 use Rattle.image.proofs.Blocks.{byte-of-control, control-put-table, put-table-other, put-table-same, whole-put-table}
 use Rattle.image.proofs.Zeros.{length-zeros, zeros-segment}
@@ -19,28 +19,24 @@ use Rattle.slot.specs.Blocks.{BlockBytes, emptyBlock}
 use Rattle.slot.proofs.Blocks.{zeros-empty}
 use Rattle.method.specs.Rules.{clearCard, updated}
 use Rattle.cabinet_rules.specs.Cabinet.{cabinet}
-use Rattle.cabinet_rules.specs.Images.{Image, Writes, blockIn, blockNumber, cardAt, isBlockByte}
-use Rattle.promise.proofs.Laid.{laid, laid-block, laid-control, laid-ext, laid-none, laid-same, whole-laid}
+use Rattle.cabinet_rules.specs.Images.{Image, Writes, blockIn}
+use Rattle.promise.proofs.Laid.{laid, laid-block, laid-blocks, laid-control, laid-none, laid-same, whole-laid}
 use Rattle.cards.specs.Clearing.{cleared}
-
--- no byte lies behind the blocks of a table, or behind the tables
-no-tail : (n : ℕ) → controlSize ≤ n → n < imageSize → isBlockByte n ≡ true
-no-tail n l h = rw (lt-ltb (cardAt n) cardCount (omega arith), lt-ltb (blockNumber n) blockCount (omega arith))
 
 -- card c's blocks are empty, the others as w has them
 abbrev pub emptied : ℕ → Writes → Writes
 emptied c w d b = cond (eqb d c) (some emptyBlock) (w d b)
 
 pub laid-table : (w : Writes) (g : Image) (c : ℕ) → c < cardCount → putTable (laid w g) c (zeros tableSize) ≡ laid (emptied c w) g
-laid-table w g c hc = laid-ext (emptied c w) g (putTable (laid w g) c (zeros tableSize)) long
+laid-table w g c hc = laid-blocks (emptied c w) g (putTable (laid w g) c (zeros tableSize)) long
     (λ n h. sym (byte-of-control (putTable (laid w g) c (zeros tableSize)) n h)
     ∙ ap (λ (l : List ℕ). getD l n 0) (control-put-table (laid w g) (whole-laid w g) c hc (zeros tableSize) (length-zeros tableSize))
     ∙ byte-of-control (laid w g) n h ∙ laid-control w g n h)
     (λ d b hd hb. by-eq (blockAt (putTable (laid w g) c (zeros tableSize)) d b ≡ updated (emptied c w d b) (blockIn g d b) .0) d c
-    (λ e. rw (e, eqb-self c) (put-table-same (laid w g) (whole-laid w g) c hc (zeros tableSize) (length-zeros tableSize) b hb ∙ zeros-segment tableSize (blockStart b) blockSize (omega arith) ∙ zeros-empty))
+    (λ e. rw (e, eqb-self c) (put-table-same (laid w g) (whole-laid w g) c hc (zeros tableSize) (length-zeros tableSize) b hb
+    ∙ zeros-segment tableSize (blockStart b) blockSize (omega arith) ∙ zeros-empty))
     (λ n. put-table-other (laid w g) (whole-laid w g) c hc (zeros tableSize) (length-zeros tableSize) d hd n b hb ∙ laid-block w g d b hd hb
     ∙ ap (λ (o : Option BlockBytes). updated o (blockIn g d b) .0) (sym (other d b n))))
-    (λ n l h off. tf (isBlockByte n) (no-tail n l h) off)
   where
     long : Whole (putTable (laid w g) c (zeros tableSize))
     long = whole-put-table (laid w g) (whole-laid w g) c hc (zeros tableSize) (length-zeros tableSize)
@@ -61,7 +57,8 @@ pub none-emptied : (g : Image) → Whole g → g ≡ laid (emptyTo 0) g
 none-emptied g long = laid-none (emptyTo 0) g long (λ c b hc hb. rw (le-ltb c 0 (omega arith)))
 
 pub one-emptied : (g : Image) (i : ℕ) → i < cardCount → putTable (laid (emptyTo i) g) i (zeros tableSize) ≡ laid (emptyTo (i + 1)) g
-one-emptied g i hi = laid-table (emptyTo i) g i hi ∙ laid-same (emptied i (emptyTo i)) g (emptyTo (i + 1)) (λ c b hc hb. ap (λ (o : Option BlockBytes). updated o (blockIn g c b)) (go c b (lt-eq-gt c i)))
+one-emptied g i hi = laid-table (emptyTo i) g i hi
+    ∙ laid-same (emptied i (emptyTo i)) g (emptyTo (i + 1)) (λ c b hc hb. ap (λ (o : Option BlockBytes). updated o (blockIn g c b)) (go c b (lt-eq-gt c i)))
   where
     go : (c b : ℕ) → (c < i) ⊎ ((c ≡ i) ⊎ (i < c)) → emptied i (emptyTo i) c b ≡ emptyTo (i + 1) c b
     go c b (inl h) = rw (ne-eqb c i (λ e. omega arith), lt-ltb c i h, lt-ltb c (i + 1) (omega arith))

@@ -15,7 +15,8 @@ use Rattle.lists.proofs.Cases.{lt-or-ge}
 use Rattle.image.specs.Layout.{tranBound}
 use Rattle.mask.specs.Masks.{byte}
 use Rattle.mask.specs.Placements.{Placement}
-use Rattle.control.specs.ControlBytes.{maskBytes, marksFrom, homeByte, controlByte, countIn, homeIn, homeOf, keptAs, placementAt}
+use Rattle.method.specs.ControlPart.{active}
+use Rattle.control.specs.ControlBytes.{Part, maskBytes, marksFrom, homeByte, controlByte, countIn, homeIn, homeOf, keptAs, placementAt}
 use Rattle.control.specs.ControlBytes.{placementsIn, controlOf}
 use Rattle.control.specs.Meaning.{rowOf, structOf, bitsFrom, maskIn, newestMask, placementIn, meaning, Counted}
 use Rattle.control.specs.declared.Control.{Control}
@@ -98,6 +99,28 @@ read-means l lo hi = λ i. record {
             let b : t < tranBound = ltb-true t tranBound (and-r (ltb 0 t) (ltb t tranBound) e) in
             let s : 8 + (t - 1) ≡ t + 7 = omega arith in
             ap (homeOf t) (at-row l 15 8 (t - 1) (omega arith) ∙ ap (λ (j : ℕ). getD l j 0) s)
+
+-- The placements that bytes show, where the count is not 0: the first ones, and the newest is the last of them. A struct
+-- that means them has their count.
+module _ (g : ℕ → ℕ) (some : 1 ≤ countIn (g 0)) where
+  after-last : suc (countIn (g 0) - 1) ≡ countIn (g 0)
+  after-last = omega arith
+
+  pub shown-newest : controlOf g .newest ≡ placementAt g (countIn (g 0) - 1)
+  unfolding controlOf
+  shown-newest = ap (λ (n : ℕ). keptAs (countIn (g 0) - 1) (g n) (g 7)) (sym after-last)
+
+  pub shown-active : active (controlOf g) ≡ placementsIn (placementAt g) (countIn (g 0))
+  unfolding controlOf
+  shown-active = ap (λ (p : Placement). placementsIn (placementAt g) (countIn (g 0) - 1) ++ (p ∷ [])) shown-newest
+      ∙ placements-more (placementAt g) (countIn (g 0) - 1) ∙ ap (placementsIn (placementAt g)) after-last
+
+  pub shown-count : (k : Control) → Counted k → meaning k ≡ controlOf g → k .count ≡ countIn (g 0)
+  unfolding meaning controlOf
+  shown-count k w e =
+      let same : k .count - 1 ≡ countIn (g 0) - 1 = sym (length-placements (placementIn k) (k .count - 1))
+      ∙ ap (λ (p : Part). length (p .older)) e ∙ length-placements (placementAt g) (countIn (g 0) - 1) in
+      omega (arith, w .some)
 
 -- The newest placement's mask.
 pub newest-mask-is : (k : Control) (m : ℕ) → m ≡ newestMask k → byte m ≡ meaning k .newest .mask

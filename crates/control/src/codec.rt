@@ -5,22 +5,27 @@ ghost use mathlib.Core.Option.{some};
 ghost use Prim.Native.Nat.{_-_, _≤_, _<_};
 ghost use lib.Bits.{bitAnd};
 ghost use lib.Dec.{ltb};
-ghost use lib.ListN.{length};
+ghost use lib.ListN.{getD, length};
 ghost use Rattle.lists.specs.Tabulate.{tabulate};
 ghost use Rattle.image.specs.Layout.{cardCount, controlSize};
+ghost use Rattle.mask.specs.Placements.{meant};
+ghost use Rattle.method.specs.ControlPart.{isCard};
 ghost use Rattle.method.specs.Slots.{isSome};
-ghost use Rattle.control.specs.ControlBytes.{homeByte, controlByte, homeIn};
+ghost use Rattle.control.specs.ControlBytes.{homeByte, controlByte, homeIn, placementAt};
 ghost use Rattle.control.specs.Meaning.{structOf, meaning, mostActive, bitsFrom, Counted, putControl};
 use crate::Control;
+use crate::FIRST_MARK;
 use crate::MASK_COUNT;
 use crate::TRAN_COUNT;
+use image::Card;
+use mask::Placement;
 
 // Where the fields start; byte 0 has the stopped bit and the count. Those from HOMES_END on are zero.
 pub const MASKS_AT: usize = 1;
 
 pub const WORKING_AT: usize = MASKS_AT + MASK_COUNT;
 
-const FAILED_AT: usize = WORKING_AT + 1;
+pub const FAILED_AT: usize = WORKING_AT + 1;
 
 pub const MARKS_AT: usize = FAILED_AT + 1;
 
@@ -32,7 +37,7 @@ pub const HOMES_END: usize = HOMES_AT + TRAN_COUNT;
 const ALL_MARKS: u8 = 0xff;
 
 // The highest bit: stopped in byte 0, open in a transaction's byte.
-const STOPPED: u8 = 0x80;
+pub const STOPPED: u8 = 0x80;
 
 pub const OPEN: u8 = 0x80;
 
@@ -42,11 +47,18 @@ pub const FIELD: u8 = 16;
 pub const FIELD_BOUND: u8 = 8;
 
 // The home card in the byte of an open transaction.
-pub fn home_of(b: u8) -> u8
+fn home_of(b: u8) -> u8
     requires { ⌜ isSome (homeIn b) ≡ true ⌝ }
     ensures { λ r. ⌜ (homeIn b ≡ some r) × (r < cardCount) ⌝ }
 {
     b / FIELD % FIELD_BOUND
+}
+
+// Whether a transaction's byte is open with this home card: its upper four bits are 8 and the card.
+pub fn is_home(b: u8, card: Card) -> bool
+    ensures { λ r. ⌜ r ≡ isCard (homeIn b) (card .0) ⌝ }
+{
+    (b / FIELD) as u16 == FIELD_BOUND as u16 + card.0 as u16
 }
 
 // A transaction's byte, all zero when not open.
@@ -157,5 +169,17 @@ pub fn decode(s: &[u8]) -> Control
             s[21],
             s[22],
         ],
+    }
+}
+
+// Active placement i, oldest first, read off the bytes without the rest of the struct.
+pub fn placement_at(s: &[u8], i: usize) -> Placement
+    requires { ⌜ controlSize ≤ length (now s) ⌝ }
+    requires { ⌜ i < mostActive ⌝ }
+    ensures { λ r. ⌜ meant r ≡ placementAt (λ n. getD (now (s .entry)) n 0) i ⌝ }
+{
+    Placement {
+        mask: s[MASKS_AT + i],
+        rails: (s[MARKS_AT] & (FIRST_MARK >> i)) != 0,
     }
 }

@@ -228,10 +228,8 @@ fn first_mark(rails: bool) -> u8
 fn kept_home(card: Card, b: u8) -> u8
     ensures { λ r. ⌜ r ≡ keptHome (card .0) b ⌝ }
 {
-    if b >= OPEN {
-        if codec::home_of(b) == card.0 {
-            return 0;
-        }
+    if codec::is_home(b, card) {
+        return 0;
     }
     b
 }

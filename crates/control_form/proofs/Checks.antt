@@ -90,17 +90,9 @@ unfolding homeTest
 home-test k t lo hi = rw (lt-ltb 0 t lo, lt-ltb t tranBound hi)
 
 module _ (k : Control) where
-  homes-are : allBelow tranBound (λ t. homeOk (meaning k .stopped) (meaning k .working) (meaning k .home t)) ≡ allBelow tranBound (homeTest k)
+  pub homes-are : allBelow tranBound (λ t. homeOk (meaning k .stopped) (meaning k .working) (meaning k .home t)) ≡ allBelow tranBound (homeTest k)
   unfolding meaning homeTest
   homes-are = refl
-
-  pub home-fails : (t : ℕ) → t < tranBound → homeTest k t ≡ false
-      → false ≡ allBelow tranBound (λ t. homeOk (meaning k .stopped) (meaning k .working) (meaning k .home t))
-  home-fails t h e = sym (homes-are ∙ all-fails (homeTest k) tranBound t h e)
-
-  pub homes-passed : (t : ℕ) → tranBound ≡ t → allBelow t (homeTest k) ≡ true
-      → true ≡ allBelow tranBound (λ t. homeOk (meaning k .stopped) (meaning k .working) (meaning k .home t))
-  homes-passed t e h = sym (homes-are ∙ ap (λ (n : ℕ). allBelow n (homeTest k)) e ∙ h)
 
 -- ---- bytes, and the struct that was read off them
 module _ (l : List ℕ) (k : Control) (e : k ≡ structOf l) where

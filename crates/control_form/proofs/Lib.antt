@@ -1,5 +1,10 @@
 pub mod RoundTrip
 pub mod Checks
+pub mod Ranges
 pub mod ZeroFields
+pub mod Homes
+pub mod Zeros
+pub mod Idle
+pub mod Clauses
 pub mod Put
 pub mod FormTable

@@ -19,37 +19,10 @@ use Rattle.control_form.specs.ControlForm.{countOk, zeroFieldsOk}
 use Rattle.control.specs.Meaning.{structOf, meaning, bitsFrom, Counted}
 use Rattle.control_form.specs.Reading.{allFrom, isZeroAt, isHomeAt}
 use Rattle.control_form.proofs.Checks.{count-counted, means-is}
+use Rattle.control_form.proofs.Ranges.{all-from, from-all}
 use Rattle.control.proofs.Marks.{marks-clean}
 use Rattle.control.proofs.Struct.{at-row, byte-first, byte-mask, byte-unused, byte-working, byte-failed, byte-marks}
 use Rattle.control.proofs.Struct.{byte-home, byte-zero}
-
--- ---- a test of the numbers from a on and below e, from its instances and back; the loop over it
-module _ (a : ℕ) (f : ℕ → Bool) where
-  all-from : (e : ℕ) → ((n : ℕ) → a ≤ n → n < e → f n ≡ true) → allFrom a e f ≡ true
-  unfolding allFrom
-  all-from e h = all-below e (λ n. ltb n a || f n)
-      (λ n b. ⊎-elim (λ p. or-l (ltb n a) (f n) (lt-ltb n a p)) (λ p. or-r (ltb n a) (f n) (h n p b)) (lt-or-ge n a))
-
-  from-all : (e n : ℕ) → allFrom a e f ≡ true → a ≤ n → n < e → f n ≡ true
-  unfolding allFrom
-  from-all e n t h b = sym (at n h) ∙ below-all e (λ n. ltb n a || f n) n t b
-    where
-      at : (n : ℕ) → a ≤ n → (ltb n a || f n) ≡ f n
-      at n h = rw (le-ltb n a h)
-
-  pub from-none : allFrom a a f ≡ true
-  from-none = all-from a (λ n p q. absurd (omega arith))
-
-  pub from-more : (i : ℕ) → f i ≡ true → allFrom a i f ≡ true → allFrom a (i + 1) f ≡ true
-  unfolding allFrom
-  from-more i t h = all-more (λ n. ltb n a || f n) i (or-r (ltb i a) (f i) t) h
-
-  pub from-fails : (e i : ℕ) → a ≤ i → i < e → f i ≡ false → false ≡ allFrom a e f
-  unfolding allFrom
-  from-fails e i h b x = sym (all-fails (λ n. ltb n a || f n) e i b (rw (le-ltb i a h) x))
-
-  pub from-passed : (e i : ℕ) → e ≡ i → allFrom a i f ≡ true → true ≡ allFrom a e f
-  from-passed e i x h = sym (ap (λ (n : ℕ). allFrom a n f) x ∙ h)
 
 -- ---- each byte, with the struct that was read off all
 unfoldable byteTest : List ℕ → ℕ → Bool
@@ -165,6 +138,10 @@ module _ (l : List ℕ) (w : Counted (structOf l)) (bytes : (n : ℕ) → getD l
 pub count-few : (l : List ℕ) → countOk (λ n. getD l n 0) ≡ true → countIn (getD l 0 0) ≤ 4
 unfolding structOf
 count-few l c = count-counted l (structOf l) refl c .few
+
+pub count-some : (l : List ℕ) → countOk (λ n. getD l n 0) ≡ true → 1 ≤ countIn (getD l 0 0)
+unfolding structOf
+count-some l c = count-counted l (structOf l) refl c .some
 
 -- The whole clause by these parts.
 pub zero-fields-by : (l : List ℕ) → countOk (λ n. getD l n 0) ≡ true → ((n : ℕ) → getD l n 0 < 256) → zeroFieldsOk (λ n. getD l n 0) ≡ parts l

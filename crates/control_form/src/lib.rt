@@ -1,48 +1,56 @@
 // The control form, a clause a function, and the reader that checks it.
 ghost use mathlib.Core.Path.{_≡_};
-ghost use mathlib.Core.Bool.{true, _||_};
-ghost use Prim.Native.Nat.{_≤_};
-ghost use lib.Dec.{eqb};
+ghost use mathlib.Core.Bool.{true, false};
+ghost use Prim.Native.Nat.{_+_, _≤_};
+ghost use lib.Dec.{leb};
 ghost use lib.ListN.{length, getD};
 ghost use Rattle.lists.specs.Tests.{all, allBelow};
-ghost use Rattle.image.specs.Layout.{controlSize, tranBound};
-ghost use Rattle.mask.specs.Masks.{byte, isWithin};
+ghost use Rattle.image.specs.Layout.{controlSize};
+ghost use Rattle.mask.specs.Masks.{byte};
 ghost use Rattle.mask.specs.Placements.{fromMask};
 ghost use Rattle.method.specs.ControlPart.{active};
-ghost use Rattle.control.specs.ControlBytes.{homeByte, homeIn};
-ghost use Rattle.control_form.specs.ControlForm.{
-  countOk,
-  zeroFieldsOk,
-  membersOk,
-  fourthOk,
-  isSafe,
-  homeOk,
-  partOk,
-  controlForm,
+ghost use Rattle.control.specs.ControlBytes.{countIn};
+ghost use Rattle.control_form.specs.ControlForm.{countOk, membersOk, isSafe, controlForm};
+ghost use Rattle.control.specs.Meaning.{meaning, mostActive, Counted};
+ghost use Rattle.control_form.specs.Reading.{
+  Reads,
+  allFrom,
+  fourthIn,
+  homeFitsAt,
+  homeOkAt,
+  isHomeAt,
+  isZeroAt,
+  maskTest,
+  newestIn,
+  otherZeros,
+  placementOk,
 };
-ghost use Rattle.control.specs.Meaning.{structOf, meaning, Counted};
-ghost use Rattle.control_form.specs.Reading.{allFrom, isZeroAt, isHomeAt, Reads};
+
+mod words;
+
 use control::Control;
 use control::MOST_ACTIVE;
-use control::TRAN_COUNT;
+use control::codec::FAILED_AT;
 use control::codec::FIELD;
 use control::codec::FIELD_BOUND;
 use control::codec::HOMES_AT;
 use control::codec::HOMES_END;
 use control::codec::MARKS_AT;
 use control::codec::MASKS_AT;
-use control::codec::OPEN;
+use control::codec::STOPPED;
 use control::codec::WORKING_AT;
 use control::codec::decode;
-use control::codec::home_of;
 use control::codec::no_marks;
-use image::Card;
+use words::WORD_SIZE;
 
 // Row 1 or 2 of the refusal table, or else 0 and the control part.
 pub struct Found {
     pub refusal: u8,
     pub control: Control,
 }
+
+// The mask of all cards.
+const ALL_CARDS: u8 = 0xff;
 
 // Every record lies on as many cards.
 pub const COPIES: u32 = image::COPY_COUNT as u32;
@@ -59,67 +67,44 @@ fn count_ok(s: &[u8]) -> bool
     count <= MOST_ACTIVE
 }
 
-// The bytes from one on and below another are zero.
-fn zeros(s: &[u8], from: usize, end: usize) -> bool
-    requires { ⌜ end ≤ length (now s) ⌝ }
-    requires { ⌜ from ≤ end ⌝ }
-    ensures { λ r. ⌜ r ≡ allFrom from end (isZeroAt (now (s .entry))) ⌝ }
-{
-    let mut i = from;
-    while i < end {
-        if s[i] != 0 {
-            return false;
-        }
-        i += 1;
-    }
-    true
-}
-
-// A transaction's byte is all zero when not open, and else zero behind the home card.
-fn home_byte_ok(b: u8) -> bool
-    ensures { λ r. ⌜ r ≡ eqb b (homeByte (homeIn b)) ⌝ }
-{
-    if b < OPEN {
-        return b == 0;
-    }
-    b % FIELD == 0
-}
-
-// Every transaction's byte is so.
-fn home_bytes_ok(s: &[u8]) -> bool
+// The masks from the count on are zero.
+fn masks_end(s: &[u8], count: u8) -> bool
     requires { ⌜ controlSize ≤ length (now s) ⌝ }
-    ensures { λ r. ⌜ r ≡ allFrom 8 23 (isHomeAt (now (s .entry))) ⌝ }
+    requires { ⌜ (1 ≤ count) × (count ≤ mostActive) ⌝ }
+    ensures { λ r. ⌜ r ≡ allFrom (1 + count) 5 (isZeroAt (now (s .entry))) ⌝ }
 {
-    let mut i = HOMES_AT;
-    while i < HOMES_END {
-        if !home_byte_ok(s[i]) {
-            return false;
-        }
-        i += 1;
-    }
-    true
+    words::half(s, MASKS_AT) >> (count * 8) == 0
 }
 
-// Zero fields are zero. Masks that count, working and failed have none; of the marks the bits from the count on.
+// The bytes behind the transactions' are zero.
+fn tail_ok(s: &[u8]) -> bool
+    requires { ⌜ controlSize ≤ length (now s) ⌝ }
+    ensures { λ r. ⌜ r ≡ allFrom 23 controlSize (isZeroAt (now (s .entry))) ⌝ }
+{
+    if s[HOMES_END] != 0 {
+        return false;
+    }
+    words::word(s, HOMES_END + 1) == 0
+}
+
+// Zero fields are zero, but for the transactions' bytes. Masks that count, working and failed have none; of the marks
+// the bits from the count on.
 fn zero_fields_ok(s: &[u8]) -> bool
     requires { ⌜ controlSize ≤ length (now s) ⌝ }
     requires { ⌜ countOk (λ n. getD (now s) n 0) ≡ true ⌝ }
-    ensures { λ r. ⌜ r ≡ zeroFieldsOk (λ n. getD (now (s .entry)) n 0) ⌝ }
+    ensures { λ r. ⌜ r ≡ otherZeros (now (s .entry)) ⌝ }
 {
     if s[0] % FIELD != 0 {
         return false;
     }
     let count = s[0] / FIELD % FIELD_BOUND;
-    if !zeros(s, MASKS_AT + count as usize, WORKING_AT) {
+    if !masks_end(s, count) {
         return false;
     }
     if (s[MARKS_AT] & no_marks(count)) != 0 {
         return false;
     }
-    if !home_bytes_ok(s) {
-        return false;
-    }
-    zeros(s, HOMES_END, image::CONTROL_SIZE)
+    tail_ok(s)
 }
 
 // A placement with this mask has at least two members, all working or failed.
@@ -132,42 +117,27 @@ fn members_ok(working: u8, failed: u8, mask: u8) -> bool
     mask::within_either(mask, working, failed)
 }
 
-// Each active placement has at least two members, all working or failed.
-fn all_members_ok(k: Control) -> bool
-    requires { ⌜ Counted k ⌝ }
-    ensures { λ r. ⌜ r ≡ all (membersOk (meaning k .working) (meaning k .failed)) (active (meaning k)) ⌝ }
-{
-    let mut i: u8 = 0;
-    while i < k.count {
-        let at = i as usize;
-        if !members_ok(k.working, k.failed, k.masks[at]) {
-            return false;
-        }
-        i += 1;
-    }
-    true
-}
-
 // When the count is 4, the third mask is the fourth plus exactly one failed card.
-fn fourth_ok(k: Control) -> bool
-    requires { ⌜ Counted k ⌝ }
-    ensures { λ r. ⌜ r ≡ fourthOk (meaning k .failed) (meaning k .newest) (meaning k .older) ⌝ }
+fn fourth_ok(s: &[u8]) -> bool
+    requires { ⌜ controlSize ≤ length (now s) ⌝ }
+    ensures { λ r. ⌜ r ≡ fourthIn (now (s .entry)) ⌝ }
 {
-    if k.count == MOST_ACTIVE {
-        return mask::one_more(k.failed, k.masks[3], k.masks[2]);
+    if s[0] / FIELD % FIELD_BOUND == MOST_ACTIVE {
+        return mask::one_more(s[FAILED_AT], s[MASKS_AT + 3], s[MASKS_AT + 2]);
     }
     true
 }
 
 // If not stopped, the newest placement's members all work.
-fn newest_works(k: Control) -> bool
-    requires { ⌜ Counted k ⌝ }
-    ensures { λ r. ⌜ r ≡ (meaning k .stopped || isWithin (meaning k .newest .mask) (meaning k .working)) ⌝ }
+fn newest_works(s: &[u8]) -> bool
+    requires { ⌜ controlSize ≤ length (now s) ⌝ }
+    ensures { λ r. ⌜ r ≡ newestIn (now (s .entry)) ⌝ }
 {
-    if k.stopped {
+    if s[0] >= STOPPED {
         return true;
     }
-    mask::within(k.newest_mask(), k.working)
+    let count = (s[0] / FIELD % FIELD_BOUND) as usize;
+    mask::within(s[count], s[WORKING_AT])
 }
 
 // A placement with this mask has at most one failed and at least two working members.
@@ -196,74 +166,93 @@ pub fn all_safe(k: Control) -> bool
     true
 }
 
-// If not stopped, each active placement has at most one failed and at least two working members.
-fn runs_safe(k: Control) -> bool
-    requires { ⌜ Counted k ⌝ }
-    ensures { λ r.
-        ⌜ r ≡ (meaning k .stopped || all (isSafe (meaning k .working) (meaning k .failed)) (active (meaning k))) ⌝ }
+// A placement with this mask has at least two members, all working or failed; if the store is not stopped, at most one
+// of them failed and at least two work.
+fn placement_ok(stopped: bool, working: u8, failed: u8, mask: u8) -> bool
+    ensures { λ r. ⌜ r ≡ placementOk stopped (byte working) (byte failed) (fromMask (byte mask)) ⌝ }
 {
-    if k.stopped {
+    if !members_ok(working, failed, mask) {
+        return false;
+    }
+    if stopped {
         return true;
     }
-    all_safe(k)
+    is_safe(working, failed, mask)
 }
 
-// By a transaction's byte: it is not open, or the store is not stopped and its home works.
-fn home_ok(stopped: bool, working: u8, b: u8) -> bool
-    ensures { λ r. ⌜ r ≡ homeOk stopped (byte working) (homeIn b) ⌝ }
-{
-    if b >= OPEN {
-        if stopped {
-            return false;
-        }
-        return mask::has(working, Card(home_of(b)));
-    }
-    true
-}
-
-// If not stopped, each open transaction's home works. If stopped, none is open.
-fn homes_ok(k: Control) -> bool
-    ensures { λ r.
-        ⌜ r ≡ allBelow tranBound (λ t. homeOk (meaning k .stopped) (meaning k .working) (meaning k .home t)) ⌝ }
-{
-    let mut t = 1;
-    while t <= TRAN_COUNT {
-        let at = t - 1;
-        if !home_ok(k.stopped, k.working, k.homes[at]) {
-            return false;
-        }
-        t += 1;
-    }
-    true
-}
-
-// The clauses on the control part that the bytes show.
-fn part_ok(k: Control) -> bool
-    requires { ⌜ Counted k ⌝ }
-    ensures { λ r. ⌜ r ≡ partOk (meaning k) ⌝ }
-{
-    if !mask::apart(k.working, k.failed) {
-        return false;
-    }
-    if !all_members_ok(k) {
-        return false;
-    }
-    if !fourth_ok(k) {
-        return false;
-    }
-    if !newest_works(k) {
-        return false;
-    }
-    if !runs_safe(k) {
-        return false;
-    }
-    homes_ok(k)
-}
-
-// The control form of bytes, with the struct that they show.
-fn form_ok(s: &[u8], k: Control) -> bool
+// Each active placement is so.
+fn placements_ok(s: &[u8]) -> bool
     requires { ⌜ controlSize ≤ length (now s) ⌝ }
-    requires { ⌜ k ≡ structOf (now s) ⌝ }
+    ensures { λ r. ⌜ r ≡ allBelow (countIn (getD (now (s .entry)) 0 0))
+        (maskTest (placementOk (leb 128 (getD (now (s .entry)) 0 0))) (now (s .entry))) ⌝ }
+{
+    let stopped = s[0] >= STOPPED;
+    let count = (s[0] / FIELD % FIELD_BOUND) as usize;
+    let working = s[WORKING_AT];
+    let failed = s[FAILED_AT];
+    let mut i = 0;
+    while i < count {
+        if !placement_ok(stopped, working, failed, s[MASKS_AT + i]) {
+            return false;
+        }
+        i += 1;
+    }
+    true
+}
+
+// No transaction is open.
+fn none_open(s: &[u8]) -> bool
+    requires { ⌜ controlSize ≤ length (now s) ⌝ }
+    requires { ⌜ allFrom 8 24 (isHomeAt (now s)) ≡ true ⌝ }
+    ensures { λ r. ⌜ r ≡ allFrom 8 24 (homeOkAt true (now (s .entry))) ⌝ }
+{
+    if words::word(s, HOMES_AT) != 0 {
+        return false;
+    }
+    words::word(s, HOMES_AT + WORD_SIZE) == 0
+}
+
+// Each open transaction's home works: none is a card that does not.
+fn homes_work(s: &[u8]) -> bool
+    requires { ⌜ controlSize ≤ length (now s) ⌝ }
+    requires { ⌜ allFrom 8 24 (isHomeAt (now s)) ≡ true ⌝ }
+    ensures { λ r. ⌜ r ≡ allFrom 8 24 (homeOkAt false (now (s .entry))) ⌝ }
+{
+    let mut idle = mask::without(ALL_CARDS, s[WORKING_AT]);
+    while idle != 0 {
+        let card = mask::first_member(idle);
+        if !words::lack_home(s, HOMES_AT, card) {
+            return false;
+        }
+        if !words::lack_home(s, HOMES_AT + WORD_SIZE, card) {
+            return false;
+        }
+        idle = mask::without_first(idle);
+    }
+    true
+}
+
+// Every transaction's byte is all zero when not open, and else zero behind the home card; where it is open, the store is
+// not stopped and its home works. The byte behind them, which is zero, fills the second word.
+fn homes_ok(s: &[u8]) -> bool
+    requires { ⌜ controlSize ≤ length (now s) ⌝ }
+    ensures { λ r. ⌜ r ≡ allFrom 8 24 (homeFitsAt (now (s .entry))) ⌝ }
+{
+    if !words::are_homes(s, HOMES_AT) {
+        return false;
+    }
+    if !words::are_homes(s, HOMES_AT + WORD_SIZE) {
+        return false;
+    }
+    if s[0] >= STOPPED {
+        return none_open(s);
+    }
+    homes_work(s)
+}
+
+// The control form of bytes.
+fn form_ok(s: &[u8]) -> bool
+    requires { ⌜ controlSize ≤ length (now s) ⌝ }
     ensures { λ r. ⌜ r ≡ controlForm (now (s .entry)) ⌝ }
 {
     if !count_ok(s) {
@@ -272,7 +261,30 @@ fn form_ok(s: &[u8], k: Control) -> bool
     if !zero_fields_ok(s) {
         return false;
     }
-    part_ok(k)
+    if !mask::apart(s[WORKING_AT], s[FAILED_AT]) {
+        return false;
+    }
+    if !placements_ok(s) {
+        return false;
+    }
+    if !fourth_ok(s) {
+        return false;
+    }
+    if !newest_works(s) {
+        return false;
+    }
+    homes_ok(s)
+}
+
+// No control part, and why.
+fn unread(refusal: u8) -> Found
+    ensures { λ r. ⌜ r .refusal ≡ refusal ⌝ }
+{
+    let none = Control::started(0);
+    Found {
+        refusal: refusal,
+        control: none,
+    }
 }
 
 // The control part of an image, or why it cannot be read.
@@ -280,19 +292,12 @@ pub fn read(image: &[u8]) -> Found
     ensures { λ r. ⌜ Reads (now (image .entry)) r ⌝ }
 {
     if image.len() != image::IMAGE_SIZE {
-        let none = Control::started(0);
-        return Found {
-            refusal: 1,
-            control: none,
-        };
+        return unread(1);
+    }
+    if !form_ok(image) {
+        return unread(2);
     }
     let k = decode(image);
-    if !form_ok(image, k) {
-        return Found {
-            refusal: 2,
-            control: k,
-        };
-    }
     Found {
         refusal: 0,
         control: k,

@@ -6,8 +6,9 @@ use native.Mathlib.Omega.{arith}
 use lib.ListN.{length, take, drop}
 use lib.Seq.{drop-drop}
 use borrow.Rule.Slice.PartMut.{midOf, putMid}
-use Rattle.lists.specs.Segments.{segment, splice}
+use Rattle.lists.specs.Segments.{Keeps, segment, splice, within}
 use Rattle.lists.proofs.Segments.{length-segment, length-splice, put-put}
+use Rattle.image.specs.Layout.{blockAddress, blockAt, blockSize}
 
 -- A part that was lent is a segment, and comes back as a splice.
 pub part-is : (a k : ℕ) (l : List ℕ) (n : ℕ) → k ≡ n → midOf a k l ≡ segment l a n
@@ -33,3 +34,16 @@ part-left a k l xs ys w e = part-back a k l ys (ap length w ∙ sym e) ∙ ap (s
 
 pub length-part : (a k : ℕ) (l : List ℕ) (n : ℕ) → k ≡ n → a + n ≤ length l → length (midOf a k l) ≡ n
 length-part a k l n e h = ap length (part-is a k l n e) ∙ length-segment l a n h
+
+-- A part that the callee left as f has it.
+pub part-within : (f : List ℕ → List ℕ) (n : ℕ) → Keeps n f → (a k : ℕ) (l ys : List ℕ) → ys ≡ f (midOf a k l) → k ≡ n → a + n ≤ length l
+    → putMid a k l ys ≡ within l a n f
+unfolding within
+part-within f n keeps a k l ys w e h =
+    let v : ys ≡ f (segment l a n) = w ∙ ap f (part-is a k l n e) in
+    part-left a k l (f (segment l a n)) ys v (e ∙ sym (keeps (segment l a n) (length-segment l a n h)))
+
+-- A block of a card is a part of the image.
+pub part-block : (g : List ℕ) (c b a k : ℕ) → a ≡ blockAddress c b → k ≡ blockSize → midOf a k g ≡ blockAt g c b
+unfolding blockAt
+part-block g c b a k ea ek = part-is a k g blockSize ek ∙ ap (λ (m : ℕ). segment g m blockSize) ea

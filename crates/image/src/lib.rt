@@ -1,4 +1,5 @@
-// The image: a lent list of bytes, its layout, the four namings, and the one writer of blocks.
+// The image: a lent list of bytes, its layout, the four namings, and the writer of whole blocks. Crate slot writes single
+// slots in place.
 ghost use mathlib.Core.Path.{_≡_};
 ghost use Prim.Native.Nat.{_+_, _≤_, _<_};
 ghost use lib.ListN.{length};
@@ -75,7 +76,7 @@ pub fn read_at(s: &[u8], at: usize) -> [u8; 41]
     bytes
 }
 
-// The block writer: writes one block of a card's table.
+// The block writer: writes a whole block of a card's table.
 pub fn write_block(table: &mut [u8], block: Block, bytes: [u8; 41])
     requires { ⌜ (length (now table) ≡ tableSize) × (block .0 < blockCount) ⌝ }
     ensures { λ _. ⌜ now (table .exit) ≡ splice (now (table .entry)) (blockStart (block .0)) bytes ⌝ }
@@ -99,7 +100,7 @@ pub fn block_address(card: Card, block: Block) -> usize
     table_start(card) + block.0 as usize * BLOCK_SIZE
 }
 
-// Writes one block of a card: the card's table, a part from the middle of the image, is lent on to the block writer.
+// Writes a whole block of a card: the card's table, a part from the middle of the image, is lent on to the block writer.
 pub fn put_block(image: &mut [u8], card: Card, block: Block, bytes: [u8; 41])
     requires { ⌜ Whole (now image) × (card .0 < cardCount) × (block .0 < blockCount) ⌝ }
     ensures { λ _. ⌜ now (image .exit) ≡ putBlock (now (image .entry)) (card .0) (block .0) bytes ⌝ }

@@ -55,7 +55,9 @@ fn locked_at(image: &[u8], from: u8, card: Card, block: Block) -> bool
         ⌜ r ≡ (hasCard (byte from) (card .0) && anyLocked (blockIn (now (image .entry)) (card .0) (block .0))) ⌝ }
 {
     if mask::has(from, card) {
-        return slot::any_locked(image::get_block(image, card, block));
+        let start = image::block_address(card, block);
+        let end = start + image::BLOCK_SIZE;
+        return slot::block::any_locked(&image[start..end]);
     }
     false
 }

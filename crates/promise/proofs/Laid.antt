@@ -1,6 +1,7 @@
 -- What block work leaves of an image: the blocks that were written, all else as found. Assumes nothing.
 use Prim.Native.Nat.{_+_, _-_, _<_, _≤_, ℕ}
 use borrow.Author.Tests.{lt-ltb, ne-eqb}
+use borrow.Rule.Slice.PartMut.{midOf}
 use lib.Dec.{eqb}
 use lib.ListN.{getD, length}
 use lib.Seq.{ext-getD}
@@ -16,6 +17,7 @@ use Rattle.lists.proofs.Segments.{getD-after, getD-before}
 use Rattle.image.specs.Layout.{Whole, blockAddress, blockAt, blockCount, blockSize, cardCount, controlBytes}
 use Rattle.image.specs.Layout.{controlSize, imageSize, putBlock}
 use Rattle.image.proofs.Blocks.{put-same, byte-of-block, byte-of-control, control-put, length-block, put-other, whole-put}
+use Rattle.image.proofs.Parts.{part-block}
 use Rattle.slot.specs.Blocks.{BlockBytes, ofList}
 use Rattle.slot.proofs.Blocks.{block-path, byte-in, of-list}
 use Rattle.method.specs.Rules.{updated}
@@ -39,6 +41,15 @@ is-block g w c b hc hb x e = block-path (blockIn g c b) x (block-is g w c b hc h
 -- the block that code has read
 pub of-block : (g : Image) → Whole g → (c b : ℕ) → c < cardCount → b < blockCount → ofList (blockAt g c b) ≡ blockIn g c b
 of-block g w c b hc hb = ap ofList (sym (block-is g w c b hc hb)) ∙ of-list (blockIn g c b)
+
+-- the block that code was lent
+pub of-part : (g : Image) → Whole g → (c b : ℕ) → c < cardCount → b < blockCount → (a k : ℕ) → a ≡ blockAddress c b → k ≡ blockSize
+    → ofList (midOf a k g) ≡ blockIn g c b
+of-part g w c b hc hb a k ea ek = ap ofList (part-block g c b a k ea ek) ∙ of-block g w c b hc hb
+
+-- no byte lies behind the blocks of a table, or behind the tables
+no-tail : (n : ℕ) → controlSize ≤ n → n < imageSize → isBlockByte n ≡ true
+no-tail n l h = rw (lt-ltb (cardAt n) cardCount (omega arith), lt-ltb (blockNumber n) blockCount (omega arith))
 
 -- ---- the image with the blocks w, its control bytes as found
 unfoldable pub laid : Writes → Image → Image
@@ -95,6 +106,11 @@ module _ (w : Writes) (g : Image) where
   unfolding laid
   laid-ext out long low blk tail = after-ext (λ n. getD g n 0) w g out long low (λ c b hc hb. is-block out long c b hc hb (updated (w c b) (blockIn g c b)) (blk c b hc hb)) tail
 
+  -- the same by the blocks alone: they are all that lies behind the control bytes
+  pub laid-blocks : (out : Image) → Whole out → ((n : ℕ) → n < controlSize → getD out n 0 ≡ getD g n 0)
+      → ((c b : ℕ) → c < cardCount → b < blockCount → blockAt out c b ≡ updated (w c b) (blockIn g c b) .0) → out ≡ laid w g
+  laid-blocks out long low blk = laid-ext out long low blk (λ n l h off. tf (isBlockByte n) (no-tail n l h) off)
+
   -- nothing is written
   pub laid-none : Whole g → ((c b : ℕ) → c < cardCount → b < blockCount → w c b ≡ none) → g ≡ laid w g
   laid-none long nil = laid-ext g long (λ n h. refl) (λ c b hc hb. rw (nil c b hc hb) (sym (block-is g long c b hc hb))) (λ n l h e. refl)
@@ -124,11 +140,13 @@ module _ (w : Writes) (g : Image) where
       there : (d e : ℕ) → d < cardCount → e < blockCount → blockAt (putBlock (laid w g) c b (x .0)) d e ≡ updated (putOne w c b x d e) (blockIn g d e) .0
       there d e hd he = by-pair (blockAt (putBlock (laid w g) c b (x .0)) d e ≡ updated (putOne w c b x d e) (blockIn g d e) .0) d c e b
           (λ p q. rw (p, q, eqb-self c, eqb-self b) (put-same (laid w g) whole-laid c hc b hb (x .0) (x .1)))
-          (λ n. put-other (laid w g) whole-laid c hc b hb (x .0) (x .1) d hd e he n ∙ laid-block d e hd he ∙ ap (λ (o : Option BlockBytes). updated o (blockIn g d e) .0) (sym (put-elsewhere w c b x d e n)))
+          (λ n. put-other (laid w g) whole-laid c hc b hb (x .0) (x .1) d hd e he n ∙ laid-block d e hd he
+          ∙ ap (λ (o : Option BlockBytes). updated o (blockIn g d e) .0) (sym (put-elsewhere w c b x d e n)))
 
       put : (out : Image) → out ≡ putBlock (laid w g) c b (x .0) → out ≡ laid (putOne w c b x) g
       put out is = unfold laid in (after-ext (λ n. getD g n 0) (putOne w c b x) g out long
-          (λ n h. sym (byte-of-control out n h) ∙ ap (λ (l : Image). getD l n 0) (ap controlBytes is ∙ control-put (laid w g) whole-laid c hc b hb (x .0) (x .1)) ∙ byte-of-control (laid w g) n h ∙ laid-control n h)
+          (λ n h. sym (byte-of-control out n h) ∙ ap (λ (l : Image). getD l n 0) (ap controlBytes is ∙ control-put (laid w g) whole-laid c hc b hb (x .0) (x .1))
+          ∙ byte-of-control (laid w g) n h ∙ laid-control n h)
           (λ d e hd he. is-block out long d e hd he (updated (putOne w c b x d e) (blockIn g d e)) (ap (λ (l : Image). blockAt l d e) is ∙ there d e hd he))
           (λ n l h o. ap (λ (i : Image). getD i n 0) is ∙ outside (laid w g) whole-laid c b hc hb (x .0) (x .1) n l o ∙ laid-tail n l h o))
         where

@@ -1,13 +1,11 @@
 -- The laws that finish get, store and delete. Assumes nothing.
 use Prim.Native.Nat.{_/_, _<_, ℕ}
 use lib.Dec.{ltb}
-use lib.ListN.{length, length-take, take}
 use mathlib.Core.Bool.{Bool, _&&_, cond, false, true}
 use mathlib.Core.List.{List, [], _∷_}
 use mathlib.Core.Logic.{_≢_}
 use mathlib.Core.Option.{Option, none, some}
 use mathlib.Core.Path.{_∙_, _≡_, ap, refl, subst, sym}
-use native.Mathlib.Omega.{arith}
 use Rattle.image.specs.Layout.{Whole, recordCount, slotCount, tranBound}
 use Rattle.mask.specs.Placements.{Usable, meant}
 use Rattle.slot.specs.Words.{stateOf}
@@ -27,6 +25,7 @@ use Rattle.promise.proofs.Finish.{by-blocks, by-look, by-row, form-good, form-l
 use Rattle.promise.proofs.Laid.{laid}
 use Rattle.promise.proofs.View.{newest-usable as newest-active-usable}
 use Rattle.trail.specs.Trail.{holdersIn}
+use Rattle.trail.proofs.Listed.{none-listed, some-listed}
 use Rattle.records.specs.Access.{Ready, withValue}
 use Rattle.records.specs.Slots.{seenIn}
 use Rattle.records.specs.declared.access.Access.{Access}
@@ -74,23 +73,17 @@ module _ (g : Image) (t r : ℕ) (a : Access) (ready : Ready g t r a) where
   store-done n h w behind e l = by-blocks (store t r n) refl g (ready .formed) Ok w behind (ready .accepted ∙ store-rows (controlIn g) (look cabinet (stateIn g)) t r n h)
       (unfold act in (ap (writing cabinet ok (controlIn g)) e)) l
 
-  pub store-new : (n : ℕ) → storable n ≡ true → (behind : Image) → a .holders .count ≡ 0 → behind ≡ laid (layBlock cabinet (controlIn g) t r (some n)) g → Done (store t r n) g Ok behind
-  store-new n h behind z l = store-done n h (layBlock cabinet (controlIn g) t r (some n)) behind (ap (storeWrites cabinet (controlIn g) (look cabinet (stateIn g)) t r n) nobody) l
-    where
-      nobody : holdersIn g (r / slotCount) ≡ []
-      nobody = sym (ready .holders-are .are) ∙ ap (λ (i : ℕ). take i (a .holders .cards)) z
+  pub store-new : (n : ℕ) → storable n ≡ true → (behind : Image) → a .holders .cards ≡ 0
+      → behind ≡ laid (layBlock cabinet (controlIn g) t r (some n)) g → Done (store t r n) g Ok behind
+  store-new n h behind z l = store-done n h (layBlock cabinet (controlIn g) t r (some n)) behind
+      (ap (storeWrites cabinet (controlIn g) (look cabinet (stateIn g)) t r n) (none-listed (ready .holders-are) z)) l
 
-  pub store-held : (n : ℕ) → storable n ≡ true → (behind : Image) → a .holders .count ≢ 0 → behind ≡ laid (lockHolders cabinet (controlIn g) (look cabinet (stateIn g)) t r (some n)) g
-      → Done (store t r n) g Ok behind
-  store-held n h behind d l = store-done n h (lockHolders cabinet (controlIn g) (look cabinet (stateIn g)) t r (some n)) behind (go (holdersIn g (r / slotCount)) some-holder) l
+  pub store-held : (n : ℕ) → storable n ≡ true → (behind : Image) → a .holders .cards < 256 → a .holders .cards ≢ 0
+      → behind ≡ laid (lockHolders cabinet (controlIn g) (look cabinet (stateIn g)) t r (some n)) g → Done (store t r n) g Ok behind
+  store-held n h behind small d l = store-done n h (lockHolders cabinet (controlIn g) (look cabinet (stateIn g)) t r (some n)) behind
+      (go (holdersIn g (r / slotCount)) (some-listed (ready .holders-are) small d)) l
     where
-      some-holder : length (holdersIn g (r / slotCount)) ≢ 0
-      some-holder e =
-          let s = ready .holders-are .sound in
-          let long : length (take (a .holders .count) (a .holders .cards)) ≡ 0 = ap length (ready .holders-are .are) ∙ e in
-          d (omega (arith, simp length-take at long, s .few, s .long))
-
-      go : (l : List ℕ) → length l ≢ 0 → storeWrites cabinet (controlIn g) (look cabinet (stateIn g)) t r n l ≡ lockHolders cabinet (controlIn g) (look cabinet (stateIn g)) t r (some n)
+      go : (l : List ℕ) → l ≢ [] → storeWrites cabinet (controlIn g) (look cabinet (stateIn g)) t r n l ≡ lockHolders cabinet (controlIn g) (look cabinet (stateIn g)) t r (some n)
       go [] k = absurd (k refl)
       go (c ∷ l) k = refl
 

@@ -1,9 +1,9 @@
 -- What the look-up of a record has found, by the facts that the code has at each of its ends. Assumes nothing.
-use Prim.Native.Nat.{_/_, _<_, ℕ}
+use Prim.Native.Nat.{_-_, _/_, _<_, ℕ}
 use lib.Dec.{ltb}
 use mathlib.Core.Bool.{Bool, _&&_, and-true, false, not, true}
 use mathlib.Core.Logic.{_≢_}
-use mathlib.Core.Path.{_∙_, _≡_, ap, refl, sym}
+use mathlib.Core.Path.{_∙_, _≡_, ap, refl, subst, sym}
 use native.Mathlib.Omega.{arith}
 use Rattle.image.specs.Layout.{recordCount, slotCount}
 use Rattle.mask.specs.Placements.{meant}
@@ -21,6 +21,7 @@ use Rattle.promise.specs.Given.{Given, rowsOn}
 use Rattle.promise.proofs.Finish.{given, refusal-rules}
 use Rattle.trail.specs.Trail.{Lists, holdersIn}
 use Rattle.trail.specs.declared.Holders.{Holders}
+use Rattle.trail.proofs.Holding.{newest-last, shownAt}
 use Rattle.records.specs.Access.{LooksUp, earlyRows}
 use Rattle.records.specs.Slots.{lockedOutIn}
 use Rattle.records.specs.declared.access.Access.{Access}
@@ -82,18 +83,18 @@ module _ (g : Image) (t r : ℕ) where
       pub locked-row : lockedOutIn g t r ≡ true → 7 ≡ refusalOn (get t r) g
       locked-row l = late-row true l ∙ whole-table
 
-      pub ready-up : (a : Access) → lockedOutIn g t r ≡ false → a .refusal ≡ 0 → meant (a .newest) ≡ meaning (f .control) .newest
+      pub ready-up : (a : Access) → lockedOutIn g t r ≡ false → a .refusal ≡ 0 → meant (a .newest) ≡ shownAt g (f .control .count - 1)
           → Lists (a .holders) (holdersIn g (r / slotCount)) → LooksUp g t r a
       ready-up a l is new held = record {
         refusal-is = is ∙ late-row false l ∙ whole-table;
         ready = λ y. record {
           formed = is-given .formed;
           accepted = late-row false l;
-          newest-is = new ∙ ap (λ (k : Part). k .newest) (is-given .is .means);
+          newest-is = new ∙ newest-last (f .control) g is-given;
           holders-are = held;
         };
       }
 
 -- the holders of a block that has another name
 pub lists-at : (g : Image) (h : Holders) {b d : ℕ} → b ≡ d → Lists h (holdersIn g b) → Lists h (holdersIn g d)
-lists-at g h e l = record { sound = l .sound; are = l .are ∙ ap (holdersIn g) e }
+lists-at g h e l = subst (λ (x : ℕ). Lists h (holdersIn g x)) e l

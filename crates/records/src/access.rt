@@ -30,8 +30,8 @@ fn refused(refusal: u8) -> Access
         refusal: refusal,
         newest: Placement::from_mask(0),
         holders: Holders {
-            count: 0,
-            cards: [0u8; trail::MOST_HOLDERS],
+            first: image::Card(0),
+            cards: 0,
         },
     }
 }
@@ -65,7 +65,7 @@ pub fn look_up(image: &[u8], tran: Tran, rec: Rec) -> Access
     }
     Access {
         refusal: 0,
-        newest: k.newest(),
+        newest: control::codec::placement_at(image, (k.count - 1) as usize),
         holders: holders,
     }
 }

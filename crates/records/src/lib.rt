@@ -37,7 +37,7 @@ pub fn store(image: &mut [u8], tran: Tran, rec: Rec, value: u16) -> Answer
         value: value,
     };
     let holders = found.holders;
-    if holders.count == 0 {
+    if holders.cards == 0 {
         slots::lay(image, found.newest, tran, rec, pending);
         return Answer::Ok;
     }

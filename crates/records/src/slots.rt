@@ -51,8 +51,9 @@ fn slot_on(image: &[u8], card: Card, rec: Rec) -> Slot
     requires { ⌜ Whole (now image) × (card .0 < cardCount) × (rec .0 < recordCount) ⌝ }
     ensures { λ r. ⌜ r ≡ slotAt (blockIn (now (image .entry)) (card .0) (rec .0 / slotCount)) (rec .0 % slotCount) ⌝ }
 {
-    let bytes = image::get_block(image, card, block_of(rec));
-    slot::slot_at(bytes, place_of(rec))
+    let start = image::block_address(card, block_of(rec));
+    let end = start + image::BLOCK_SIZE;
+    slot::block::slot_at(&image[start..end], place_of(rec))
 }
 
 // Whether the slot is locked by another number.
@@ -79,14 +80,12 @@ pub fn locked_out(image: &[u8], holders: Holders, tran: Tran, rec: Rec) -> bool
     requires { ⌜ Lists holders (holdersIn (now image) (rec .0 / slotCount)) ⌝ }
     ensures { λ r. ⌜ r ≡ lockedOutIn (now (image .entry)) (tran .0) (rec .0) ⌝ }
 {
-    let cards = holders.cards;
-    let count = holders.count as usize;
-    let mut j: usize = 0;
-    while j < count {
-        if locked_on(image, Card(cards[j]), tran, rec) {
+    let mut left = holders.cards;
+    while left != 0 {
+        if locked_on(image, mask::first_member(left), tran, rec) {
             return true;
         }
-        j += 1;
+        left = mask::without_first(left);
     }
     false
 }
@@ -107,11 +106,10 @@ pub fn read_first(image: &[u8], holders: Holders, tran: Tran, rec: Rec) -> Entry
     requires { ⌜ Lists holders (holdersIn (now image) (rec .0 / slotCount)) ⌝ }
     ensures { λ r. ⌜ stateOf r ≡ readBy (tran .0) (seenIn (now (image .entry)) (rec .0)) ⌝ }
 {
-    if holders.count == 0 {
+    if holders.cards == 0 {
         return Entry::absent();
     }
-    let cards = holders.cards;
-    read_by(slot_on(image, Card(cards[0]), rec), tran)
+    read_by(slot_on(image, holders.first, rec), tran)
 }
 
 // A value, or absent.
@@ -131,14 +129,9 @@ fn lock_on(image: &mut [u8], card: Card, tran: Tran, rec: Rec, pending: Entry)
         (lockSlot (ofList (blockAt (now (image .entry)) (card .0) (rec .0 / slotCount)))
         (rec .0 % slotCount) (tran .0) (stateOf pending) .0) ⌝ }
 {
-    let block = block_of(rec);
-    let bytes = image::get_block(image, card, block);
-    image::put_block(
-        image,
-        card,
-        block,
-        slot::lock_slot(bytes, place_of(rec), tran.0, pending),
-    );
+    let start = image::block_address(card, block_of(rec));
+    let end = start + image::BLOCK_SIZE;
+    slot::block::lock_slot(&mut image[start..end], place_of(rec), tran.0, pending);
 }
 
 // Every holder's slot is locked and given the pending state.
@@ -149,12 +142,10 @@ pub fn lock_all(image: &mut [u8], holders: Holders, tran: Tran, rec: Rec, pendin
         ⌜ now (image .exit) ≡ laid (lockHolders cabinet (controlIn (now (image .entry)))
         (look cabinet (stateIn (now (image .entry)))) (tran .0) (rec .0) (stateOf pending)) (now (image .entry)) ⌝ }
 {
-    let cards = holders.cards;
-    let count = holders.count as usize;
-    let mut j: usize = 0;
-    while j < count {
-        lock_on(image, Card(cards[j]), tran, rec, pending);
-        j += 1;
+    let mut left = holders.cards;
+    while left != 0 {
+        lock_on(image, mask::first_member(left), tran, rec, pending);
+        left = mask::without_first(left);
     }
 }
 
@@ -168,7 +159,8 @@ pub fn lay(image: &mut [u8], newest: Placement, tran: Tran, rec: Rec, pending: E
 {
     let block = block_of(rec);
     let sites = newest.sites(block);
-    let bytes = slot::lock_slot(slot::fresh_block(), place_of(rec), tran.0, pending);
-    image::put_block(image, sites.first, block, bytes);
-    image::put_block(image, sites.second, block, bytes);
+    image::put_block(image, sites.first, block, slot::fresh_block());
+    lock_on(image, sites.first, tran, rec, pending);
+    image::put_block(image, sites.second, block, slot::fresh_block());
+    lock_on(image, sites.second, tran, rec, pending);
 }

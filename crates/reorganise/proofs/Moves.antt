@@ -1,7 +1,9 @@
 -- The rows of a move and what it writes, from the code's values to the rules'. Assumes nothing.
 use Prim.Native.Nat.{_+_, _<_, _≤_, ℕ}
 use borrow.Author.Tests.{eqb-true, le-ltb, lt-ltb, ltb-true}
+use borrow.Rule.Slice.PartMut.{midOf}
 use lib.Dec.{eqb, ltb}
+use lib.ListN.{length}
 use mathlib.Core.Bool.{Bool, _&&_, _||_, cond, false, not, true}
 use mathlib.Core.List.{List, [], _∷_}
 use mathlib.Core.Logic.{_⊎_, inl, inr}
@@ -10,7 +12,7 @@ use mathlib.Core.Path.{_∙_, _≡_, ap, ap₂, refl, sym}
 use native.Mathlib.Omega.{arith}
 use Rattle.lists.specs.Tests.{countNot, elem, oneIf}
 use Rattle.lists.proofs.Bools.{and-l, and-r, eqb-self, not-not-is, split}
-use Rattle.image.specs.Layout.{blockAt, blockCount, blockSize, cardCount, putBlock, zeros}
+use Rattle.image.specs.Layout.{blockAddress, blockAt, blockCount, blockSize, cardCount, putBlock, zeros}
 use Rattle.mask.specs.Masks.{byte, hasCard}
 use Rattle.mask.specs.Placements.{AreSites, siteList}
 use Rattle.mask.specs.declared.Sites.{Sites}
@@ -30,7 +32,7 @@ use Rattle.promise.specs.Promise.{Done}
 use Rattle.promise.specs.Rows.{cardRows}
 use Rattle.promise.specs.declared.Answer.the-variants.{Copied}
 use Rattle.promise.proofs.Finish.{by-blocks, given-whole}
-use Rattle.promise.proofs.Laid.{block-is, laid, laid-none, laid-put, laid-same, of-block}
+use Rattle.promise.proofs.Laid.{block-is, laid, laid-none, laid-put, laid-same, of-part}
 use Rattle.promise.proofs.Laid.{putOne}
 use Rattle.promise.proofs.SharedRows.{card-accepted}
 use Rattle.promise.proofs.View.{look-on}
@@ -94,14 +96,23 @@ module _ (g : Image) (c b : ℕ) where
         not-not-is (hasCard (controlIn g .working) c) (r8 .0),
       )
 
--- the same, from the code's tests of the bytes that it has read
-pub copy-rows : (k : Control) (g : Image) → Given k g → (c b : ℕ) → b < blockCount → (n : ℕ) → n ≡ cardRows (meaning k) c → n ≡ 0
-    → (bytes : List ℕ) → bytes ≡ blockAt g c b → (held locked : Bool) → held ≡ isHeld (ofList bytes) → locked ≡ anyLocked (ofList bytes)
-    → row 11 (not held) (row 12 locked 0) ≡ rowsOn (move c b) g
-copy-rows k g is c b hb n e z bytes r held locked p q =
-    let ok : 0 ≡ cardRows (controlIn g) c = sym z ∙ e ∙ ap (λ (part : Part). cardRows part c) (is .is .means) in
-    let x : ofList bytes ≡ blockIn g c b = ap ofList r ∙ of-block g (given-whole is) c b (card-accepted (controlIn g) c ok .0) hb in
-    ap₂ (λ (s t : Bool). row 11 (not s) (row 12 t 0)) (p ∙ ap isHeld x) (q ∙ ap anyLocked x) ∙ seen-rows g c b hb ok
+-- the same, from the code's tests of the block that it was lent: a part of the image
+module _ (k : Control) (g : Image) (is : Given k g) (c b : ℕ) (hb : b < blockCount) (n : ℕ) (e : n ≡ cardRows (meaning k) c) (z : n ≡ 0) where
+  card-clear : 0 ≡ cardRows (controlIn g) c
+  card-clear = sym z ∙ e ∙ ap (λ (part : Part). cardRows part c) (is .is .means)
+
+  pub copy-card : c < cardCount
+  copy-card = card-accepted (controlIn g) c card-clear .0
+
+  module _ (a : ℕ) (at : a ≡ blockAddress c b) where
+    pub copy-end : a + blockSize ≤ length g
+    copy-end = omega (arith, given-whole is, copy-card)
+
+    pub copy-rows : (m : ℕ) → m ≡ blockSize → (held locked : Bool) → held ≡ isHeld (ofList (midOf a m g)) → locked ≡ anyLocked (ofList (midOf a m g))
+        → row 11 (not held) (row 12 locked 0) ≡ rowsOn (move c b) g
+    copy-rows m em held locked p q =
+        let x : ofList (midOf a m g) ≡ blockIn g c b = of-part g (given-whole is) c b copy-card hb a m at em in
+        ap₂ (λ (s t : Bool). row 11 (not s) (row 12 t 0)) (p ∙ ap isHeld x) (q ∙ ap anyLocked x) ∙ seen-rows g c b hb card-clear
 
 -- ---- a block that may be put
 abbrev fillOne : Bool → Writes → ℕ → ℕ → BlockBytes → Writes
@@ -233,7 +244,8 @@ module _ (k : Control) (g : Image) (is : Given k g) (c b : ℕ) (ok : 0 ≡ rows
       bytes = e ∙ sym (block-is g (given-whole is) c b hc hb)
 
       copies : n ≡ countNot holds (newestSites cabinet (controlIn g) b)
-      copies = m ∙ ap₂ (λ (y z : Bool). oneIf (not y) + oneIf (not z)) one-is two-is ∙ plus (oneIf (not (holds (s .first .0)))) (oneIf (not (holds (s .second .0)))) ∙ ap (countNot holds) (sym sites-are)
+      copies = m ∙ ap₂ (λ (y z : Bool). oneIf (not y) + oneIf (not z)) one-is two-is
+          ∙ plus (oneIf (not (holds (s .first .0)))) (oneIf (not (holds (s .second .0)))) ∙ ap (countNot holds) (sym sites-are)
         where
           plus : (i j : ℕ) → i + j ≡ i + (j + 0)
           plus i j = omega arith

@@ -26,11 +26,12 @@ pub fn refusal(image: &[u8], k: Control, card: Card, block: Block) -> u8
     if on_card != 0 {
         return on_card;
     }
-    let bytes = image::get_block(image, card, block);
-    if !slot::is_held(bytes) {
+    let start = image::block_address(card, block);
+    let end = start + image::BLOCK_SIZE;
+    if !slot::block::is_held(&image[start..end]) {
         return 11;
     }
-    if slot::any_locked(bytes) {
+    if slot::block::any_locked(&image[start..end]) {
         return 12;
     }
     0

@@ -11,8 +11,8 @@ use Rattle.lists.proofs.Cases.{by-place}
 use Rattle.image.specs.Layout.{blockSize, slotCount, slotSize, slotStart}
 use Rattle.slot.specs.declared.Slot.{Slot}
 use Rattle.slot.specs.Words.{slotOf, wordOf, freedSlot}
-use Rattle.slot.specs.Blocks.{BlockBytes, byteIn, blockOfBytes, ofList, byteOf, slotAt, putSlot, endedByte, endSlots, endedSlot}
-use Rattle.slot.proofs.Blocks.{block-ext, byte-in, of-list, word-same, inSlot, put-at, ended-at}
+use Rattle.slot.specs.Blocks.{BlockBytes, anyPicked, byteIn, blockOfBytes, isHeld, ofList, byteOf, slotAt, putSlot, endedByte, endSlots, endedBlock, endedSlot}
+use Rattle.slot.proofs.Blocks.{block-ext, byte-in, end-none, of-list, word-same, inSlot, put-at, ended-at}
 use Rattle.slot.proofs.Steps.{list-ext, byte-of-list}
 
 module _ (take : Bool) (f : ℕ → Bool) (x : BlockBytes) where
@@ -85,3 +85,33 @@ module _ (take : Bool) (f : ℕ → Bool) (x : BlockBytes) where
 pub start : (take : Bool) (f : ℕ → Bool) (l : List ℕ) → length l ≡ blockSize → l ≡ upTo take f (ofList l) 0 .0
 start take f l n =
     list-ext l (ofList l .0) n (ofList l .1) (λ j h. sym (byte-of-list l j h)) ∙ ap (λ (b : BlockBytes). b .0) (sym (none-yet take f (ofList l)))
+
+-- ---- a whole block: it is held, or not; or it is held and none of them locks a slot
+
+pub length-ended : (take : Bool) (f : ℕ → Bool) (l : List ℕ) → length l ≡ blockSize → length (endedBlock take f l) ≡ blockSize
+unfolding endedBlock
+length-ended take f l n = go (isHeld (ofList l))
+  where
+    go : (h : Bool) → length (cond h (endSlots take f (ofList l) .0) l) ≡ blockSize
+    go true = endSlots take f (ofList l) .1
+    go false = n
+
+module _ (take : Bool) (f : ℕ → Bool) (l : List ℕ) where
+  pub ended-held : isHeld (ofList l) ≡ true → endSlots take f (ofList l) .0 ≡ endedBlock take f l
+  unfolding endedBlock
+  ended-held h = rw h
+
+  pub ended-bare : isHeld (ofList l) ≡ false → l ≡ endedBlock take f l
+  unfolding endedBlock
+  ended-bare h = rw h
+
+  pub ended-idle : length l ≡ blockSize → anyPicked f (ofList l) ≡ false → l ≡ endedBlock take f l
+  unfolding endedBlock
+  ended-idle n p = go (isHeld (ofList l))
+    where
+      same : l ≡ endSlots take f (ofList l) .0
+      same = sym (ap (λ (b : BlockBytes). b .0) (end-none take f (ofList l) p ∙ of-list (l, n)))
+
+      go : (h : Bool) → l ≡ cond h (endSlots take f (ofList l) .0) l
+      go true = same
+      go false = refl

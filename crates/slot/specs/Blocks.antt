@@ -4,12 +4,13 @@ use mathlib.Core.Bool.{Bool, not, _&&_, cond}
 use mathlib.Core.Option.{Option}
 use mathlib.Core.List.{List}
 use Prim.Native.Nat.{ℕ, zero, suc, _+_, _-_, _*_, _/_, _%_, _^_}
+use lib.Bits.{bitAnd, bitOr}
 use lib.Dec.{leb, ltb, eqb}
 use lib.ListN.{length, getD}
-use Rattle.lists.specs.Tests.{anyBelow, count}
+use Rattle.lists.specs.Tests.{anyBelow, count, sumBelow}
 use Rattle.lists.specs.Tabulate.{tabulate}
 use Rattle.lists.proofs.Tabulate.{length-tabulate}
-use Rattle.image.specs.Layout.{blockSize, slotCount, slotSize, slotStart}
+use Rattle.image.specs.Layout.{blockSize, slotCount, slotSize, slotStart, tranBound}
 use Rattle.slot.specs.declared.Slot.{Slot}
 use Rattle.slot.specs.Words.{slotOf, wordOf, lockedSlot, freedSlot}
 
@@ -84,9 +85,32 @@ abbrev pub endedSlot : Bool → (ℕ → Bool) → ℕ → List ℕ → List ℕ
 endedSlot take f i l = cond (f (slotAt (ofList l) i .lock))
     (putSlot (ofList l) i (freedSlot take (slotAt (ofList l) i)) .0) l
 
+-- The list of a block's bytes after the transactions that f picks have ended there, if it is held.
+unfoldable pub endedBlock : Bool → (ℕ → Bool) → List ℕ → List ℕ
+endedBlock take f l = cond (isHeld (ofList l)) (endSlots take f (ofList l) .0) l
+
 -- A set of transactions as a number: bit t says that t is in it.
 unfoldable pub inSet : ℕ → ℕ → Bool
 inSet set t = eqb (set / 2 ^ t % 2) 1
+
+-- The set of the numbers below 16 that lack a bit (1, 2, 4 or 8).
+abbrev pub lacking : ℕ → ℕ
+lacking bit = sumBelow tranBound (λ t. cond (eqb (t / bit % 2) 0) (2 ^ t) 0)
+
+-- The bits that every number of a set has: a bit that no number of the set lacks is one of them.
+abbrev pub sharedBit : ℕ → ℕ → ℕ
+sharedBit set bit = cond (eqb (bitAnd set (lacking bit)) 0) bit 0
+
+unfoldable pub sharedBits : ℕ → ℕ
+sharedBits set = sharedBit set 1 + sharedBit set 2 + sharedBit set 4 + sharedBit set 8
+
+-- The numbers f 0, f 1, up to f (2 ^ n - 1), joined bit by bit; the locks of the eight slots, joined.
+unfoldable pub joined : ℕ → (ℕ → ℕ) → ℕ
+joined zero f = f 0
+joined (suc n) f = bitOr (joined n f) (joined n (λ i. f (2 ^ n + i)))
+
+unfoldable pub joinedLocks : BlockBytes → ℕ
+joinedLocks x = joined 3 (λ i. slotAt x i .lock)
 
 -- Slot i is locked; some slot is locked.
 abbrev pub isLocked : BlockBytes → ℕ → Bool

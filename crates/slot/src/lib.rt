@@ -1,12 +1,8 @@
-// The 40-bit slot, and a block's eight slots. A block is 41 bytes by value.
-use image::SLOT_COUNT;
-use image::SLOT_SIZE;
+// The 40-bit slot by value, and the 41 bytes of a fresh block. A block's slots are read and written in place (block).
 ghost use mathlib.Core.Path.{_≡_};
 ghost use mathlib.Core.Bool.{true, false};
 ghost use mathlib.Core.Option.{none};
 ghost use Prim.Native.Nat.{_%_, _^_, _<_};
-ghost use Rattle.lists.specs.Tests.{oneIf};
-ghost use Rattle.image.specs.Layout.{slotCount, tranBound};
 ghost use Rattle.slot.specs.Words.{
   InRange,
   bitNumber,
@@ -17,22 +13,9 @@ ghost use Rattle.slot.specs.Words.{
   stateOf,
   wordOf,
 };
-ghost use Rattle.slot.specs.Blocks.{
-  anyLocked,
-  anyPicked,
-  committedCount,
-  endSlots,
-  endedSlot,
-  freshBlock,
-  inSet,
-  isCommitted,
-  isHeld,
-  lockSlot,
-  ofList,
-  putSlot,
-  slotAt,
-  wordAt,
-};
+ghost use Rattle.slot.specs.Blocks.{freshBlock};
+
+pub mod block;
 
 // How many numbers a field of a slot has: a value, a lock, the unnamed bits.
 const VALUES: u64 = 65536;
@@ -189,151 +172,4 @@ pub fn fresh_block() -> [u8; 41]
     let mut block = [0u8; 41];
     block[0] = HELD;
     block
-}
-
-// Whether the block is held.
-pub fn is_held(block: [u8; 41]) -> bool
-    ensures { λ r. ⌜ r ≡ isHeld (ofList block) ⌝ }
-{
-    wide(block[0]) >= HELD as u64
-}
-
-// The 40 bits of slot i.
-fn word_at(block: [u8; 41], i: usize) -> u64
-    requires { ⌜ i < slotCount ⌝ }
-    ensures { λ r. ⌜ (r ≡ wordAt (ofList block) i) × (r < 2 ^ 40) ⌝ }
-{
-    let at = 1 + i * SLOT_SIZE;
-    let a = wide(block[at]);
-    let b = wide(block[at + 1]);
-    let c = wide(block[at + 2]);
-    let d = wide(block[at + 3]);
-    let e = wide(block[at + 4]);
-    (((a * 256 + b) * 256 + c) * 256 + d) * 256 + e
-}
-
-// Slot i.
-pub fn slot_at(block: [u8; 41], i: usize) -> Slot
-    requires { ⌜ i < slotCount ⌝ }
-    ensures { λ r. ⌜ r ≡ slotAt (ofList block) i ⌝ }
-{
-    Slot::from_word(word_at(block, i))
-}
-
-// The block with another slot i.
-pub fn put_slot(block: [u8; 41], i: usize, s: Slot) -> [u8; 41]
-    requires { ⌜ (i < slotCount) × InRange s ⌝ }
-    ensures { λ r. ⌜ r ≡ putSlot (ofList block) i s .0 ⌝ }
-{
-    let at = 1 + i * SLOT_SIZE;
-    let e = s.to_word();
-    let d = e / 256;
-    let c = d / 256;
-    let b = c / 256;
-    let a = b / 256;
-    let mut y = block;
-    y[at] = (a % 256) as u8;
-    y[at + 1] = (b % 256) as u8;
-    y[at + 2] = (c % 256) as u8;
-    y[at + 3] = (d % 256) as u8;
-    y[at + 4] = (e % 256) as u8;
-    y
-}
-
-// The block with slot i locked by t with a pending state.
-pub fn lock_slot(block: [u8; 41], i: usize, t: u8, pending: Entry) -> [u8; 41]
-    requires { ⌜ (i < slotCount) × (t < tranBound) ⌝ }
-    ensures { λ r. ⌜ r ≡ lockSlot (ofList block) i t (stateOf pending) .0 ⌝ }
-{
-    put_slot(block, i, slot_at(block, i).lock_by(t, pending))
-}
-
-// Whether bit t of the set is 1.
-fn in_set(set: u16, t: u8) -> bool
-    requires { ⌜ t < tranBound ⌝ }
-    ensures { λ r. ⌜ r ≡ inSet set t ⌝ }
-{
-    (set >> t) % 2 == 1
-}
-
-// Slot i ends if the set has its transaction.
-fn end_slot(block: [u8; 41], i: usize, take: bool, set: u16) -> [u8; 41]
-    requires { ⌜ i < slotCount ⌝ }
-    ensures { λ r. ⌜ r ≡ endedSlot take (inSet set) i block ⌝ }
-{
-    let s = slot_at(block, i);
-    if in_set(set, s.lock) {
-        return put_slot(block, i, s.free(take));
-    }
-    block
-}
-
-// The transactions of the set end: each slot that one of them locks takes, or drops, its pending state.
-pub fn end_slots(block: [u8; 41], take: bool, set: u16) -> [u8; 41]
-    ensures { λ r. ⌜ r ≡ endSlots take (inSet set) (ofList block) .0 ⌝ }
-{
-    let mut y = block;
-    let mut i = 0;
-    while i < SLOT_COUNT {
-        let z = end_slot(y, i, take, set);
-        y = z;
-        i += 1;
-    }
-    y
-}
-
-// Whether a transaction of the set locks some slot.
-pub fn any_picked(block: [u8; 41], set: u16) -> bool
-    ensures { λ r. ⌜ r ≡ anyPicked (inSet set) (ofList block) ⌝ }
-{
-    let mut i = 0;
-    while i < SLOT_COUNT {
-        let s = slot_at(block, i);
-        if in_set(set, s.lock) {
-            return true;
-        }
-        i += 1;
-    }
-    false
-}
-
-// Whether a transaction locks some slot.
-pub fn any_locked(block: [u8; 41]) -> bool
-    ensures { λ r. ⌜ r ≡ anyLocked (ofList block) ⌝ }
-{
-    let mut i = 0;
-    while i < SLOT_COUNT {
-        let s = slot_at(block, i);
-        if s.lock != 0 {
-            return true;
-        }
-        i += 1;
-    }
-    false
-}
-
-// 1 if slot i has a committed value, else 0.
-fn committed_at(block: [u8; 41], i: usize) -> u8
-    requires { ⌜ i < slotCount ⌝ }
-    ensures { λ r. ⌜ (r ≡ oneIf (isCommitted (ofList block) i)) × (r < 2) ⌝ }
-{
-    let s = slot_at(block, i);
-    let committed = s.committed;
-    if committed.present {
-        return 1;
-    }
-    0
-}
-
-// How many slots have a committed value.
-pub fn committed_count(block: [u8; 41]) -> u8
-    ensures { λ r. ⌜ r ≡ committedCount (ofList block) ⌝ }
-{
-    let mut n = 0;
-    let mut i = 0;
-    while i < SLOT_COUNT {
-        n += committed_at(block, i);
-        i += 1;
-    }
-    n
 }

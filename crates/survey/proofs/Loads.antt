@@ -27,17 +27,24 @@ count-le (suc n) f = go (f n) (count-le n f)
     go true h = omega arith
     go false h = omega arith
 
-pub committed-le : (x : BlockBytes) → committedCount x ≤ slotCount
+committed-le : (x : BlockBytes) → committedCount x ≤ slotCount
 unfolding committedCount
 committed-le x = count-le slotCount (isCommitted x)
 
-pub committed-held : (x : BlockBytes) → isHeld x ≡ true → committedCount x ≡ committedIn cabinet x
+committed-held : (x : BlockBytes) → isHeld x ≡ true → committedCount x ≡ committedIn cabinet x
 unfolding committedCount
 committed-held x h = rw h (ap (count slotCount) (fun-ext (λ i. sym (present (isCommitted x i) (slotAt x i .committed .value)))))
   where
     present : (t : Bool) (n : ℕ) → isSome (cond t (some n) none) ≡ t
     present true n = refl
     present false n = refl
+
+-- what a block adds to a count: its records that are committed present if it is held, else nothing
+pub load-held : (x : BlockBytes) (n m : ℕ) → isHeld x ≡ true → m ≡ committedCount x → (n + m ≡ n + committedIn cabinet x) × (n + m ≤ n + slotCount)
+load-held x n m h e = (ap (λ (k : ℕ). n + k) (e ∙ committed-held x h), omega (arith, committed-le x))
+
+pub load-bare : (x : BlockBytes) (n : ℕ) → isHeld x ≡ false → (n ≡ n + committedIn cabinet x) × (n ≤ n + slotCount)
+load-bare x n h = (rw h (omega arith), omega arith)
 
 -- ---- a table: no block yet, and one more
 pub load-none : (g : Image) (c : ℕ) → 0 ≡ loadBelow g c 0

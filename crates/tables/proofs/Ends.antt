@@ -1,65 +1,138 @@
 -- The end of transactions in all tables: the loop of the code, and the rules' commit, rollback and fail. Assumes nothing.
-use Prim.Native.Nat.{_-_, _/_, _<_, ℕ}
+use Prim.Native.Nat.{_%_, _*_, _+_, _-_, _/_, _<_, _≤_, ℕ}
+use native.Mathlib.Nat.{div-eq-of-lt}
 use native.Mathlib.Omega.{arith}
 use lib.Dec.{eqb, ltb}
+use lib.ListN.{getD, length}
+use lib.Pow.{pow-pos}
 use mathlib.Core.Bool.{Bool, _&&_, cond, false, not, true}
 use mathlib.Core.List.{List}
 use mathlib.Core.Option.{Option, none, some}
 use mathlib.Core.Path.{_∙_, _≡_, ap, fun-ext, refl, sym}
-use lib.ListN.{length}
-use Rattle.lists.proofs.Segments.{length-segment, put-get}
-use Rattle.image.specs.Layout.{Whole, blockAddress, blockAt, blockCount, blockSize, cardCount, putBlock, slotSize}
-use Rattle.image.specs.Layout.{slotStart, tranBound}
+use Rattle.lists.specs.Segments.{Keeps, each, segment, within}
+use Rattle.lists.proofs.Counts.{none-below}
+use Rattle.lists.proofs.Each.{each-before, each-in, length-each}
+use Rattle.lists.proofs.Segments.{get-get, length-segment, put-get}
+use Rattle.image.specs.Layout.{Whole, blockAt, blockCount, blockSize, blockStart, cardCount, controlSize, slotSize}
+use Rattle.image.specs.Layout.{slotCount, slotStart, tableSize, tableStart, tranBound}
+use Rattle.image.proofs.Blocks.{byte-of-control}
 use Rattle.mask.specs.Masks.{Byte, hasCard, withoutCard}
 use Rattle.mask.proofs.Masks.{has-without}
-use Rattle.slot.specs.Blocks.{BlockBytes, anyPicked, blockOfBytes, byteIn, byteOf, emptyBlock, endSlots, endedByte, inSet, isHeld}
-use Rattle.slot.specs.Blocks.{ofList, slotAt, wordAt}
+use Rattle.slot.specs.Blocks.{BlockBytes, anyPicked, blockOfBytes, byteIn, byteOf, emptyBlock, endSlots, endedBlock, endedByte, inSet, isHeld}
+use Rattle.slot.specs.Blocks.{isPicked, slotAt, wordAt}
 use Rattle.slot.specs.Words.{freedSlot, wordOf}
-use Rattle.slot.proofs.Blocks.{end-none, held-empty, of-list}
+use Rattle.slot.proofs.Blocks.{end-none, held-empty}
+use Rattle.slot.proofs.Ends.{length-ended}
 use Rattle.slot.proofs.Words.{slot-in-range}
 use Rattle.method.specs.Rules.{dropHeld, endHeld, look, updated}
 use Rattle.cabinet_rules.specs.Cabinet.{cabinet}
 use Rattle.cabinet_rules.specs.Images.{Image, blockIn, controlIn, stateIn}
-use Rattle.promise.proofs.Laid.{laid, laid-same, of-block}
-use Rattle.promise.proofs.Sweep.{byContent, give}
+use Rattle.promise.proofs.Laid.{block-is, laid, laid-blocks, laid-none, laid-same, of-block}
 use Rattle.promise.proofs.View.{look-is}
-use Rattle.tables.specs.Tables.{endBlock, endWrites, setOf}
+use Rattle.tables.specs.Tables.{endWrites, endedOn, endedTable, setOf}
 use Rattle.tables.proofs.Sets.{in-set-of}
 
--- ---- one block: its card is off, it is not held, it is held
-module _ (on take : Bool) (f : ℕ → Bool) (x : List ℕ) (c b : ℕ) (g : Image) where
-  pub block-off : on ≡ false → g ≡ give (endBlock on take f x) c b g
-  unfolding give endBlock
-  block-off e = rw e
+-- ---- one table, block by block
+module _ (take : Bool) (f : ℕ → Bool) where
+  abbrev pub blockWise : ℕ → List ℕ → List ℕ
+  blockWise b = endedBlock take f
 
-  pub block-bare : on ≡ true → isHeld (ofList x) ≡ false → g ≡ give (endBlock on take f x) c b g
-  unfolding give endBlock
-  block-bare e h = rw (e, h)
+  pub keeps-block : (b : ℕ) → Keeps blockSize (blockWise b)
+  keeps-block b = length-ended take f
 
-  pub block-held : on ≡ true → isHeld (ofList x) ≡ true → putBlock g c b (endSlots take f (ofList x) .0) ≡ give (endBlock on take f x) c b g
-  unfolding give endBlock
-  block-held e h = rw (e, h)
+  pub keeps-table : Keeps tableSize (endedTable take f)
+  unfolding endedTable
+  keeps-table l n = length-each blockWise 0 blockSize keeps-block l blockCount (omega arith) ∙ n
 
--- held, but none of them locks a slot: the block is written as it is found
-pub block-idle : (on take : Bool) (f : ℕ → Bool) (c b : ℕ) (g : Image) → Whole g → c < cardCount → b < blockCount → on ≡ true
-    → isHeld (ofList (blockAt g c b)) ≡ true → anyPicked f (ofList (blockAt g c b)) ≡ false → g ≡ give (endBlock on take f (blockAt g c b)) c b g
-unfolding putBlock blockAt
-block-idle on take f c b g long hc hb e h n =
-    let x : List ℕ = blockAt g c b in
-    let m : length x ≡ blockSize = length-segment g (blockAddress c b) blockSize (omega (arith, long)) in
-    sym (put-get g (blockAddress c b) blockSize (omega (arith, long)))
-    ∙ ap (putBlock g c b) (sym (ap (λ (y : BlockBytes). y .0) (end-none take f (ofList x) n ∙ of-list (x, m))))
-    ∙ block-held on take f x c b g e h
+  pub keeps-on : (on : Bool) → Keeps tableSize (endedOn on take f)
+  keeps-on true = keeps-table
+  keeps-on false = λ l n. n
 
--- ---- all blocks, as the loop goes through them
-abbrev pub endAt : Byte → Bool → (ℕ → Bool) → ℕ → ℕ → List ℕ → Option BlockBytes
-endAt working take f c b x = endBlock (hasCard working c) take f x
+  -- a block of the table
+  pub block-ended : (on : Bool) (l : List ℕ) → length l ≡ tableSize → (b : ℕ) → b < blockCount
+      → segment (endedOn on take f l) (blockStart b) blockSize ≡ cond on (endedBlock take f (segment l (blockStart b) blockSize)) (segment l (blockStart b) blockSize)
+  unfolding endedTable
+  block-ended true l n b h =
+      let e : 0 + b * blockSize ≡ blockStart b = omega arith in
+      ap (λ (a : ℕ). segment (each blockWise 0 blockSize blockCount l) a blockSize) (sym e)
+      ∙ each-in blockWise 0 blockSize keeps-block l blockCount (omega arith) b h
+      ∙ ap (λ (a : ℕ). endedBlock take f (segment l a blockSize)) e
+  block-ended false l n b h = refl
 
-pub swept : (working : Byte) (take : Bool) (f : ℕ → Bool) (g : Image) → Whole g
-    → laid (byContent (endAt working take f) g) g ≡ laid (endWrites working take f g) g
-unfolding endBlock endWrites
-swept working take f g long = laid-same (byContent (endAt working take f) g) g (endWrites working take f g) (λ c b hc hb.
-    ap (λ (x : BlockBytes). updated (cond (hasCard working c && isHeld x) (some (endSlots take f x)) none) (blockIn g c b)) (of-block g long c b hc hb))
+  -- a card that is on, and one that is off
+  pub card-on : (g : Image) (a : ℕ) (on : Bool) → on ≡ true → within g a tableSize (endedTable take f) ≡ within g a tableSize (endedOn on take f)
+  card-on g a on e = rw e
+
+  pub card-off : (g : Image) (a : ℕ) (on : Bool) → on ≡ false → a + tableSize ≤ length g → g ≡ within g a tableSize (endedOn on take f)
+  unfolding within
+  card-off g a on e h = rw e (sym (put-get g a tableSize h))
+
+-- ---- all tables, card by card
+module _ (working : Byte) (take : Bool) (f : ℕ → Bool) where
+  abbrev pub cardWise : ℕ → List ℕ → List ℕ
+  cardWise c = endedOn (hasCard working c) take f
+
+  keeps-card : (c : ℕ) → Keeps tableSize (cardWise c)
+  keeps-card c = keeps-on take f (hasCard working c)
+
+  abbrev pub upTo : ℕ → Image → Image
+  upTo c g = each cardWise controlSize tableSize c g
+
+  module _ (g : Image) (long : Whole g) where
+    abbrev out : Image
+    out = upTo cardCount g
+
+    long-out : Whole out
+    long-out = length-each cardWise controlSize tableSize keeps-card g cardCount (omega arith) ∙ long
+
+    control-out : (n : ℕ) → n < controlSize → getD out n 0 ≡ getD g n 0
+    control-out n h = sym (byte-of-control out n h)
+        ∙ ap (λ (l : List ℕ). getD l n 0) (each-before cardWise controlSize tableSize keeps-card g cardCount (omega arith) 0 controlSize (omega arith))
+        ∙ byte-of-control g n h
+
+    block-out : (c b : ℕ) → c < cardCount → b < blockCount → blockAt out c b ≡ cond (hasCard working c) (endedBlock take f (blockAt g c b)) (blockAt g c b)
+    unfolding blockAt
+    block-out c b hc hb =
+        let t : ℕ = tableStart c in
+        let in-out : segment (segment out t tableSize) (blockStart b) blockSize ≡ segment out (t + blockStart b) blockSize =
+        get-get out t tableSize (blockStart b) blockSize (omega (arith, long-out)) (omega arith) in
+        let in-g : segment (segment g t tableSize) (blockStart b) blockSize ≡ segment g (t + blockStart b) blockSize =
+        get-get g t tableSize (blockStart b) blockSize (omega arith) (omega arith) in
+        sym in-out
+        ∙ ap (λ (l : List ℕ). segment l (blockStart b) blockSize) (each-in cardWise controlSize tableSize keeps-card g cardCount (omega arith) c hc)
+        ∙ block-ended take f (hasCard working c) (segment g t tableSize) (length-segment g t tableSize (omega arith)) b hb
+        ∙ ap (λ (l : List ℕ). cond (hasCard working c) (endedBlock take f l) l) in-g
+
+    written : (on : Bool) (c b : ℕ) → c < cardCount → b < blockCount
+        → cond on (endedBlock take f (blockAt g c b)) (blockAt g c b) ≡ updated (cond (on && isHeld (blockIn g c b)) (some (endSlots take f (blockIn g c b))) none) (blockIn g c b) .0
+    unfolding endedBlock
+    written false c b hc hb = sym (block-is g long c b hc hb)
+    written true c b hc hb = ap (λ (x : BlockBytes). cond (isHeld x) (endSlots take f x .0) (blockAt g c b)) (of-block g long c b hc hb) ∙ go (isHeld (blockIn g c b))
+      where
+        go : (h : Bool) → cond h (endSlots take f (blockIn g c b) .0) (blockAt g c b) ≡ updated (cond h (some (endSlots take f (blockIn g c b))) none) (blockIn g c b) .0
+        go true = refl
+        go false = sym (block-is g long c b hc hb)
+
+    pub all-ended : upTo cardCount g ≡ laid (endWrites working take f g) g
+    unfolding endWrites
+    all-ended = laid-blocks (endWrites working take f g) g out long-out control-out
+        (λ c b hc hb. block-out c b hc hb ∙ written (hasCard working c) c b hc hb)
+
+-- ---- nothing is picked: nothing changes
+pub none-ended : (working : Byte) (take : Bool) (set : ℕ) (g : Image) → Whole g → set ≡ 0 → g ≡ laid (endWrites working take (inSet set) g) g
+unfolding endWrites
+none-ended working take set g long e = laid-none (λ c b. none) g long (λ c b hc hb. refl)
+    ∙ laid-same (λ c b. none) g (endWrites working take (inSet set) g) (λ c b hc hb. go (hasCard working c && isHeld (blockIn g c b)) (blockIn g c b))
+  where
+    out : (t : ℕ) → inSet set t ≡ false
+    out t = unfold inSet in (rw e (ap (λ (m : ℕ). eqb (m % 2) 1) (div-eq-of-lt (pow-pos t))))
+
+    idle : (x : BlockBytes) → anyPicked (inSet set) x ≡ false
+    idle x = unfold anyPicked in (none-below slotCount (isPicked (inSet set) x) (λ i h. out (slotAt x i .lock)))
+
+    go : (on : Bool) (x : BlockBytes) → x ≡ updated (cond on (some (endSlots take (inSet set) x)) none) x
+    go true x = sym (end-none take (inSet set) x (idle x))
+    go false x = refl
 
 -- ---- a lock is below 16: only there does it matter which transactions are picked
 pub end-same : (take : Bool) (f h : ℕ → Bool) → ((t : ℕ) → t < tranBound → f t ≡ h t) → (x : BlockBytes) → endSlots take f x ≡ endSlots take h x

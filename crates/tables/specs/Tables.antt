@@ -3,10 +3,11 @@ use Prim.Native.Nat.{_^_, ℕ}
 use mathlib.Core.Bool.{Bool, _&&_, cond, false, true}
 use mathlib.Core.List.{List}
 use mathlib.Core.Option.{Option, none, some}
+use Rattle.lists.specs.Segments.{each}
 use Rattle.lists.specs.Tests.{sumBelow}
-use Rattle.image.specs.Layout.{tranBound}
+use Rattle.image.specs.Layout.{blockCount, blockSize, tranBound}
 use Rattle.mask.specs.Masks.{Byte, hasCard}
-use Rattle.slot.specs.Blocks.{BlockBytes, endSlots, isHeld, ofList}
+use Rattle.slot.specs.Blocks.{endSlots, endedBlock, isHeld}
 use Rattle.method.specs.ControlPart.{isCard}
 use Rattle.method.specs.Slots.{isSome}
 use Rattle.cabinet_rules.specs.Images.{Image, Writes, blockIn}
@@ -17,9 +18,12 @@ unfoldable pub endWrites : Byte → Bool → (ℕ → Bool) → Image → Writes
 endWrites working take f g c b =
     cond (hasCard working c && isHeld (blockIn g c b)) (some (endSlots take f (blockIn g c b))) none
 
--- What is written over a block with these bytes, if its card is on and it is held.
-unfoldable pub endBlock : Bool → Bool → (ℕ → Bool) → List ℕ → Option BlockBytes
-endBlock on take f bytes = cond (on && isHeld (ofList bytes)) (some (endSlots take f (ofList bytes))) none
+-- The same of the bytes of one table, and of a card's table, if the card is on.
+unfoldable pub endedTable : Bool → (ℕ → Bool) → List ℕ → List ℕ
+endedTable take f table = each (λ b. endedBlock take f) 0 blockSize blockCount table
+
+abbrev pub endedOn : Bool → Bool → (ℕ → Bool) → List ℕ → List ℕ
+endedOn on take f table = cond on (endedTable take f table) table
 
 -- The set, as a number, of the transactions below n that f picks: bit t is 1 where f picks t.
 abbrev pub setBelow : ℕ → (ℕ → Bool) → ℕ

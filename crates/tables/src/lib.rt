@@ -1,59 +1,71 @@
 // Work on the tables of an image that commit, rollback and fail share: transactions end in all held blocks.
 ghost use mathlib.Core.Path.{_≡_};
 ghost use mathlib.Core.Bool.{cond};
-ghost use Prim.Native.Nat.{_-_, _/_, _%_, _^_, _<_};
+ghost use Prim.Native.Nat.{_-_, _^_, _<_};
 ghost use lib.Dec.{eqb};
-ghost use lib.ListN.{getD};
-ghost use Rattle.image.specs.Layout.{Whole, blockAt, blockCount, tranBound};
+ghost use lib.ListN.{getD, length};
+ghost use Rattle.lists.specs.Segments.{within};
+ghost use Rattle.image.specs.Layout.{Whole, cardCount, tableSize, tableStart, tranBound};
 ghost use Rattle.mask.specs.Masks.{byte};
 ghost use Rattle.slot.specs.Blocks.{inSet};
 ghost use Rattle.method.specs.ControlPart.{isOpen, begunAt};
 ghost use Rattle.control.specs.ControlBytes.{homeIn, homeOf};
 ghost use Rattle.control.specs.Meaning.{meaning};
 ghost use Rattle.promise.proofs.Laid.{laid};
-ghost use Rattle.promise.proofs.Sweep.{give, sweepCount};
-ghost use Rattle.tables.specs.Tables.{endWrites, endBlock, setOf, isBegun};
+ghost use Rattle.tables.specs.Tables.{endWrites, endedOn, endedTable, setOf, isBegun};
 use control::Control;
 use control::TRAN_COUNT;
 use control::codec::OPEN;
 use image::BLOCK_COUNT;
+use image::BLOCK_SIZE;
 use image::Block;
-use image::CARD_COUNT;
 use image::Card;
+use image::TABLE_SIZE;
 use image::Tran;
+use mask::Placement;
 
-// The transactions of the set end in block i % 64 of card i / 64, if the card is on and the block is held. A block in
-// which none of them locks a slot is not written.
-fn end_block(image: &mut [u8], on: bool, i: usize, take: bool, set: u16)
-    requires { ⌜ Whole (now image) × (i < sweepCount) ⌝ }
+// The transactions of the set end in all held blocks of a table.
+fn end_table(table: &mut [u8], take: bool, set: u16)
+    requires { ⌜ length (now table) ≡ tableSize ⌝ }
+    ensures { λ _. ⌜ now (table .exit) ≡ endedTable take (inSet set) (now (table .entry)) ⌝ }
+{
+    let mut b = 0;
+    while b < BLOCK_COUNT {
+        let start = b * BLOCK_SIZE;
+        let end = start + BLOCK_SIZE;
+        slot::block::end_held(&mut table[start..end], take, set);
+        b += 1;
+    }
+}
+
+// The same in the card's table, a part from the middle of the image, if the card is on.
+fn end_card(image: &mut [u8], on: bool, card: Card, take: bool, set: u16)
+    requires { ⌜ Whole (now image) × (card .0 < cardCount) ⌝ }
     ensures { λ _. ⌜ now (image .exit)
-        ≡ give (endBlock on take (inSet set) (blockAt (now (image .entry)) (i / blockCount) (i % blockCount)))
-        (i / blockCount) (i % blockCount) (now (image .entry)) ⌝ }
+        ≡ within (now (image .entry)) (tableStart (card .0)) tableSize (endedOn on take (inSet set)) ⌝ }
 {
     if on {
-        let card = Card((i / BLOCK_COUNT) as u8);
-        let block = Block((i % BLOCK_COUNT) as u8);
-        let bytes = image::get_block(image, card, block);
-        if slot::is_held(bytes) {
-            if slot::any_picked(bytes, set) {
-                image::put_block(image, card, block, slot::end_slots(bytes, take, set));
-            }
-        }
+        let start = image::block_address(card, Block(0));
+        let end = start + TABLE_SIZE;
+        end_table(&mut image[start..end], take, set);
     }
 }
 
 // The transactions of the set end in all held blocks of the mask's cards: a slot that one of them locks takes, or
-// drops, its pending state. The tables of other cards are not touched.
+// drops, its pending state. The tables of other cards are not touched, and with an empty set none is.
 pub fn end_held(image: &mut [u8], working: u8, take: bool, set: u16)
     requires { ⌜ Whole (now image) ⌝ }
     ensures { λ _. ⌜ now (image .exit)
         ≡ laid (endWrites (byte working) take (inSet set) (now (image .entry))) (now (image .entry)) ⌝ }
 {
-    let mut i = 0;
-    while i < CARD_COUNT * BLOCK_COUNT {
-        let on = mask::has(working, Card((i / BLOCK_COUNT) as u8));
-        end_block(image, on, i, take, set);
-        i += 1;
+    if set == 0 {
+        return;
+    }
+    let mut c: u8 = 0;
+    while c < Placement::MOST_CARDS {
+        let on = mask::has(working, Card(c));
+        end_card(image, on, Card(c), take, set);
+        c += 1;
     }
 }
 
@@ -69,13 +81,10 @@ pub fn set_of(tran: Tran) -> u16
 fn is_begun(home: u8, every: bool, card: Card) -> bool
     ensures { λ r. ⌜ r ≡ isBegun every (card .0) (homeIn home) ⌝ }
 {
-    if home < OPEN {
-        return false;
-    }
     if every {
-        return true;
+        return home >= OPEN;
     }
-    control::codec::home_of(home) == card.0
+    control::codec::is_home(home, card)
 }
 
 // The transaction's bit if it is picked, else 0.

@@ -2,10 +2,9 @@
 use Prim.Native.Nat.{_%_, _+_, _-_, _<_, _≤_, suc, zero, ℕ}
 use borrow.Author.Tests.{lt-ltb}
 use lib.Dec.{leb, ltb}
-use lib.ListN.{getD, length-set, set, take}
-use lib.Seq.{getD-set-other, getD-set-same, take-suc-set}
+use lib.ListN.{getD}
 use mathlib.Core.Bool.{Bool, _&&_, and-false, cond, false, not, true}
-use mathlib.Core.List.{List, [], _++_, _∷_, append-assoc, append-nil}
+use mathlib.Core.List.{List, [], _++_, _∷_}
 use mathlib.Core.Logic.{_⊎_, inl, inr}
 use mathlib.Core.Path.{_∙_, _≡_, ap, fun-ext, refl, sym}
 use native.Mathlib.Nat.{mod-eq-of-lt}
@@ -13,7 +12,6 @@ use native.Mathlib.Numerals.{add-one}
 use native.Mathlib.Omega.{arith}
 use Rattle.lists.specs.Tests.{In, concatMap, keepIf}
 use Rattle.lists.proofs.Bools.{split}
-use Rattle.lists.proofs.Cases.{by-eq}
 use Rattle.lists.proofs.Lists.{concat-more, keep-append}
 use Rattle.image.specs.Layout.{blockAddress, blockCount, cardCount}
 use Rattle.mask.specs.Masks.{AreMembers, Byte, byte, hasCard}
@@ -23,17 +21,17 @@ use Rattle.slot.specs.Blocks.{byteIn, isHeld}
 use Rattle.slot.proofs.Blocks.{byte-in}
 use Rattle.method.specs.ControlPart.{active}
 use Rattle.method.specs.Rules.{holders, trail}
-use Rattle.control.specs.ControlBytes.{Part, placementsIn}
-use Rattle.control_form.specs.ControlForm.{controlForm}
-use Rattle.control.specs.Meaning.{meaning, placementIn}
+use Rattle.control.specs.ControlBytes.{Part, countIn, placementAt, placementsIn}
+use Rattle.control.specs.Meaning.{meaning}
 use Rattle.control.specs.declared.Control.{Control}
-use Rattle.control.proofs.Struct.{active-is, placements-more}
+use Rattle.control.proofs.Struct.{placements-more, shown-active, shown-count, shown-newest}
+use Rattle.control_form.specs.ControlForm.{controlForm}
+use Rattle.control_form.proofs.RoundTrip.{form-count}
 use Rattle.cabinet_rules.specs.Images.{Image, blockIn, controlIn}
 use Rattle.promise.specs.Given.{Given, viewOf}
 use Rattle.promise.proofs.Finish.{form-good}
 use Rattle.promise.proofs.View.{held-look, usable-active, works-not-failed}
-use Rattle.trail.specs.declared.Holders.{Holders}
-use Rattle.trail.specs.Trail.{Lists, Sound, cardsOf, holdersIn, holdsAt, mostHolders}
+use Rattle.trail.specs.Trail.{holdersIn, holdsAt}
 
 -- ---- the bit 'held' is in a block's first byte
 pub held-byte : (g : Image) (c b at : ℕ) → at ≡ blockAddress c b → getD g at 0 < 256 → leb 128 (getD g at 0) ≡ isHeld (blockIn g c b)
@@ -42,27 +40,6 @@ held-byte g c b at e h =
     let z : blockAddress c b + 0 ≡ at = omega (arith, e) in
     let x : byteIn (blockIn g c b) 0 ≡ getD g at 0 = byte-in (λ j. getD g (blockAddress c b + j) 0) 0 (omega arith) ∙ ap (λ (n : ℕ). getD g n 0) z in
     sym (ap (λ (m : ℕ). leb 128 (m % 256)) x ∙ ap (leb 128) (mod-eq-of-lt h))
-
--- ---- one card more
-module _ (h : Holders) (s : Sound h) (p : ℕ → Bool) (c : ℕ) where
-  pub push-yes : c < cardCount → h .count < mostHolders → p c ≡ true
-      → Lists (record { count = h .count + 1; cards = set (h .cards) (h .count) c }) (cardsOf h ++ keepIf p (c ∷ [])) × (h .count + 1 ≤ h .count + 1)
-  push-yes hc room holding = (
-    record {
-      sound = record {
-        few = omega arith;
-        long = length-set (h .cards) (h .count) c ∙ s .long;
-        small = λ j k. by-eq (getD (set (h .cards) (h .count) c) j 0 < cardCount) j (h .count)
-            (λ e. rw (e, getD-set-same (h .cards) (h .count) c 0 (omega (arith, s .long))) hc)
-            (λ d. rw (getD-set-other (h .cards) (h .count) j c 0 d) (s .small j (omega arith)));
-      };
-      are = ap (λ (n : ℕ). take n (set (h .cards) (h .count) c)) (add-one (h .count)) ∙ take-suc-set (h .cards) (h .count) c (omega (arith, s .long)) ∙ rw holding;
-    },
-    omega arith,
-  )
-
-  pub push-no : p c ≡ false → Lists h (cardsOf h ++ keepIf p (c ∷ [])) × (h .count ≤ h .count + 1)
-  push-no lacking = (record { sound = s; are = rw lacking (sym (append-nil (cardsOf h))) }, omega arith)
 
 -- ---- lists
 keep-keep : (f g : ℕ → Bool) (l : List ℕ) → keepIf f (keepIf g l) ≡ keepIf (λ c. g c && f c) l
@@ -73,13 +50,6 @@ keep-keep f g (x ∷ l) = go (g x) (keep-keep f g l)
         → keepIf f (cond t (x ∷ keepIf g l) (keepIf g l)) ≡ cond (t && f x) (x ∷ keepIf (λ c. g c && f c) l) (keepIf (λ c. g c && f c) l)
     go true e = ap (λ (r : List ℕ). cond (f x) (x ∷ r) r) e
     go false e = e
-
--- two cards pushed are the two sites pushed
-pub push-two : (p : ℕ → Bool) (sites l m n : List ℕ) (x y : ℕ) → x ∷ y ∷ [] ≡ sites
-    → m ≡ l ++ keepIf p (x ∷ []) → n ≡ m ++ keepIf p (y ∷ []) → n ≡ l ++ keepIf p sites
-push-two p sites l m n x y is d e =
-    e ∙ ap (λ (z : List ℕ). z ++ keepIf p (y ∷ [])) d ∙ append-assoc l (keepIf p (x ∷ [])) (keepIf p (y ∷ []))
-    ∙ ap (λ (z : List ℕ). l ++ z) (sym (keep-append p (x ∷ []) (y ∷ [])) ∙ ap (keepIf p) is)
 
 -- ---- placements by their number
 in-placements : (f : ℕ → Placement) (n i : ℕ) → i < n → In (f i) (placementsIn f n)
@@ -94,25 +64,37 @@ holdsSeen g b c = isHeld (viewOf g c b)
 abbrev notFailed : Image → ℕ → Bool
 notFailed g c = not (hasCard (controlIn g .failed) c)
 
-unfoldable pub firstHolders : Image → ℕ → Control → ℕ → List ℕ
-firstHolders g b k i = keepIf (holdsSeen g b) (keepIf (notFailed g) (concatMap (λ p. sitesOf p b) (placementsIn (placementIn k) i)))
+-- placement i, as the image's bytes show it
+abbrev pub shownAt : Image → ℕ → Placement
+shownAt g i = placementAt (λ n. getD g n 0) i
 
-pub first-none : (g : Image) (b : ℕ) (k : Control) → [] ≡ firstHolders g b k 0
+unfoldable pub firstHolders : Image → ℕ → ℕ → List ℕ
+firstHolders g b i = keepIf (holdsSeen g b) (keepIf (notFailed g) (concatMap (λ p. sitesOf p b) (placementsIn (shownAt g) i)))
+
+pub first-none : (g : Image) (b : ℕ) → [] ≡ firstHolders g b 0
 unfolding firstHolders
-first-none g b k = refl
+first-none g b = refl
 
 module _ (k : Control) (g : Image) (given : Given k g) where
   pub formed : controlForm g ≡ true
   formed = form-good g (given .formed)
 
-  -- the active placements are the first `count` ones
-  active-first : active (controlIn g) ≡ placementsIn (placementIn k) (k .count)
-  unfolding meaning
-  active-first = ap (λ (p : Part). active p) (sym (given .is .means)) ∙ active-is k (given .is .counted)
+  -- the active placements are the first `count` ones that the bytes show, and the newest is the last of them
+  some-active : 1 ≤ countIn (getD g 0 0)
+  some-active = form-count (λ n. getD g n 0) formed .0
+
+  same-count : countIn (getD g 0 0) ≡ k .count
+  same-count = sym (shown-count (λ n. getD g n 0) some-active k (given .is .counted) (given .is .means))
+
+  active-first : active (controlIn g) ≡ placementsIn (shownAt g) (k .count)
+  active-first = shown-active (λ n. getD g n 0) some-active ∙ ap (placementsIn (shownAt g)) same-count
+
+  pub newest-last : shownAt g (k .count - 1) ≡ controlIn g .newest
+  newest-last = sym (shown-newest (λ n. getD g n 0) some-active ∙ ap (λ (n : ℕ). shownAt g (n - 1)) same-count)
 
   -- each has as many members as copies
-  pub usable-at : (i : ℕ) → i < k .count → Usable (placementIn k i)
-  usable-at i h = usable-active g formed (placementIn k i) (rw active-first (in-placements (placementIn k) (k .count) i h))
+  pub usable-at : (i : ℕ) → i < k .count → Usable (shownAt g i)
+  usable-at i h = usable-active g formed (shownAt g i) (rw active-first (in-placements (shownAt g) (k .count) i h))
 
   -- a working card that holds a block is one that the rules see hold it
   pub holds-seen : (b c : ℕ) → b < blockCount → holdsAt g (byte (k .working)) b c ≡ isHeld (viewOf g c b)
@@ -130,20 +112,21 @@ module _ (k : Control) (g : Image) (given : Given k g) where
 
   -- one placement more
   pub first-more : (b i : ℕ) → b < blockCount
-      → firstHolders g b k i ++ keepIf (holdsAt g (byte (k .working)) b) (sitesOf (placementIn k i) b) ≡ firstHolders g b k (i + 1)
+      → firstHolders g b i ++ keepIf (holdsAt g (byte (k .working)) b) (sitesOf (shownAt g i) b) ≡ firstHolders g b (i + 1)
   unfolding firstHolders
   first-more b i hb =
-      let p = placementIn k i in
-      let l = placementsIn (placementIn k) i in
+      let p = shownAt g i in
+      let l = placementsIn (shownAt g) i in
       let sites : Placement → List ℕ = λ p. sitesOf p b in
-      sym (ap (λ (l : List Placement). keepIf (holdsSeen g b) (keepIf (notFailed g) (concatMap sites l))) (ap (placementsIn (placementIn k)) (add-one i) ∙ sym (placements-more (placementIn k) i))
+      sym (ap (λ (l : List Placement). keepIf (holdsSeen g b) (keepIf (notFailed g) (concatMap sites l))) (ap (placementsIn (shownAt g)) (add-one i) ∙ sym (placements-more (shownAt g) i))
       ∙ ap (λ (l : List ℕ). keepIf (holdsSeen g b) (keepIf (notFailed g) l)) (concat-more sites l p)
       ∙ ap (keepIf (holdsSeen g b)) (keep-append (notFailed g) (concatMap sites l) (sitesOf p b))
       ∙ keep-append (holdsSeen g b) (keepIf (notFailed g) (concatMap sites l)) (keepIf (notFailed g) (sitesOf p b))
-      ∙ ap (λ (r : List ℕ). firstHolders g b k i ++ r) (keep-keep (holdsSeen g b) (notFailed g) (sitesOf p b) ∙ ap (λ (f : ℕ → Bool). keepIf f (sitesOf p b)) (fun-ext (λ c. test-is b c hb))))
+      ∙ ap (λ (r : List ℕ). firstHolders g b i ++ r) (keep-keep (holdsSeen g b) (notFailed g) (sitesOf p b)
+      ∙ ap (λ (f : ℕ → Bool). keepIf f (sitesOf p b)) (fun-ext (λ c. test-is b c hb))))
 
   -- and all of them
-  pub first-all : (b : ℕ) → firstHolders g b k (k .count) ≡ holdersIn g b
+  pub first-all : (b : ℕ) → firstHolders g b (k .count) ≡ holdersIn g b
   unfolding firstHolders holders trail
   first-all b = ap (λ (l : List Placement). keepIf (holdsSeen g b) (keepIf (notFailed g) (concatMap (λ p. sitesOf p b) l))) (sym active-first)
 

@@ -1,11 +1,11 @@
--- The holders of a block on an image, and the list of them that the code keeps. Assumes nothing.
-use Prim.Native.Nat.{_*_, _<_, _≤_, ℕ}
-use lib.ListN.{getD, length, take}
+-- The holders of a block on an image, and what the code keeps of the list of them. Assumes nothing.
+use Prim.Native.Nat.{ℕ}
+use lib.ListN.{getD}
 use mathlib.Core.Bool.{Bool, _&&_, cond}
-use mathlib.Core.List.{List}
+use mathlib.Core.List.{List, _++_}
 use mathlib.Core.Path.{_≡_}
-use Rattle.image.specs.Layout.{cardCount, copyCount}
-use Rattle.mask.specs.Masks.{Byte, byte, hasCard, withCard}
+use Rattle.lists.specs.Tests.{elem, keepIf}
+use Rattle.mask.specs.Masks.{AreMembers, Byte, byte, hasCard, withCard}
 use Rattle.slot.specs.Blocks.{isHeld}
 use Rattle.method.specs.Rules.{holders}
 use Rattle.cabinet_rules.specs.Cabinet.{cabinet}
@@ -25,21 +25,11 @@ holdsAt g working b c = hasCard working c && isHeld (blockIn g c b)
 abbrev pub WithCard : ℕ → ℕ → ℕ → Bool → Type 0
 WithCard m r c on = byte r ≡ cond on (withCard (byte m) c) (byte m)
 
--- Two sites of each of four active placements.
-abbrev pub mostHolders : ℕ
-mostHolders = 4 * copyCount
-
--- The cards of the code's list: the first `count` entries.
-abbrev pub cardsOf : Holders → List ℕ
-cardsOf h = take (h .count) (h .cards)
-
--- The entries that count are cards.
-pub record Sound (h : Holders) : Type 0 where
-  pub few : h .count ≤ mostHolders
-  pub long : length (h .cards) ≡ mostHolders
-  pub small : (j : ℕ) → j < h .count → getD (h .cards) j 0 < cardCount
-
--- The code's list is l.
+-- What the code keeps of the list l of holders: its cards as a mask, and the first of them, card 0 where there is none.
 pub record Lists (h : Holders) (l : List ℕ) : Type 0 where
-  pub sound : Sound h
-  pub are : cardsOf h ≡ l
+  pub cards-are : AreMembers (h .cards) (λ c. elem c l)
+  pub first-is : h .first .0 ≡ getD l 0 0
+
+-- Whatever `found` lists, r lists that and behind it the cards of s that f picks.
+abbrev pub Adds : Holders → (ℕ → Bool) → List ℕ → Holders → Type 0
+Adds found f s r = (l : List ℕ) → Lists found l → Lists r (l ++ keepIf f s)

@@ -1,33 +1,31 @@
 // The trail of a block: the sites of all active placements, oldest first, and the holders on it. Beside it the cards
 // that hold a block, on its trail or not.
 ghost use mathlib.Core.Path.{_≡_};
-ghost use mathlib.Core.List.{_++_, _∷_, []};
-ghost use Prim.Native.Nat.{_+_, _<_, _≤_};
-ghost use Rattle.lists.specs.Tests.{keepIf};
-ghost use Rattle.image.specs.Layout.{Whole, blockCount, cardCount, copyCount};
+ghost use mathlib.Core.List.{List, _++_, _∷_, []};
+ghost use Prim.Native.Nat.{_+_, _<_, ℕ};
+ghost use lib.ListN.{getD};
+ghost use Rattle.image.specs.Layout.{Whole, blockCount, cardCount};
 ghost use Rattle.mask.specs.Masks.{AreMembers, byte};
 ghost use Rattle.mask.specs.Placements.{Usable, meant, sitesOf};
 ghost use Rattle.slot.specs.Blocks.{isHeld};
 ghost use Rattle.cabinet_rules.specs.Images.{blockIn};
 ghost use Rattle.promise.specs.Given.{Given};
-ghost use Rattle.trail.specs.Trail.{Lists, Sound, WithCard, cardsOf, holdersIn, holdsAt, mostHolders};
+ghost use Rattle.trail.specs.Trail.{Adds, Lists, WithCard, holdersIn, holdsAt};
 use control::Control;
 use image::Block;
 use image::Card;
 use mask::Placement;
 use slot::HELD;
 
-// Two sites of each of four active placements.
-pub const MOST_HOLDERS: usize = control::MASK_COUNT * image::COPY_COUNT;
-
-// A list of cards, oldest placement first; a card may stand in it twice.
+// The holders of a block: the first of them on its trail, the oldest placement first, and all of them as a mask. With no
+// holder the first is card 0.
 pub struct Holders {
-    pub count: u8,
-    pub cards: [u8; MOST_HOLDERS],
+    pub first: Card,
+    pub cards: u8,
 }
 
 // Whether the card's table holds the block: one byte is read.
-pub fn is_held(image: &[u8], card: Card, block: Block) -> bool
+fn is_held(image: &[u8], card: Card, block: Block) -> bool
     requires { ⌜ Whole (now image) × (card .0 < cardCount) × (block .0 < blockCount) ⌝ }
     ensures { λ r. ⌜ r ≡ isHeld (blockIn (now (image .entry)) (card .0) (block .0)) ⌝ }
 {
@@ -116,23 +114,25 @@ pub fn held_by_two(image: &[u8], working: u8, block: Block) -> HeldTwo
     held
 }
 
+// The first holder once the card is added.
+fn first_of(found: Holders, card: Card) -> Card
+    ensures { λ r. ⌜ ((l : List ℕ) → Lists found l → r .0 ≡ getD (l ++ (card .0 ∷ [])) 0 0) ⌝ }
+{
+    if found.cards == 0 {
+        return card;
+    }
+    found.first
+}
+
 // The card is added where it holds the block.
 fn push(image: &[u8], working: u8, block: Block, found: Holders, card: Card) -> Holders
     requires { ⌜ Whole (now image) × (card .0 < cardCount) × (block .0 < blockCount) ⌝ }
-    requires { ⌜ Sound found ⌝ }
-    requires { ⌜ found .count < mostHolders ⌝ }
-    ensures { λ r.
-        ⌜ Lists r (cardsOf found
-        ++ keepIf (holdsAt (now (image .entry)) (byte working) (block .0)) (card .0 ∷ []))
-        × (r .count ≤ found .count + 1) ⌝ }
+    ensures { λ r. ⌜ Adds found (holdsAt (now (image .entry)) (byte working) (block .0)) (card .0 ∷ []) r ⌝ }
 {
     if holds(image, working, card, block) {
-        let i = found.count as usize;
-        let mut cards = found.cards;
-        cards[i] = card.0;
         return Holders {
-            count: found.count + 1,
-            cards: cards,
+            first: first_of(found, card),
+            cards: mask::with_card(found.cards, card),
         };
     }
     found
@@ -147,19 +147,16 @@ fn push_sites(
     placement: Placement,
 ) -> Holders
     requires { ⌜ Whole (now image) × Usable (meant placement) × (block .0 < blockCount) ⌝ }
-    requires { ⌜ Sound found ⌝ }
-    requires { ⌜ found .count + copyCount ≤ mostHolders ⌝ }
-    ensures { λ r.
-        ⌜ Lists r (cardsOf found
-        ++ keepIf (holdsAt (now (image .entry)) (byte working) (block .0)) (sitesOf (meant placement) (block .0)))
-        × (r .count ≤ found .count + copyCount) ⌝ }
+    ensures { λ r. ⌜ Adds found (holdsAt (now (image .entry)) (byte working) (block .0))
+        (sitesOf (meant placement) (block .0)) r ⌝ }
 {
     let sites = placement.sites(block);
     let more = push(image, working, block, found, sites.first);
     push(image, working, block, more, sites.second)
 }
 
-// The holders of a block.
+// The holders of a block. The placements are read off the image: of the struct only the count and the working cards are
+// used.
 pub fn find(image: &[u8], k: Control, block: Block) -> Holders
     requires { ⌜ Given k (now image) ⌝ }
     requires { ⌜ block .0 < blockCount ⌝ }
@@ -168,12 +165,18 @@ pub fn find(image: &[u8], k: Control, block: Block) -> Holders
     let count = k.count as usize;
     let working = k.working;
     let mut found = Holders {
-        count: 0,
-        cards: [0u8; MOST_HOLDERS],
+        first: Card(0),
+        cards: 0,
     };
     let mut i: usize = 0;
     while i < count {
-        let more = push_sites(image, working, block, found, k.placement(i));
+        let more = push_sites(
+            image,
+            working,
+            block,
+            found,
+            control::codec::placement_at(image, i),
+        );
         found = more;
         i += 1;
     }

@@ -1,10 +1,51 @@
--- The proof of `form_ok`. Assumes nothing.
-use mathlib.Core.Path.{ap, _∙_}
-use Rattle.control_form.specs.ControlForm.{partOk, formOk}
-use Rattle.control_form.proofs.Checks.{failed-is, passed-is, count-counted, means-is}
+-- The proof of `form_ok`: the control form is the clauses in the code's order; each clause that passes leaves those behind
+-- it, and one that fails decides. Assumes nothing.
+use mathlib.Core.Path.{_≡_, _∙_, sym}
+use mathlib.Core.List.{List}
+use Prim.Native.Nat.{ℕ}
+use Rattle.control_form.specs.ControlForm.{controlForm, formOk}
+use Rattle.control_form.proofs.Checks.{failed-is, passed-is}
+use Rattle.control_form.specs.Reading.{allFrom, fourthIn, homeFitsAt, newestIn, otherZeros}
+use Rattle.control_form.proofs.Clauses.{all-fail, apartIn, clauses, form-by, others-left, placementsIn}
+use Rattle.control_form.proofs.Clauses.{fromApart, fromFourth, fromNewest, fromPlacements}
 use borrow.Author.Needs.{needs}
 use Rattle.control_form.proofs.form_ok.Statement.{statement}
 use Rattle.control_form.proofs.form_ok.Tie as tie
+
+-- the bytes, at each place
+abbrev at1 : tie.Else1 → List ℕ
+at1 c = c .before .before .before .args .s .now
+
+abbrev at2 : tie.Else2 → List ℕ
+at2 c = at1 (c .before .before)
+
+abbrev at3 : tie.Else3 → List ℕ
+at3 c = at2 (c .before .before .before .before)
+
+abbrev at4 : tie.Else4 → List ℕ
+at4 c = at3 (c .before .before)
+
+abbrev at5 : tie.Else5 → List ℕ
+at5 c = at4 (c .before .before)
+
+abbrev at6 : tie.Else6 → List ℕ
+at6 c = at5 (c .before .before)
+
+-- what is left of the control form there
+left1 : (c : tie.Else1) → controlForm (at1 c) ≡ clauses (at1 c)
+left1 c = form-by (at1 c) (passed-is (c .before .count-ok .ensures) (c .if1 .left)) (λ n. c .before .before .shared-slice-known .given n .fits)
+
+left2 : (c : tie.Else2) → controlForm (at2 c) ≡ fromApart (at2 c)
+left2 c = others-left (otherZeros (at2 c)) (fromApart (at2 c)) (left1 (c .before .before)) (passed-is (c .before .zero-fields-ok .ensures) (c .if2 .left))
+
+left3 : (c : tie.Else3) → controlForm (at3 c) ≡ fromPlacements (at3 c)
+left3 c = others-left (apartIn (at3 c)) (fromPlacements (at3 c)) (left2 (c .before .before .before .before)) (passed-is (c .before .apart .ensures) (c .if3 .left))
+
+left4 : (c : tie.Else4) → controlForm (at4 c) ≡ fromFourth (at4 c)
+left4 c = others-left (placementsIn (at4 c)) (fromFourth (at4 c)) (left3 (c .before .before)) (passed-is (c .before .placements-ok .ensures) (c .if4 .left))
+
+left5 : (c : tie.Else5) → controlForm (at5 c) ≡ fromNewest (at5 c)
+left5 c = others-left (fourthIn (at5 c)) (fromNewest (at5 c)) (left4 (c .before .before)) (passed-is (c .before .fourth-ok .ensures) (c .if5 .left))
 
 count-ok-requires : tie.Need-count-ok-requires
 count-ok-requires c κs = search needs
@@ -14,26 +55,59 @@ unfolding formOk
 returns c = rw (failed-is (c .before .count-ok .ensures) (c .if1 .taken))
 
 zero-fields-ok-requires : tie.Need-zero-fields-ok-requires
-zero-fields-ok-requires c κs =
-    let s = c .before .before .before in
-    (s .pre .0, passed-is (c .before .count-ok .ensures) (c .if1 .left))
+zero-fields-ok-requires c κs = (c .before .before .before .pre, passed-is (c .before .count-ok .ensures) (c .if1 .left))
 
 returns-2 : tie.Need-returns-2
-unfolding formOk
-returns-2 c = rw (passed-is (c .before .before .before .count-ok .ensures) (c .before .before .if1 .left), failed-is (c .before .zero-fields-ok .ensures) (c .if2 .taken))
+returns-2 c =
+    let g = at1 (c .before .before) in
+    all-fail (otherZeros g) (fromApart g) (left1 (c .before .before)) (failed-is (c .before .zero-fields-ok .ensures) (c .if2 .taken))
 
-part-ok-requires : tie.Need-part-ok-requires
-part-ok-requires c κs =
-    let s = c .before .before .before .before .before in
-    count-counted (s .args .s .now) (s .args .k) (s .pre .1) (passed-is (c .before .before .before .count-ok .ensures) (c .before .before .if1 .left))
+shared-slice-read-apart : tie.Need-shared-slice-read-apart
+shared-slice-read-apart c = search needs
+
+shared-slice-read-apart-2 : tie.Need-shared-slice-read-apart-2
+shared-slice-read-apart-2 c = search needs
+
+apart-requires : tie.Need-apart-requires
+apart-requires c κs = search needs
 
 returns-3 : tie.Need-returns-3
-unfolding formOk
 returns-3 c =
-    let s = c .before .before .before .before .before .before in
-    let t = passed-is (c .before .before .before .before .count-ok .ensures) (c .before .before .before .if1 .left) in
-    rw (t, passed-is (c .before .before .zero-fields-ok .ensures) (c .before .if2 .left))
-    (c .part-ok .ensures ∙ ap partOk (means-is (s .args .s .now) (s .args .k) (s .pre .1) (count-counted (s .args .s .now) (s .args .k) (s .pre .1) t)))
+    let g = at2 (c .before .before .before .before) in
+    all-fail (apartIn g) (fromPlacements g) (left2 (c .before .before .before .before)) (failed-is (c .before .apart .ensures) (c .if3 .taken))
+
+placements-ok-requires : tie.Need-placements-ok-requires
+placements-ok-requires c κs = search needs
+
+returns-4 : tie.Need-returns-4
+returns-4 c =
+    let g = at3 (c .before .before) in
+    all-fail (placementsIn g) (fromFourth g) (left3 (c .before .before)) (failed-is (c .before .placements-ok .ensures) (c .if4 .taken))
+
+fourth-ok-requires : tie.Need-fourth-ok-requires
+fourth-ok-requires c κs = search needs
+
+returns-5 : tie.Need-returns-5
+returns-5 c =
+    let g = at4 (c .before .before) in
+    all-fail (fourthIn g) (fromNewest g) (left4 (c .before .before)) (failed-is (c .before .fourth-ok .ensures) (c .if5 .taken))
+
+newest-works-requires : tie.Need-newest-works-requires
+newest-works-requires c κs = search needs
+
+returns-6 : tie.Need-returns-6
+returns-6 c =
+    let g = at5 (c .before .before) in
+    all-fail (newestIn g) (allFrom 8 24 (homeFitsAt g)) (left5 (c .before .before)) (failed-is (c .before .newest-works .ensures) (c .if6 .taken))
+
+homes-ok-requires : tie.Need-homes-ok-requires
+homes-ok-requires c κs = search needs
+
+returns-7 : tie.Need-returns-7
+returns-7 c =
+    let n = c .before in
+    let g = at6 n in
+    c .homes-ok .ensures ∙ sym (others-left (newestIn g) (allFrom 8 24 (homeFitsAt g)) (left5 (n .before .before)) (passed-is (n .before .newest-works .ensures) (n .if6 .left)))
 
 pub form-ok-spec : {M : Type 1} → statement M
 form-ok-spec =
@@ -43,5 +117,15 @@ form-ok-spec =
     returns
     zero-fields-ok-requires
     returns-2
-    part-ok-requires
-    returns-3)
+    shared-slice-read-apart
+    shared-slice-read-apart-2
+    apart-requires
+    returns-3
+    placements-ok-requires
+    returns-4
+    fourth-ok-requires
+    returns-5
+    newest-works-requires
+    returns-6
+    homes-ok-requires
+    returns-7)

@@ -1,75 +1,78 @@
--- The proof of `homes_ok`. Assumes nothing.
-use mathlib.Core.Path.{_≡_, sym, _∙_}
-use mathlib.Core.Bool.{true}
-use Prim.Native.Nat.{_≤_, _-_}
-use native.Mathlib.Omega.{arith}
+-- The proof of `homes_ok`: the form of sixteen bytes, then their homes. Assumes nothing.
+use mathlib.Core.Path.{_≡_, _∙_, sym}
+use mathlib.Core.Bool.{Bool, true, false}
+use borrow.Author.Tests.{le-leb, lt-leb}
+use lib.Dec.{leb}
+use Rattle.control_form.specs.Reading.{allFrom, homeFitsAt, homeOkAt, isHomeAt}
+use lib.ListN.{getD}
+use Rattle.control_form.proofs.Checks.{failed-is, passed-is}
+use Rattle.control_form.proofs.Homes.{all-homes, fits-by}
 use borrow.Author.Needs.{needs}
-use borrow.Author.Tests.{not-true, not-false}
-use Rattle.lists.specs.Tests.{allBelow}
-use Rattle.lists.proofs.Counts.{all-more}
-use Rattle.image.specs.Layout.{tranBound}
-use Rattle.control_form.proofs.Checks.{homeTest, home-none, home-test, home-fails, homes-passed}
 use Rattle.control_form.proofs.homes_ok.Statement.{statement}
 use Rattle.control_form.proofs.homes_ok.Tie as tie
+use Rattle.control_form.proofs.homes_ok.Reads as reads
+use Rattle.control_form.proofs.homes_ok.Lts as lts
+use Rattle.control_form.proofs.homes_work.Reads as homes-work-reads
+use Rattle.control_form.proofs.none_open.Reads as none-open-reads
+use Rattle.control_form.proofs.words.are_homes.Reads as are-homes-reads
 
-abbrev Inv-loop : tie.InvT-loop
-Inv-loop k t₀ t = (1 ≤ t) × (t ≤ tranBound) × (allBelow t (homeTest k) ≡ true)
+are-homes-requires : tie.Need-are-homes-requires
+are-homes-requires c κs = search needs
 
-abbrev μ-loop : tie.MeasureT-loop
-μ-loop k t₀ t = tranBound - t
+returns : tie.Need-returns
+returns c = rw (fits-by (c .before .before .before .args .s .now), failed-is (c .before .are-homes .ensures) (c .if1 .taken))
 
-loop-holds : tie.Need-loop-holds Inv-loop μ-loop
-loop-holds c = (search needs, search needs, home-none _)
+add-are-homes : tie.Need-add-are-homes
+add-are-homes c = search needs
 
-sub-at : tie.Need-sub-at Inv-loop μ-loop
-sub-at c = search needs
+are-homes-requires-2 : tie.Need-are-homes-requires-2
+are-homes-requires-2 c κs = search needs
 
-element-copy-out-home-ok : tie.Need-element-copy-out-home-ok Inv-loop μ-loop
-element-copy-out-home-ok c = search needs
-
-home-ok-requires : tie.Need-home-ok-requires Inv-loop μ-loop
-home-ok-requires c κs = search needs
-
-returns : tie.Need-returns Inv-loop μ-loop
-returns c =
-    let l = c .before .before .before .before .loop in
-    let s = c .before .before .before .before .before in
-    home-fails (s .args .t1) (l .t) (search needs)
-    (home-test (s .args .t1) (l .t) (search needs) (search needs) ∙ sym (c .before .home-ok .ensures) ∙ not-true _ (c .if1 .taken))
-
-add-t : tie.Need-add-t Inv-loop μ-loop
-add-t c = search needs
-
-loop-less : tie.Need-loop-less Inv-loop μ-loop
-loop-less c = search needs
-
-loop-again : tie.Need-loop-again Inv-loop μ-loop
-loop-again c =
-    let l = c .before .before .before .before .loop in
-    let s = c .before .before .before .before .before in (
-      search needs,
-      search needs,
-      all-more (homeTest (s .args .t1)) (l .t)
-          (home-test (s .args .t1) (l .t) (search needs) (search needs) ∙ sym (c .before .home-ok .ensures) ∙ not-false _ (c .if1 .left)) (l .inv .2),
-    )
-
-returns-2 : tie.Need-returns-2 Inv-loop μ-loop
+returns-2 : tie.Need-returns-2
 returns-2 c =
-    let l = c .before .loop in
-    homes-passed (c .before .before .args .t1) (l .t) (omega arith) (l .inv .2)
+    let e = c .before .before in
+    let g = e .before .before .before .args .s .now in
+    rw (fits-by g, passed-is (e .before .are-homes .ensures) (e .if1 .left), failed-is (c .before .are-homes2 .ensures) (c .if2 .taken))
+
+shared-slice-read-if3 : tie.Need-shared-slice-read-if3
+shared-slice-read-if3 c = search needs
+
+-- all sixteen are formed, and what is left is their homes
+formed : (c : tie.Else2) → allFrom 8 24 (isHomeAt (c .before .before .before .before .before .args .s .now)) ≡ true
+formed c =
+    let e = c .before .before in
+    all-homes (e .before .before .before .args .s .now) (passed-is (e .before .are-homes .ensures) (e .if1 .left)) (passed-is (c .before .are-homes2 .ensures) (c .if2 .left))
+
+left : (c : tie.Else2) (stopped : Bool) → leb 128 (getD (c .before .before .before .before .before .args .s .now) 0 0) ≡ stopped
+    → allFrom 8 24 (homeFitsAt (c .before .before .before .before .before .args .s .now)) ≡ allFrom 8 24 (homeOkAt stopped (c .before .before .before .before .before .args .s .now))
+left c stopped s =
+    let e = c .before .before in
+    let g = e .before .before .before .args .s .now in
+    fits-by g ∙ rw (passed-is (e .before .are-homes .ensures) (e .if1 .left), passed-is (c .before .are-homes2 .ensures) (c .if2 .left), s)
+
+none-open-requires : tie.Need-none-open-requires
+none-open-requires c κs = (c .before .before .before .before .before .before .before .pre, formed (c .before .before))
+
+returns-3 : tie.Need-returns-3
+returns-3 c = c .none-open .ensures ∙ sym (left (c .before .before .before) true (le-leb 128 _ (c .before .if3 .taken)))
+
+homes-work-requires : tie.Need-homes-work-requires
+homes-work-requires c κs = (c .before .before .before .before .before .before .before .pre, formed (c .before .before))
+
+returns-4 : tie.Need-returns-4
+returns-4 c = c .homes-work .ensures ∙ sym (left (c .before .before .before) false (lt-leb 128 _ (c .before .if3 .left)))
 
 pub homes-ok-spec : {M : Type 1} → statement M
 homes-ok-spec =
     tie.close
     (tie.spec
-    Inv-loop
-    μ-loop
-    loop-holds
-    sub-at
-    element-copy-out-home-ok
-    home-ok-requires
+    are-homes-requires
     returns
-    add-t
-    loop-less
-    loop-again
-    returns-2)
+    add-are-homes
+    are-homes-requires-2
+    returns-2
+    shared-slice-read-if3
+    none-open-requires
+    returns-3
+    homes-work-requires
+    returns-4)

@@ -1,29 +1,48 @@
 -- The proof of `newest_works`. Assumes nothing.
-use Prim.Native.Nat.{ℕ}
-use mathlib.Core.Path.{_∙_, ap}
-use Rattle.mask.specs.Masks.{Byte, byte, isWithin}
-use Rattle.control.specs.Meaning.{meaning}
+use borrow.Author.Tests.{le-leb, lt-leb}
+use Rattle.control_form.specs.Reading.{newestIn}
 use borrow.Author.Needs.{needs}
 use Rattle.control_form.proofs.newest_works.Statement.{statement}
 use Rattle.control_form.proofs.newest_works.Tie as tie
+use Rattle.control_form.proofs.newest_works.Reads as reads
+use Rattle.control_form.proofs.newest_works.Lts as lts
+use Rattle.mask.proofs.within.Reads as within-reads
+
+shared-slice-read-if1 : tie.Need-shared-slice-read-if1
+shared-slice-read-if1 c = search needs
 
 returns : tie.Need-returns
-unfolding meaning
-returns c = rw (c .if1 .taken)
+unfolding newestIn
+returns c = rw (le-leb _ _ (c .if1 .taken))
 
-newest-mask-requires : tie.Need-newest-mask-requires
-newest-mask-requires c κs = search needs
+shared-slice-read-count : tie.Need-shared-slice-read-count
+shared-slice-read-count c = search needs
+
+cast-count : tie.Need-cast-count
+cast-count c = search needs
+
+shared-slice-read-within : tie.Need-shared-slice-read-within
+shared-slice-read-within c = search needs
+
+shared-slice-read-within-2 : tie.Need-shared-slice-read-within-2
+shared-slice-read-within-2 c = search needs
 
 within-requires : tie.Need-within-requires
 within-requires c κs = search needs
 
 returns-2 : tie.Need-returns-2
-unfolding meaning
-returns-2 c =
-    let s = c .before in
-    let w : Byte = byte (s .before .before .args .k .working) in
-    rw (s .before .if1 .left) (c .within .ensures ∙ ap (λ (m : ℕ). isWithin (byte m) w) (s .newest-mask .ensures))
+unfolding newestIn
+returns-2 c = rw (lt-leb _ _ (c .before .before .before .before .if1 .left)) (c .within .ensures)
 
 pub newest-works-spec : {M : Type 1} → statement M
 newest-works-spec =
-    tie.close (tie.spec returns newest-mask-requires within-requires returns-2)
+    tie.close
+    (tie.spec
+    shared-slice-read-if1
+    returns
+    shared-slice-read-count
+    cast-count
+    shared-slice-read-within
+    shared-slice-read-within-2
+    within-requires
+    returns-2)

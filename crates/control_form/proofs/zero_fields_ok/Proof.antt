@@ -3,16 +3,22 @@ use mathlib.Core.Path.{_≡_, sym}
 use mathlib.Core.Bool.{true, false}
 use Prim.Native.Nat.{ℕ}
 use native.Mathlib.Omega.{arith}
-use borrow.Author.Needs.{needs}
 use borrow.Author.Tests.{eq-eqb, ne-eqb}
 use lib.Bits.{bitAnd}
 use lib.Dec.{eqb}
 use lib.ListN.{getD}
 use Rattle.control.specs.Meaning.{bitsFrom}
+use Rattle.control_form.specs.Reading.{otherZeros}
 use Rattle.control_form.proofs.Checks.{failed-is, passed-is}
-use Rattle.control_form.proofs.ZeroFields.{count-few, zero-fields-by}
+use Rattle.control_form.proofs.ZeroFields.{count-few, count-some}
+use borrow.Author.Needs.{needs}
 use Rattle.control_form.proofs.zero_fields_ok.Statement.{statement}
 use Rattle.control_form.proofs.zero_fields_ok.Tie as tie
+use Rattle.control_form.proofs.zero_fields_ok.Reads as reads
+use Rattle.control_form.proofs.zero_fields_ok.Lts as lts
+use Rattle.control.proofs.codec.no_marks.Reads as no-marks-reads
+use Rattle.control_form.proofs.tail_ok.Reads as tail-ok-reads
+use Rattle.control_form.proofs.masks_end.Reads as masks-end-reads
 
 marks-fail : {r : ℕ} (m n : ℕ) → r ≡ bitsFrom n → (bitAnd m r ≡ 0 → ⊥) → eqb (bitAnd m (bitsFrom n)) 0 ≡ false
 marks-fail m n e h = rw (sym e) (ne-eqb _ 0 h)
@@ -24,32 +30,20 @@ shared-slice-read-if1 : tie.Need-shared-slice-read-if1
 shared-slice-read-if1 c = search needs
 
 returns : tie.Need-returns
-returns c =
-    let a = c .before .before in
-    rw (zero-fields-by (a .before .args .s .now) (a .before .pre .1) (λ n. a .shared-slice-known .given n .fits), ne-eqb _ _ (c .if1 .taken))
+unfolding otherZeros
+returns c = rw (ne-eqb _ _ (c .if1 .taken))
 
 shared-slice-read-count : tie.Need-shared-slice-read-count
 shared-slice-read-count c = search needs
 
-cast-zeros : tie.Need-cast-zeros
-cast-zeros c = search needs
-
-add-zeros : tie.Need-add-zeros
-add-zeros c = search needs
-
-zeros-requires : tie.Need-zeros-requires
-zeros-requires c κs =
+masks-end-requires : tie.Need-masks-end-requires
+masks-end-requires c κs =
     let s = c .before .before .before .before in
-    (omega (arith, s .pre .0), omega (arith, count-few (s .args .s .now) (s .pre .1)))
+    (s .pre .0, (count-some (s .args .s .now) (s .pre .1), count-few (s .args .s .now) (s .pre .1)))
 
 returns-2 : tie.Need-returns-2
-returns-2 c =
-    let a = c .before .before .before .before .before in
-    rw (
-      zero-fields-by (a .before .args .s .now) (a .before .pre .1) (λ n. a .shared-slice-known .given n .fits),
-      eq-eqb _ _ (c .before .before .before .if1 .left),
-      failed-is (c .before .zeros .ensures) (c .if2 .taken),
-    )
+unfolding otherZeros
+returns-2 c = rw (eq-eqb _ _ (c .before .before .before .if1 .left), failed-is (c .before .masks-end .ensures) (c .if2 .taken))
 
 shared-slice-read-if3 : tie.Need-shared-slice-read-if3
 shared-slice-read-if3 c = search needs
@@ -60,46 +54,30 @@ no-marks-requires c κs =
     count-few (s .args .s .now) (s .pre .1)
 
 returns-3 : tie.Need-returns-3
+unfolding otherZeros
 returns-3 c =
     let m = c .before in
     let a = m .before .before .before .before .before .before .before in
     rw (
-      zero-fields-by (a .before .args .s .now) (a .before .pre .1) (λ n. a .shared-slice-known .given n .fits),
       eq-eqb _ _ (m .before .before .before .before .before .if1 .left),
-      passed-is (m .before .before .before .zeros .ensures) (m .before .before .if2 .left),
+      passed-is (m .before .before .before .masks-end .ensures) (m .before .before .if2 .left),
       marks-fail (getD (a .before .args .s .now) 7 0) _ (m .no-marks .ensures) (c .if3 .taken),
     )
 
-home-bytes-ok-requires : tie.Need-home-bytes-ok-requires
-home-bytes-ok-requires c κs = search needs
+tail-ok-requires : tie.Need-tail-ok-requires
+tail-ok-requires c κs = search needs
 
 returns-4 : tie.Need-returns-4
+unfolding otherZeros
 returns-4 c =
-    let m = c .before .before .before in
+    let m = c .before .before in
     let a = m .before .before .before .before .before .before .before in
     rw (
-      zero-fields-by (a .before .args .s .now) (a .before .pre .1) (λ n. a .shared-slice-known .given n .fits),
       eq-eqb _ _ (m .before .before .before .before .before .if1 .left),
-      passed-is (m .before .before .before .zeros .ensures) (m .before .before .if2 .left),
-      marks-hold (getD (a .before .args .s .now) 7 0) _ (m .no-marks .ensures) (c .before .before .if3 .left),
-      failed-is (c .before .home-bytes-ok .ensures) (c .if4 .taken),
+      passed-is (m .before .before .before .masks-end .ensures) (m .before .before .if2 .left),
+      marks-hold (getD (a .before .args .s .now) 7 0) _ (m .no-marks .ensures) (c .before .if3 .left),
     )
-
-zeros-requires-2 : tie.Need-zeros-requires-2
-zeros-requires-2 c κs = search needs
-
-returns-5 : tie.Need-returns-5
-returns-5 c =
-    let m = c .before .before .before .before in
-    let a = m .before .before .before .before .before .before .before in
-    rw (
-      zero-fields-by (a .before .args .s .now) (a .before .pre .1) (λ n. a .shared-slice-known .given n .fits),
-      eq-eqb _ _ (m .before .before .before .before .before .if1 .left),
-      passed-is (m .before .before .before .zeros .ensures) (m .before .before .if2 .left),
-      marks-hold (getD (a .before .args .s .now) 7 0) _ (m .no-marks .ensures) (c .before .before .before .if3 .left),
-      passed-is (c .before .before .home-bytes-ok .ensures) (c .before .if4 .left),
-    )
-    (c .zeros2 .ensures)
+    (c .tail-ok .ensures)
 
 pub zero-fields-ok-spec : {M : Type 1} → statement M
 zero-fields-ok-spec =
@@ -108,14 +86,10 @@ zero-fields-ok-spec =
     shared-slice-read-if1
     returns
     shared-slice-read-count
-    cast-zeros
-    add-zeros
-    zeros-requires
+    masks-end-requires
     returns-2
     shared-slice-read-if3
     no-marks-requires
     returns-3
-    home-bytes-ok-requires
-    returns-4
-    zeros-requires-2
-    returns-5)
+    tail-ok-requires
+    returns-4)

@@ -1,6 +1,7 @@
 -- The proof of `store`. Assumes nothing.
 use mathlib.Core.Bool.{true}
 use mathlib.Core.Path.{_∙_, _≡_, sym}
+use Prim.Native.Nat.{_<_}
 use borrow.Author.Needs.{needs}
 use Rattle.cabinet_rules.specs.Delivery.{storable}
 use Rattle.records.proofs.Calls.{newest-usable, rec-fits, store-held, store-new, store-refused, tran-fits, whole}
@@ -71,7 +72,8 @@ returns-3 c =
     let e = t .before .before .before in
     let u = e .before .before in
     let a = u .before .before .before .args in
-    store-held (a .image .now) (a .tran .0) (a .rec .0) (u .look-up .result) (u .look-up .ensures .ready (clear e .1)) (a .value) (clear e .0) _ (t .if2 .left) (y .lock-all .ensures)
+    let small : u .look-up .result .holders .cards < 256 = search needs in
+    store-held (a .image .now) (a .tran .0) (a .rec .0) (u .look-up .result) (u .look-up .ensures .ready (clear e .1)) (a .value) (clear e .0) _ small (t .if2 .left) (y .lock-all .ensures)
 
 pub store-spec : {M : Type 1} → statement M
 store-spec =

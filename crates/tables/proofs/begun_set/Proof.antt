@@ -1,4 +1,5 @@
--- The proof of `begun_set`. Assumes nothing.
+-- The proof of `begun_set`: the set of the transactions up to i has been collected, and each new bit is above it.
+-- Assumes nothing.
 use Prim.Native.Nat.{_+_, _-_, _≤_, ℕ}
 use borrow.Author.Needs.{needs}
 use mathlib.Core.Path.{_∙_, _≡_, ap}

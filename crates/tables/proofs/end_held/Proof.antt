@@ -1,46 +1,51 @@
--- The proof of `end_held`. Assumes nothing.
-use Prim.Native.Nat.{_%_, _-_, _/_, _≤_, ℕ}
+-- The proof of `end_held`: the cards below c have their tables ended; with an empty set nothing is picked. Assumes
+-- nothing.
+use Prim.Native.Nat.{_-_, _≤_, ℕ}
 use borrow.Author.Needs.{needs}
 use lib.ListN.{length}
 use mathlib.Core.Bool.{Bool}
-use mathlib.Core.Path.{_∙_, _≡_, ap, refl}
+use mathlib.Core.List.{List}
+use mathlib.Core.Path.{_∙_, _≡_, ap, refl, sym}
 use native.Mathlib.Omega.{arith}
-use Rattle.image.specs.Layout.{blockAt, blockCount}
+use Rattle.lists.specs.Segments.{within}
+use Rattle.lists.proofs.Each.{each-more, each-none}
+use Rattle.image.specs.Layout.{cardCount, controlSize, tableSize, tableStart}
 use Rattle.mask.specs.Masks.{byte}
 use Rattle.slot.specs.Blocks.{inSet}
-use Rattle.promise.proofs.Laid.{laid}
-use Rattle.promise.proofs.Sweep.{byContent, give, sweep-end, sweep-start, sweep-step, sweepCount, upTo}
-use Rattle.tables.specs.Tables.{endBlock}
-use Rattle.tables.proofs.Ends.{endAt, swept}
+use Rattle.tables.specs.Tables.{endedOn}
+use Rattle.tables.proofs.Ends.{all-ended, cardWise, none-ended, upTo}
 use Rattle.tables.proofs.end_held.Statement.{statement}
 use Rattle.tables.proofs.end_held.Tie as tie
+use Rattle.tables.proofs.end_held.Reads as reads
+use Rattle.tables.proofs.end_held.Lts as lts
+use Rattle.mask.proofs.has.Reads as has-reads
+use Rattle.tables.proofs.end_card.Reads as end-card-reads
 
 abbrev Inv-loop : tie.InvT-loop
-Inv-loop image₀ working take set i₀ image i = (i ≤ sweepCount) × (length image ≡ length image₀)
-    × (image ≡ laid (upTo i (byContent (endAt (byte working) take (inSet set)) image₀)) image₀)
+Inv-loop image₀ working take set c₀ image c = (c ≤ cardCount) × (length image ≡ length image₀)
+    × (image ≡ upTo (byte working) take (inSet set) c image₀)
 
 abbrev μ-loop : tie.MeasureT-loop
-μ-loop image₀ working take set i₀ image i = sweepCount - i
+μ-loop image₀ working take set c₀ image c = cardCount - c
+
+returns : tie.Need-returns Inv-loop μ-loop
+returns c =
+    let a = c .before .before .args in
+    none-ended (byte (a .working)) (a .take) (a .set) (a .image .now) (search needs) (c .if1 .taken)
 
 loop-holds : tie.Need-loop-holds Inv-loop μ-loop
 loop-holds c =
-    let a = c .before .args in
-    (omega arith, refl, sweep-start (byContent (endAt (byte (a .working)) (a .take) (inSet (a .set))) (a .image .now)) (a .image .now) (search needs))
-
-mul-loop : tie.Need-mul-loop Inv-loop μ-loop
-mul-loop c = search needs
-
-cast-t9 : tie.Need-cast-t9 Inv-loop μ-loop
-cast-t9 c = search needs
+    let a = c .before .before .args in
+    (omega arith, refl, sym (each-none (cardWise (byte (a .working)) (a .take) (inSet (a .set))) controlSize tableSize (a .image .now)))
 
 has-requires : tie.Need-has-requires Inv-loop μ-loop
 has-requires c κs = search needs
 
-end-block-requires : tie.Need-end-block-requires Inv-loop μ-loop
-end-block-requires c κs = search needs
+end-card-requires : tie.Need-end-card-requires Inv-loop μ-loop
+end-card-requires c κs = search needs
 
-add-i : tie.Need-add-i Inv-loop μ-loop
-add-i c = search needs
+add-c : tie.Need-add-c Inv-loop μ-loop
+add-c c = search needs
 
 loop-less : tie.Need-loop-less Inv-loop μ-loop
 loop-less c = search needs
@@ -50,26 +55,26 @@ loop-again c =
     let e = c .before .before in
     let m = e .before .before in
     let l = m .before .before .loop in
-    let a = m .before .before .before .before .args in (
+    let a = m .before .before .before .before .before .args in
+    let f = cardWise (byte (a .working)) (a .take) (inSet (a .set)) in (
       omega arith,
       search needs,
-      e .end-block .ensures
-          ∙ ap (λ (on : Bool). give (endBlock on (a .take) (inSet (a .set)) (blockAt (l .image) (l .i / blockCount) (l .i % blockCount)))
-          (l .i / blockCount) (l .i % blockCount) (l .image)) (m .has .ensures)
-          ∙ sweep-step (endAt (byte (a .working)) (a .take) (inSet (a .set))) (a .image .now) (search needs) (l .i) (omega arith) (l .image) (l .inv .2),
+      e .end-card .ensures
+          ∙ ap (λ (on : Bool). within (l .image) (tableStart (l .c)) tableSize (endedOn on (a .take) (inSet (a .set)))) (m .has .ensures)
+          ∙ ap (λ (g : List ℕ). within g (tableStart (l .c)) tableSize (f (l .c))) (l .inv .2)
+          ∙ each-more f controlSize tableSize (l .c) (a .image .now),
     )
 
 same-length : tie.Need-same-length Inv-loop μ-loop
 same-length c = search needs
 
-returns : tie.Need-returns Inv-loop μ-loop
-returns c =
+returns-2 : tie.Need-returns-2 Inv-loop μ-loop
+returns-2 c =
     let l = c .before .loop in
-    let a = c .before .before .before .args in
-    let w = byContent (endAt (byte (a .working)) (a .take) (inSet (a .set))) (a .image .now) in
-    let e : l .i ≡ sweepCount = omega arith in
-    l .inv .2 ∙ ap (λ (n : ℕ). laid (upTo n w) (a .image .now)) e ∙ sweep-end w (a .image .now)
-    ∙ swept (byte (a .working)) (a .take) (inSet (a .set)) (a .image .now) (search needs)
+    let a = c .before .before .before .before .args in
+    let e : l .c ≡ cardCount = omega arith in
+    l .inv .2 ∙ ap (λ (n : ℕ). upTo (byte (a .working)) (a .take) (inSet (a .set)) n (a .image .now)) e
+    ∙ all-ended (byte (a .working)) (a .take) (inSet (a .set)) (a .image .now) (search needs)
 
 pub end-held-spec : {M : Type 1} → statement M
 end-held-spec =
@@ -77,13 +82,12 @@ end-held-spec =
     (tie.spec
     Inv-loop
     μ-loop
+    returns
     loop-holds
-    mul-loop
-    cast-t9
     has-requires
-    end-block-requires
-    add-i
+    end-card-requires
+    add-c
     loop-less
     loop-again
     same-length
-    returns)
+    returns-2)

@@ -1,28 +1,27 @@
--- The proof of `is_begun`. Assumes nothing.
+-- The proof of `is_begun`: open at all, or open with the card. Assumes nothing.
 use Prim.Native.Nat.{ℕ}
-use mathlib.Core.Bool.{Bool, false, true}
-use mathlib.Core.Option.{none}
+use mathlib.Core.Bool.{Bool, cond, false, true}
+use mathlib.Core.Option.{Option, none, some}
 use mathlib.Core.Path.{_≡_, refl}
-use borrow.Author.Tests.{le-leb, lt-leb}
+use lib.Dec.{leb}
+use borrow.Author.Needs.{needs}
+use Rattle.method.specs.Slots.{isSome}
 use Rattle.tables.specs.Tables.{isBegun}
 use Rattle.tables.proofs.is_begun.Statement.{statement}
 use Rattle.tables.proofs.is_begun.Tie as tie
 
-never : (every : Bool) (c : ℕ) → false ≡ isBegun every c none
-never true c = refl
-never false c = refl
+some-if : (b : Bool) (h : ℕ) → b ≡ isSome (cond b (some h) none)
+some-if true h = refl
+some-if false h = refl
 
 returns : tie.Need-returns
-returns c = rw (lt-leb _ _ (c .if1 .taken)) (never (c .before .args .every) (c .before .args .card .0))
+returns c = rw (c .if1 .taken) (some-if (leb 128 (c .before .args .home)) _)
+
+is-home-requires : tie.Need-is-home-requires
+is-home-requires c κs = search needs
 
 returns-2 : tie.Need-returns-2
-returns-2 c = rw (le-leb _ _ (c .before .if1 .left), c .if2 .taken)
-
-home-of-requires : tie.Need-home-of-requires
-home-of-requires c κs = rw (le-leb _ _ (c .before .if1 .left))
-
-returns-3 : tie.Need-returns-3
-returns-3 c = rw (c .before .before .if2 .left, c .before .home-of .ensures .0)
+returns-2 c = rw (c .before .if1 .left) (c .is-home .ensures)
 
 pub is-begun-spec : {M : Type 1} → statement M
-is-begun-spec = tie.close (tie.spec returns returns-2 home-of-requires returns-3)
+is-begun-spec = tie.close (tie.spec returns is-home-requires returns-2)

@@ -7,11 +7,11 @@ use mathlib.Core.Path.{_∙_, _≡_, ap₂, refl, sym}
 use native.Mathlib.Nat.{zero-mod}
 use native.Mathlib.Omega.{arith}
 use Rattle.lists.specs.Tests.{anyBelow}
+use Rattle.lists.proofs.Counts.{any-more}
 use Rattle.image.specs.Layout.{blockCount, cardCount}
 use Rattle.mask.specs.Masks.{AreMembers, byte}
 use Rattle.mask.proofs.SiteLaws.{size-le}
 use Rattle.mask.proofs.SiteTables.{MasksBelow, masks-more}
-use Rattle.slot.proofs.Steps.{any-more}
 use Rattle.promise.proofs.Finish.{given-whole}
 use Rattle.reorganise.proofs.Looks.{newest-at, newest-counts, newest-fits, newest-next, newest-usable}
 use Rattle.move_list.proofs.FoundMoves.{block-locked, count-more, count-none, finds-locked, finds-moves}

@@ -5,11 +5,10 @@ use mathlib.Core.Bool.{Bool, _&&_, false}
 use mathlib.Core.Path.{_∙_, _≡_, ap, refl, sym}
 use native.Mathlib.Omega.{arith}
 use Rattle.lists.specs.Tests.{anyBelow}
-use Rattle.lists.proofs.Counts.{any-below}
+use Rattle.lists.proofs.Counts.{any-below, any-more}
 use Rattle.image.specs.Layout.{cardCount}
 use Rattle.mask.specs.Masks.{byte, hasCard}
 use Rattle.slot.specs.Blocks.{anyLocked}
-use Rattle.slot.proofs.Steps.{any-more}
 use Rattle.cabinet_rules.specs.Images.{Image, blockIn}
 use Rattle.move_list.proofs.origins.any_locked.Statement.{statement}
 use Rattle.move_list.proofs.origins.any_locked.Tie as tie

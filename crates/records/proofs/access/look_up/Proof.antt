@@ -5,6 +5,7 @@ use native.Mathlib.Omega.{arith}
 use borrow.Author.Needs.{needs}
 use Rattle.image.specs.Layout.{recordCount}
 use Rattle.method.specs.Rules.{get}
+use Rattle.promise.specs.Given.{Given}
 use Rattle.promise.proofs.Finish.{form-row, given, given-whole}
 use Rattle.records.proofs.LookUp.{early-row, lists-at, locked-row, ready-up, rec-known, refused-up}
 use Rattle.records.proofs.access.look_up.Statement.{statement}
@@ -40,35 +41,33 @@ returns-2 c =
     refused-up (a .image .now) (a .tran .0) (a .rec .0) (c .refused2 .result) (y .early-rows .result) (c .refused2 .ensures) (t .if2 .taken)
     (early-row (a .image .now) (a .tran .0) (a .rec .0) (f .read .result) (f .read .ensures) (e .if1 .left) (y .early-rows .result) (y .early-rows .ensures) (t .if2 .taken))
 
-block-of-requires : tie.Need-block-of-requires
-block-of-requires c κs =
-    let y = c .before in
-    let e = y .before .before in
-    let f = e .before .before in
-    let a = f .before .before .args in
-    rec-known (a .image .now) (a .tran .0) (a .rec .0) (f .read .result) (f .read .ensures) (e .if1 .left) (y .early-rows .result) (y .early-rows .ensures) (c .if2 .left)
+-- Past rows 1 to 5: what was read is the image's control part, and the record is one of the store.
+abbrev found : tie.Else2 → tie.After-read
+found x = x .before .before .before .before .before
 
-find-requires : tie.Need-find-requires
-find-requires c κs =
-    let x = c .before in
+is-given : (x : tie.Else2) → Given (found x .read .result .control) (found x .before .before .args .image .now)
+is-given x = given (found x .read .ensures) (x .before .before .before .if1 .left)
+
+in-store : (x : tie.Else2) → found x .before .before .args .rec .0 < recordCount
+in-store x =
     let y = x .before in
     let e = y .before .before in
-    let f = e .before .before in
+    let f = found x in
     let a = f .before .before .args in
-    let small : a .rec .0 < recordCount = rec-known (a .image .now) (a .tran .0) (a .rec .0) (f .read .result) (f .read .ensures) (e .if1 .left) (y .early-rows .result) (y .early-rows .ensures) (x .if2 .left) in
-    (given (f .read .ensures) (e .if1 .left), omega arith)
+    rec-known (a .image .now) (a .tran .0) (a .rec .0) (f .read .result) (f .read .ensures) (e .if1 .left) _ (y .early-rows .ensures) (x .if2 .left)
+
+block-of-requires : tie.Need-block-of-requires
+block-of-requires c κs = in-store c
+
+find-requires : tie.Need-find-requires
+find-requires c κs = let h = in-store (c .before) in (is-given (c .before), omega (arith, h))
 
 locked-out-requires : tie.Need-locked-out-requires
 locked-out-requires c κs =
     let b = c .before in
     let x = b .before in
-    let y = x .before in
-    let e = y .before .before in
-    let f = e .before .before in
-    let a = f .before .before .args in (
-      (given-whole (given (f .read .ensures) (e .if1 .left)), rec-known (a .image .now) (a .tran .0) (a .rec .0) (f .read .result) (f .read .ensures) (e .if1 .left) (y .early-rows .result) (y .early-rows .ensures) (x .if2 .left)),
-      lists-at (a .image .now) (c .find .result) (b .block-of .ensures) (c .find .ensures),
-    )
+    let a = found x .before .before .args in
+    ((given-whole (is-given x), in-store x), lists-at (a .image .now) (c .find .result) (b .block-of .ensures) (c .find .ensures))
 
 refused-requires-3 : tie.Need-refused-requires-3
 refused-requires-3 c κs = search needs
@@ -83,16 +82,25 @@ returns-3 c =
     let f = e .before .before in
     let a = f .before .before .args in
     refused-up (a .image .now) (a .tran .0) (a .rec .0) (c .refused3 .result) 7 (c .refused3 .ensures) (λ z. omega arith)
-    (locked-row (a .image .now) (a .tran .0) (a .rec .0) (f .read .result) (f .read .ensures) (e .if1 .left) (y .early-rows .result) (y .early-rows .ensures) (x .if2 .left) (sym (o .locked-out .ensures) ∙ t .if3 .taken))
+    (locked-row (a .image .now) (a .tran .0) (a .rec .0) (f .read .result) (f .read .ensures) (e .if1 .left) _ (y .early-rows .ensures) (x .if2 .left)
+    (sym (o .locked-out .ensures) ∙ t .if3 .taken))
 
-newest-requires : tie.Need-newest-requires
-newest-requires c κs =
-    let e = c .before .before .before .before .before .before .before in
-    e .before .before .read .ensures .good (e .if1 .left) .counted
+-- The same at the end.
+at-end : (c : tie.After-struct-known2) → let f = found (c .before .before .before .before .before) in Given (f .read .result .control) (f .before .before .args .image .now)
+at-end c = is-given (c .before .before .before .before .before)
+
+sub-placement-at : tie.Need-sub-placement-at
+sub-placement-at c = omega (arith, at-end c .is .counted .some)
+
+cast-placement-at : tie.Need-cast-placement-at
+cast-placement-at c = search needs
+
+placement-at-requires : tie.Need-placement-at-requires
+placement-at-requires c κs = let n = at-end c .is .counted in (omega (arith, given-whole (at-end c)), omega (arith, n .few, n .some))
 
 returns-4 : tie.Need-returns-4
 returns-4 c =
-    let t = c .before in
+    let t = c .before .before in
     let o = t .before in
     let h = o .before in
     let b = h .before in
@@ -101,8 +109,8 @@ returns-4 c =
     let e = y .before .before in
     let f = e .before .before in
     let a = f .before .before .args in
-    ready-up (a .image .now) (a .tran .0) (a .rec .0) (f .read .result) (f .read .ensures) (e .if1 .left) (y .early-rows .result) (y .early-rows .ensures) (x .if2 .left) _ (sym (o .locked-out .ensures) ∙ t .if3 .left) refl
-    (c .newest .ensures) (lists-at (a .image .now) (h .find .result) (b .block-of .ensures) (h .find .ensures))
+    ready-up (a .image .now) (a .tran .0) (a .rec .0) (f .read .result) (f .read .ensures) (e .if1 .left) _ (y .early-rows .ensures) (x .if2 .left) _
+    (sym (o .locked-out .ensures) ∙ t .if3 .left) refl (c .placement-at .ensures) (lists-at (a .image .now) (h .find .result) (b .block-of .ensures) (h .find .ensures))
 
 pub look-up-spec : {M : Type 1} → statement M
 look-up-spec =
@@ -119,5 +127,7 @@ look-up-spec =
     locked-out-requires
     refused-requires-3
     returns-3
-    newest-requires
+    sub-placement-at
+    cast-placement-at
+    placement-at-requires
     returns-4)

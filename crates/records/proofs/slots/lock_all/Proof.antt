@@ -1,62 +1,62 @@
--- The proof of `slots::lock_all`. Assumes nothing.
-use mathlib.Core.List.{List}
-use mathlib.Core.Path.{_∙_, _≡_, ap, refl}
-use Prim.Native.Nat.{_-_, _<_, _≤_, ℕ}
+-- The proof of `slots::lock_all`. Where the slot is locked on each member that is left, it is locked on each member of the
+-- mask. Assumes nothing.
+use mathlib.Core.Path.{_∙_, _≡_, ap, refl, sym}
+use Prim.Native.Nat.{_/_, _<_}
 use native.Mathlib.Omega.{arith}
-use lib.ListN.{length, take}
+use lib.ListN.{length, length-drop}
 use borrow.Author.Needs.{needs}
-use Rattle.image.specs.Layout.{valueBound}
+use Rattle.image.specs.Layout.{slotCount, valueBound}
+use Rattle.mask.specs.Masks.{byte, members}
+use Rattle.mask.proofs.FirstMember.{no-members, some-members}
 use Rattle.slot.specs.Words.{stateOf}
-use Rattle.promise.proofs.Laid.{laid}
-use Rattle.records.proofs.Locking.{lock-holders, lock-none, lock-step, lockWrites, state-fits}
+use Rattle.trail.specs.Trail.{holdersIn}
+use Rattle.records.proofs.Locking.{each-end, each-turn, lock-holders, lock-mask, lockEach, state-fits}
 use Rattle.records.proofs.slots.lock_all.Statement.{statement}
 use Rattle.records.proofs.slots.lock_all.Tie as tie
 
 abbrev Inv-loop : tie.InvT-loop
-Inv-loop image₀ tran rec pending cards count j₀ image j =
-    (j ≤ count) × (length image ≡ length image₀) × (image ≡ laid (lockWrites image₀ (tran .0) (rec .0) (stateOf pending) (take j cards)) image₀)
-    × (pending .value < valueBound)
+Inv-loop image₀ tran rec pending left₀ image left =
+    (left < 256) × (length image ≡ length image₀) × (pending .value < valueBound)
+    × (lockEach (tran .0) (rec .0) (stateOf pending) (members (byte left)) image ≡ lockEach (tran .0) (rec .0) (stateOf pending) (members (byte left₀)) image₀)
 
 abbrev μ-loop : tie.MeasureT-loop
-μ-loop image₀ tran rec pending cards count j₀ image j = count - j
-
-cast-count : tie.Need-cast-count Inv-loop μ-loop
-cast-count c = search needs
+μ-loop image₀ tran rec pending left₀ image left = length (members (byte left))
 
 loop-holds : tie.Need-loop-holds Inv-loop μ-loop
-loop-holds c =
-    let s = c .before .before .before in
-    let a = s .args in
-    let fits : a .pending .value < valueBound = search needs in
-    (omega arith, refl, lock-none (a .image .now) (a .tran .0) (a .rec .0) (stateOf (a .pending)) (s .pre .0 .1) (s .pre .0 .2) (state-fits (a .pending) fits) (s .pre .0 .0), fits)
+loop-holds c = (search needs, refl, search needs, refl)
 
-array-read-t15 : tie.Need-array-read-t15 Inv-loop μ-loop
-array-read-t15 c = let s = c .before .before .before .before .before .before in omega (arith, s .pre .1 .sound .few)
+-- Where the loop goes on, some member is left.
+some : (c : tie.In-loop Inv-loop μ-loop) → 0 < length (members (byte (c .before .loop .left)))
+some c = let l = c .before .loop in some-members (l .left) (l .inv .0) (c .loop-test .taken)
+
+first-member-requires : tie.Need-first-member-requires Inv-loop μ-loop
+first-member-requires c κs = some (c .before)
 
 lock-on-requires : tie.Need-lock-on-requires Inv-loop μ-loop
 lock-on-requires c κs =
-    let s = c .before .before .before .before .before .before in
-    (search needs, s .pre .1 .sound .small (c .before .before .loop .j) (omega arith), s .pre .0 .1, s .pre .0 .2)
+    let s = c .before .before .before .before .before in
+    (search needs, c .first-member .ensures .1, s .pre .0 .1, s .pre .0 .2)
 
-add-j : tie.Need-add-j Inv-loop μ-loop
-add-j c = search needs
+without-first-requires : tie.Need-without-first-requires Inv-loop μ-loop
+without-first-requires c κs = some (c .before .before .before .before .before)
 
 loop-less : tie.Need-loop-less Inv-loop μ-loop
-loop-less c = search needs
+loop-less c =
+    let i = c .before .before .before .before .before .before in
+    omega (arith, ap length (c .without-first .ensures .0), length-drop 1 (members (byte (i .before .loop .left))), some i)
 
 loop-again : tie.Need-loop-again Inv-loop μ-loop
 loop-again c =
-    let o = c .before .before in
-    let l = o .before .before .before .loop in
-    let s = o .before .before .before .before .before .before .before in
-    let a = s .args in
-    let h = s .pre .1 .sound in (
-      omega arith,
+    let o = c .before .before .before in
+    let f = o .before in
+    let i = f .before .before in
+    let l = i .before .loop in
+    let a = i .before .before .before .args in (
       search needs,
-      o .lock-on .ensures
-          ∙ lock-step (a .image .now) (a .tran .0) (a .rec .0) (stateOf (a .pending)) (s .pre .0 .1) (s .pre .0 .2) (state-fits (a .pending) (l .inv .3))
-          (a .holders .cards) (l .j) (omega (arith, h .long, h .few)) (h .small (l .j) (omega arith)) (l .image) (l .inv .2),
-      l .inv .3,
+      search needs,
+      l .inv .2,
+      each-turn (a .tran .0) (a .rec .0) (stateOf (a .pending)) (l .image) _ (members (byte (l .left))) (some i) _ (c .without-first .ensures .0)
+          _ (f .first-member .ensures .0) (o .lock-on .ensures) ∙ l .inv .3,
     )
 
 same-length : tie.Need-same-length Inv-loop μ-loop
@@ -65,13 +65,14 @@ same-length c = search needs
 returns : tie.Need-returns Inv-loop μ-loop
 returns c =
     let l = c .before .loop in
-    let s = c .before .before .before .before .before in
+    let s = c .before .before .before in
     let a = s .args in
-    let e : l .j ≡ a .holders .count = omega arith in
-    l .inv .2
-    ∙ ap (λ (n : ℕ). laid (lockWrites (a .image .now) (a .tran .0) (a .rec .0) (stateOf (a .pending)) (take n (a .holders .cards))) (a .image .now)) e
-    ∙ ap (λ (x : List ℕ). laid (lockWrites (a .image .now) (a .tran .0) (a .rec .0) (stateOf (a .pending)) x) (a .image .now)) (s .pre .1 .are)
-    ∙ lock-holders (a .image .now) (a .tran .0) (a .rec .0) (stateOf (a .pending))
+    let g = a .image .now in
+    let v = stateOf (a .pending) in
+    sym (each-end (a .tran .0) (a .rec .0) v (l .image) (members (byte (l .left))) (no-members (l .left) (c .loop-test .left))) ∙ l .inv .3
+    ∙ lock-mask g (a .tran .0) (a .rec .0) v (s .pre .0 .1) (s .pre .0 .2) (state-fits (a .pending) (l .inv .2)) (s .pre .0 .0)
+    (a .holders .cards) (holdersIn g (a .rec .0 / slotCount)) (s .pre .1 .cards-are)
+    ∙ lock-holders g (a .tran .0) (a .rec .0) v
 
 pub lock-all-spec : {M : Type 1} → statement M
 lock-all-spec =
@@ -79,11 +80,10 @@ lock-all-spec =
     (tie.spec
     Inv-loop
     μ-loop
-    cast-count
     loop-holds
-    array-read-t15
+    first-member-requires
     lock-on-requires
-    add-j
+    without-first-requires
     loop-less
     loop-again
     same-length

@@ -1,67 +1,80 @@
--- The proof of `slots::locked_out`. Assumes nothing.
-use mathlib.Core.Bool.{false}
+-- The proof of `slots::locked_out`. The members that are taken off have no such slot, so some member of the mask has one
+-- exactly where one that is left has. Assumes nothing.
 use mathlib.Core.Path.{_∙_, _≡_, ap, refl, sym}
-use Prim.Native.Nat.{_-_, _≤_, ℕ}
+use Prim.Native.Nat.{_<_}
 use native.Mathlib.Omega.{arith}
-use lib.ListN.{take}
+use lib.ListN.{length, length-drop}
 use borrow.Author.Needs.{needs}
 use Rattle.lists.specs.Tests.{any}
+use Rattle.mask.specs.Masks.{byte, members}
+use Rattle.mask.proofs.FirstMember.{no-members, some-members}
 use Rattle.records.specs.Slots.{lockedAt}
 use Rattle.records.proofs.Reading.{any-hit, any-miss, locked-out-is}
 use Rattle.records.proofs.slots.locked_out.Statement.{statement}
 use Rattle.records.proofs.slots.locked_out.Tie as tie
 
 abbrev Inv-loop : tie.InvT-loop
-Inv-loop image tran rec cards count j₀ j = (j ≤ count) × (any (lockedAt image (tran .0) (rec .0)) (take j cards) ≡ false)
+Inv-loop image tran rec left₀ left =
+    (left < 256) × (any (lockedAt image (tran .0) (rec .0)) (members (byte left)) ≡ any (lockedAt image (tran .0) (rec .0)) (members (byte left₀)))
 
 abbrev μ-loop : tie.MeasureT-loop
-μ-loop image tran rec cards count j₀ j = count - j
-
-cast-count : tie.Need-cast-count Inv-loop μ-loop
-cast-count c = search needs
+μ-loop image tran rec left₀ left = length (members (byte left))
 
 loop-holds : tie.Need-loop-holds Inv-loop μ-loop
-loop-holds c = (omega arith, refl)
+loop-holds c = (search needs, refl)
 
-array-read-t12 : tie.Need-array-read-t12 Inv-loop μ-loop
-array-read-t12 c = let s = c .before .before .before .before .before in omega (arith, s .pre .1 .sound .few)
+-- Where the loop goes on, some member is left.
+some : (c : tie.In-loop Inv-loop μ-loop) → 0 < length (members (byte (c .before .loop .left)))
+some c = let l = c .before .loop in some-members (l .left) (l .inv .0) (c .loop-test .taken)
+
+first-member-requires : tie.Need-first-member-requires Inv-loop μ-loop
+first-member-requires c κs = some c
 
 locked-on-requires : tie.Need-locked-on-requires Inv-loop μ-loop
-locked-on-requires c κs = let s = c .before .before .before .before .before in (s .pre .0 .0, s .pre .1 .sound .small (c .before .loop .j) (omega arith), s .pre .0 .1)
+locked-on-requires c κs = let s = c .before .before .before .before in (s .pre .0 .0, c .first-member .ensures .1, s .pre .0 .1)
 
 returns : tie.Need-returns Inv-loop μ-loop
 returns c =
     let o = c .before in
-    let l = o .before .before .loop in
-    let s = o .before .before .before .before .before .before in
+    let f = o .before in
+    let i = f .before in
+    let l = i .before .loop in
+    let s = i .before .before .before in
     let a = s .args in
-    let h = s .pre .1 in
-    sym (any-hit (lockedAt (a .image .now) (a .tran .0) (a .rec .0)) (a .holders .cards) (a .holders .count) (l .j) (omega arith) (omega (arith, h .sound .few, h .sound .long))
-    (sym (o .locked-on .ensures) ∙ c .if1 .taken)) ∙ locked-out-is (a .image .now) (a .tran .0) (a .rec .0) (s .pre .0 .1) (a .holders) h
+    let at = lockedAt (a .image .now) (a .tran .0) (a .rec .0) in
+    sym (any-hit at (members (byte (l .left))) (some i) (sym (o .locked-on .ensures ∙ ap at (f .first-member .ensures .0)) ∙ c .if1 .taken))
+    ∙ l .inv .1 ∙ locked-out-is (a .image .now) (a .tran .0) (a .rec .0) (s .pre .0 .1) (a .holders) (s .pre .1)
 
-add-j : tie.Need-add-j Inv-loop μ-loop
-add-j c = search needs
+without-first-requires : tie.Need-without-first-requires Inv-loop μ-loop
+without-first-requires c κs = some (c .before .before .before)
 
 loop-less : tie.Need-loop-less Inv-loop μ-loop
-loop-less c = search needs
+loop-less c =
+    let i = c .before .before .before .before in
+    let m = members (byte (i .before .loop .left)) in
+    omega (arith, ap length (c .without-first .ensures .0), length-drop 1 m, some i)
 
 loop-again : tie.Need-loop-again Inv-loop μ-loop
 loop-again c =
-    let o = c .before in
-    let l = o .before .before .loop in
-    let s = o .before .before .before .before .before .before in
-    let a = s .args in
-    let h = s .pre .1 in
-    (omega arith, any-miss (lockedAt (a .image .now) (a .tran .0) (a .rec .0)) (a .holders .cards) (l .j) (omega (arith, h .sound .few, h .sound .long)) (l .inv .1) (sym (o .locked-on .ensures) ∙ c .if1 .left))
+    let e = c .before in
+    let o = e .before in
+    let f = o .before in
+    let i = f .before in
+    let l = i .before .loop in
+    let a = i .before .before .before .args in
+    let at = lockedAt (a .image .now) (a .tran .0) (a .rec .0) in (
+      search needs,
+      ap (any at) (c .without-first .ensures .0)
+          ∙ any-miss at (members (byte (l .left))) (some i) (sym (o .locked-on .ensures ∙ ap at (f .first-member .ensures .0)) ∙ e .if1 .left) ∙ l .inv .1,
+    )
 
 returns-2 : tie.Need-returns-2 Inv-loop μ-loop
 returns-2 c =
     let l = c .before .loop in
-    let s = c .before .before .before .before .before in
+    let s = c .before .before .before in
     let a = s .args in
-    let e : l .j ≡ a .holders .count = omega arith in
-    sym (ap (λ (n : ℕ). any (lockedAt (a .image .now) (a .tran .0) (a .rec .0)) (take n (a .holders .cards))) (sym e) ∙ l .inv .1)
-    ∙ locked-out-is (a .image .now) (a .tran .0) (a .rec .0) (s .pre .0 .1) (a .holders) (s .pre .1)
+    sym (ap (any (lockedAt (a .image .now) (a .tran .0) (a .rec .0))) (no-members (l .left) (c .loop-test .left)))
+    ∙ l .inv .1 ∙ locked-out-is (a .image .now) (a .tran .0) (a .rec .0) (s .pre .0 .1) (a .holders) (s .pre .1)
 
 pub locked-out-spec : {M : Type 1} → statement M
 locked-out-spec =
@@ -69,12 +82,11 @@ locked-out-spec =
     (tie.spec
     Inv-loop
     μ-loop
-    cast-count
     loop-holds
-    array-read-t12
+    first-member-requires
     locked-on-requires
     returns
-    add-j
+    without-first-requires
     loop-less
     loop-again
     returns-2)

@@ -1,16 +1,28 @@
--- The proof of `moving::refusal`. Assumes nothing.
+-- The proof of `moving::refusal`: the tests of the lent block are those of the rules' rows 11 and 12. Assumes nothing.
+use Prim.Native.Nat.{_+_, _-_, _≤_, ℕ}
 use borrow.Author.Tests.{not-false, not-true}
-use mathlib.Core.Path.{_∙_, ap, refl, sym}
+use borrow.Rule.Slice.PartMut.{midOf}
+use lib.ListN.{length}
+use mathlib.Core.Bool.{Bool, not}
+use mathlib.Core.List.{List}
+use mathlib.Core.Path.{_∙_, _≡_, ap, refl}
+use native.Mathlib.Omega.{arith}
+use Rattle.image.specs.Layout.{blockSize}
 use Rattle.slot.specs.Blocks.{anyLocked, ofList}
+use Rattle.method.specs.Rules.{move, row}
 use Rattle.control.specs.ControlBytes.{Part}
-use Rattle.control.specs.Meaning.{meaning}
-use Rattle.promise.proofs.Finish.{given-whole}
+use Rattle.promise.specs.Given.{rowsOn}
 use Rattle.promise.specs.Rows.{cardRows}
-use Rattle.promise.proofs.SharedRows.{card-accepted}
-use Rattle.reorganise.proofs.Moves.{copy-rows, refused-block, refused-card}
+use Rattle.reorganise.proofs.Moves.{copy-card, copy-end, copy-rows, refused-block, refused-card}
 use borrow.Author.Needs.{needs}
 use Rattle.reorganise.proofs.moving.refusal.Statement.{statement}
 use Rattle.reorganise.proofs.moving.refusal.Tie as tie
+use Rattle.reorganise.proofs.moving.refusal.Reads as reads
+use Rattle.reorganise.proofs.moving.refusal.Lts as lts
+use Rattle.image.proofs.block_address.Reads as block-address-reads
+use Rattle.promise.proofs.rows.card_refusal.Reads as card-refusal-reads
+use Rattle.slot.proofs.block.any_locked.Reads as any-locked-reads
+use Rattle.slot.proofs.block.is_held.Reads as is-held-reads
 
 cast-if1 : tie.Need-cast-if1
 cast-if1 c = search needs
@@ -29,25 +41,67 @@ returns-2 c =
     refused-card (a .image .now) (a .card .0) (a .block .0) (r .card-refusal .result) (r .before .if1 .left)
     (r .card-refusal .ensures ∙ ap (λ (p : Part). cardRows p (a .card .0)) (s .pre .is .means)) (c .if2 .taken)
 
-get-block-requires : tie.Need-get-block-requires
-get-block-requires c κs =
+block-address-requires : tie.Need-block-address-requires
+block-address-requires c κs =
     let r = c .before in
     let s = r .before .before .before .before in
-    (given-whole (s .pre), card-accepted (meaning (s .args .k)) (s .args .card .0) (sym (c .if2 .left) ∙ r .card-refusal .ensures) .0, r .before .if1 .left)
+    let a = s .args in
+    (copy-card (a .k) (a .image .now) (s .pre) (a .card .0) (a .block .0) (r .before .if1 .left) (r .card-refusal .result) (r .card-refusal .ensures) (c .if2 .left), r .before .if1 .left)
+
+add-end : tie.Need-add-end
+add-end c = search needs
+
+sub-is-held : tie.Need-sub-is-held
+sub-is-held c = search needs
+
+part-is-held-start : tie.Need-part-is-held-start
+part-is-held-start c = search needs
+
+-- the block lies in the image
+ends : (d : tie.After-block-address) → d .block-address .result + blockSize ≤ length (d .before .before .before .before .before .before .args .image .now)
+ends d =
+    let r = d .before .before in
+    let s = r .before .before .before .before in
+    let a = s .args in
+    copy-end (a .k) (a .image .now) (s .pre) (a .card .0) (a .block .0) (r .before .if1 .left) (r .card-refusal .result) (r .card-refusal .ensures) (d .before .if2 .left)
+    (d .block-address .result) (d .block-address .ensures)
+
+part-is-held-end : tie.Need-part-is-held-end
+part-is-held-end c = ends c
 
 is-held-requires : tie.Need-is-held-requires
 is-held-requires c κs = search needs
 
-returns-3 : tie.Need-returns-3
-returns-3 c =
-    let h = c .before in
-    let b = h .before in
-    let r = b .before .before in
+-- the lent part
+abbrev lent : tie.After-is-held → List ℕ
+lent h =
+    let d = h .before .before in
+    let t = d .block-address .result in
+    midOf t (t + blockSize - t) (d .before .before .before .before .before .before .args .image .now)
+
+-- rows 11 and 12 by the tests of it
+rows : (h : tie.After-is-held) (locked : Bool) → locked ≡ anyLocked (ofList (lent h))
+    → let a = h .before .before .before .before .before .before .before .before .args in row 11 (not (h .is-held .result)) (row 12 locked 0) ≡ rowsOn (move (a .card .0) (a .block .0)) (a .image .now)
+rows h locked e =
+    let d = h .before .before in
+    let r = d .before .before in
     let s = r .before .before .before .before in
     let a = s .args in
-    rw (not-true (h .is-held .result) (c .if3 .taken)) at
-    (copy-rows (a .k) (a .image .now) (s .pre) (a .card .0) (a .block .0) (r .before .if1 .left) (r .card-refusal .result) (r .card-refusal .ensures) (b .before .if2 .left)
-    (b .get-block .result) (b .get-block .ensures) (h .is-held .result) (anyLocked (ofList (b .get-block .result))) (h .is-held .ensures) refl)
+    let t = d .block-address .result in
+    copy-rows (a .k) (a .image .now) (s .pre) (a .card .0) (a .block .0) (r .before .if1 .left) (r .card-refusal .result) (r .card-refusal .ensures) (d .before .if2 .left)
+    t (d .block-address .ensures) (t + blockSize - t) (omega arith) (h .is-held .result) locked (h .is-held .ensures) e
+
+returns-3 : tie.Need-returns-3
+returns-3 c = let h = c .before in rw (not-true (h .is-held .result) (c .if3 .taken)) at (rows h (anyLocked (ofList (lent h))) refl)
+
+sub-any-locked : tie.Need-sub-any-locked
+sub-any-locked c = search needs
+
+part-any-locked-start : tie.Need-part-any-locked-start
+part-any-locked-start c = search needs
+
+part-any-locked-end : tie.Need-part-any-locked-end
+part-any-locked-end c = ends (c .before .before .before)
 
 any-locked-requires : tie.Need-any-locked-requires
 any-locked-requires c κs = search needs
@@ -55,26 +109,14 @@ any-locked-requires c κs = search needs
 returns-4 : tie.Need-returns-4
 returns-4 c =
     let l = c .before in
-    let h = l .before .before in
-    let b = h .before in
-    let r = b .before .before in
-    let s = r .before .before .before .before in
-    let a = s .args in
-    rw (not-false (h .is-held .result) (l .before .if3 .left), c .if4 .taken) at
-    (copy-rows (a .k) (a .image .now) (s .pre) (a .card .0) (a .block .0) (r .before .if1 .left) (r .card-refusal .result) (r .card-refusal .ensures) (b .before .if2 .left)
-    (b .get-block .result) (b .get-block .ensures) (h .is-held .result) (l .any-locked .result) (h .is-held .ensures) (l .any-locked .ensures))
+    let h = l .before .before .before in
+    rw (not-false (h .is-held .result) (l .before .before .if3 .left), c .if4 .taken) at (rows h (l .any-locked .result) (l .any-locked .ensures))
 
 returns-5 : tie.Need-returns-5
 returns-5 c =
     let l = c .before in
-    let h = l .before .before in
-    let b = h .before in
-    let r = b .before .before in
-    let s = r .before .before .before .before in
-    let a = s .args in
-    rw (not-false (h .is-held .result) (l .before .if3 .left), c .if4 .left) at
-    (copy-rows (a .k) (a .image .now) (s .pre) (a .card .0) (a .block .0) (r .before .if1 .left) (r .card-refusal .result) (r .card-refusal .ensures) (b .before .if2 .left)
-    (b .get-block .result) (b .get-block .ensures) (h .is-held .result) (l .any-locked .result) (h .is-held .ensures) (l .any-locked .ensures))
+    let h = l .before .before .before in
+    rw (not-false (h .is-held .result) (l .before .before .if3 .left), c .if4 .left) at (rows h (l .any-locked .result) (l .any-locked .ensures))
 
 pub refusal-spec : {M : Type 1} → statement M
 refusal-spec =
@@ -84,9 +126,16 @@ refusal-spec =
     returns
     card-refusal-requires
     returns-2
-    get-block-requires
+    block-address-requires
+    add-end
+    sub-is-held
+    part-is-held-start
+    part-is-held-end
     is-held-requires
     returns-3
+    sub-any-locked
+    part-any-locked-start
+    part-any-locked-end
     any-locked-requires
     returns-4
     returns-5)

@@ -21,17 +21,11 @@ abbrev μ-loop : tie.MeasureT-loop
 loop-holds : tie.Need-loop-holds Inv-loop μ-loop
 loop-holds c = let a = c .before .args in (omega arith, omega arith, load-none (a .image .now) (a .card .0))
 
-cast-t7 : tie.Need-cast-t7 Inv-loop μ-loop
-cast-t7 c = search needs
+cast-t6 : tie.Need-cast-t6 Inv-loop μ-loop
+cast-t6 c = search needs
 
 load-block-requires : tie.Need-load-block-requires Inv-loop μ-loop
 load-block-requires c κs = search needs
-
-cast-n : tie.Need-cast-n Inv-loop μ-loop
-cast-n c = search needs
-
-add-n : tie.Need-add-n Inv-loop μ-loop
-add-n c = search needs
 
 add-b : tie.Need-add-b Inv-loop μ-loop
 add-b c = search needs
@@ -43,8 +37,8 @@ loop-again : tie.Need-loop-again Inv-loop μ-loop
 loop-again c =
     let l = c .before .before in
     let a = l .before .before .args in
-    let few : c .load-block .result ≤ slotCount = c .load-block .ensures .1 in
-    let e : c .load-block .result ≡ committedIn cabinet (blockIn (a .image .now) (a .card .0) (l .loop .b)) = c .load-block .ensures .0 in
+    let few : c .load-block .result ≤ l .loop .n + slotCount = c .load-block .ensures .1 in
+    let e : c .load-block .result ≡ l .loop .n + committedIn cabinet (blockIn (a .image .now) (a .card .0) (l .loop .b)) = c .load-block .ensures .0 in
     let m : committedIn cabinet (blockIn (a .image .now) (a .card .0) (l .loop .b)) + loadBelow (a .image .now) (a .card .0) (l .loop .b) ≡ loadBelow (a .image .now) (a .card .0) (l .loop .b + 1) =
     load-more (a .image .now) (a .card .0) (l .loop .b) in
     (omega arith, omega arith, omega arith)
@@ -63,10 +57,8 @@ load-table-spec =
     Inv-loop
     μ-loop
     loop-holds
-    cast-t7
+    cast-t6
     load-block-requires
-    cast-n
-    add-n
     add-b
     loop-less
     loop-again

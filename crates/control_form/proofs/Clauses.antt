@@ -1,0 +1,239 @@
+-- The control form, clause by clause on the bytes, as the code goes through them: each clause of the definition is one of
+-- the bytes, and the order is the code's. Assumes nothing.
+use mathlib.Core.Path.{_≡_, refl, sym, ap, ap₂, _∙_}
+use mathlib.Core.Bool.{Bool, true, false, _&&_, _||_}
+use mathlib.Core.List.{List}
+use Prim.Native.Nat.{ℕ, zero, suc, _+_, _-_, _%_, _≤_, _<_}
+use native.Mathlib.Omega.{arith}
+use lib.Bits.{bitAnd}
+use lib.Dec.{eqb, leb}
+use lib.ListN.{getD}
+use borrow.Author.Tests.{eqb-true}
+use Rattle.lists.specs.Tests.{all, allBelow}
+use Rattle.lists.proofs.Bools.{and-r, same-test}
+use Rattle.lists.proofs.Counts.{all-below, below-all, below-ext}
+use Rattle.image.specs.Layout.{controlSize, tranBound}
+use Rattle.mask.specs.Masks.{Byte, areApart, byte, isWithin}
+use Rattle.mask.specs.Placements.{Placement, fromMask}
+use Rattle.method.specs.ControlPart.{active}
+use Rattle.control.specs.ControlBytes.{controlOf, countIn, homeByte, homeIn}
+use Rattle.control.specs.Meaning.{Counted, bitsFrom, meaning, structOf}
+use Rattle.control.proofs.Struct.{at-row}
+use Rattle.control_form.specs.ControlForm.{countOk, formOk, fourthOk, homeOk, isSafe, membersOk, partOk, zeroFieldsOk}
+use Rattle.control_form.specs.Reading.{allFrom, fourthIn, homeFitsAt, homeOkAt, isHomeAt, isZeroAt}
+use Rattle.control_form.specs.Reading.{maskTest, newestIn, otherZeros, placementOk}
+use Rattle.control_form.proofs.Checks.{count-counted, every-is, fourth-is, home-none, home-test, homeTest, homes-are}
+use Rattle.control_form.proofs.Checks.{means-is, placementTest}
+use Rattle.control_form.proofs.Ranges.{all-from, from-all, from-both}
+use Rattle.control_form.proofs.ZeroFields.{zero-fields-by}
+
+-- ---- the order of the clauses
+tail-four : (a b c e h : Bool) → (a && (b && (c && (h && e)))) ≡ ((a && (b && (c && e))) && h)
+tail-four true true true true true = refl
+tail-four true true true true false = refl
+tail-four true true true false true = refl
+tail-four true true true false false = refl
+tail-four true true false e h = refl
+tail-four true false c e h = refl
+tail-four false b c e h = refl
+
+last-of : (a b c d : Bool) → (a && (b && (c && d))) ≡ true → d ≡ true
+last-of a b c d t = and-r c d (and-r b (c && d) (and-r a (b && (c && d)) t))
+
+-- The transactions' bytes h and the homes t go last; members m and safety s go together.
+order : (z h a m f n s t : Bool) → ((z && h) && (a && (m && (f && (n && (s && t)))))) ≡ (z && (a && ((m && s) && (f && (n && (h && t))))))
+order false h a m f n s t = refl
+order true true a m f n s t = last a m f n s t
+  where
+    last : (a m f n s t : Bool) → (a && (m && (f && (n && (s && t))))) ≡ (a && ((m && s) && (f && (n && t))))
+    last false m f n s t = refl
+    last true false f n s t = refl
+    last true true f n true t = refl
+    last true true false n false t = refl
+    last true true true false false t = refl
+    last true true true true false t = refl
+order true false a m f n s t = none a m f n s
+  where
+    none : (a m f n s : Bool) → false ≡ (a && ((m && s) && (f && (n && false))))
+    none false m f n s = refl
+    none true false f n s = refl
+    none true true f n false = refl
+    none true true false n true = refl
+    none true true true false true = refl
+    none true true true true true = refl
+
+-- Two clauses on each placement are one.
+pair : (n : ℕ) (stopped : Bool) (f g : ℕ → Bool) → (allBelow n f && (stopped || allBelow n g)) ≡ allBelow n (λ i. f i && (stopped || g i))
+pair zero true f g = refl
+pair zero false f g = refl
+pair (suc n) stopped f g = step (f n) (g n) (allBelow n f) (allBelow n g) stopped ∙ ap (λ (t : Bool). (f n && (stopped || g n)) && t) (pair n stopped f g)
+  where
+    step : (a b c d s : Bool) → ((a && c) && (s || (b && d))) ≡ ((a && (s || b)) && (c && (s || d)))
+    step false b c d s = refl
+    step true b false d s = both s b
+      where
+        both : (s b : Bool) → false ≡ ((s || b) && false)
+        both true b = refl
+        both false true = refl
+        both false false = refl
+    step true b true d true = refl
+    step true b true d false = refl
+
+-- The clauses in the code's order, from each of them on.
+abbrev pub fromNewest : List ℕ → Bool
+fromNewest l = newestIn l && allFrom 8 24 (homeFitsAt l)
+
+abbrev pub fromFourth : List ℕ → Bool
+fromFourth l = fourthIn l && fromNewest l
+
+abbrev pub placementsIn : List ℕ → Bool
+placementsIn l = allBelow (countIn (getD l 0 0)) (maskTest (placementOk (leb 128 (getD l 0 0))) l)
+
+abbrev pub fromPlacements : List ℕ → Bool
+fromPlacements l = placementsIn l && fromFourth l
+
+abbrev pub apartIn : List ℕ → Bool
+apartIn l = areApart (byte (getD l 5 0)) (byte (getD l 6 0))
+
+abbrev pub fromApart : List ℕ → Bool
+fromApart l = apartIn l && fromPlacements l
+
+abbrev pub clauses : List ℕ → Bool
+clauses l = otherZeros l && fromApart l
+
+-- Where the first of them passes the others are left; where it fails, all do.
+pub others-left : (t rest : Bool) {x : Bool} → x ≡ (t && rest) → t ≡ true → x ≡ rest
+others-left t rest e p = e ∙ rw p
+
+pub all-fail : (t rest : Bool) {x : Bool} → x ≡ (t && rest) → t ≡ false → false ≡ x
+all-fail t rest e p = sym (e ∙ rw p)
+
+zero-out : (l : List ℕ) (n : ℕ) → isZeroAt l n ≡ true → getD l n 0 ≡ 0
+unfolding isZeroAt
+zero-out l n t = eqb-true (getD l n 0) 0 t
+
+-- The byte behind the transactions' fits where it is zero.
+zero-fits : (w : Byte) (stopped : Bool) (b : ℕ) → b ≡ 0 → (eqb b (homeByte (homeIn b)) && homeOk stopped w (homeIn b)) ≡ true
+unfolding homeOk
+zero-fits w stopped b e = rw e
+
+module _ (l : List ℕ) (ok : countOk (λ n. getD l n 0) ≡ true) (bytes : (n : ℕ) → getD l n 0 < 256) where
+  w : Counted (structOf l)
+  w = count-counted l (structOf l) refl ok
+
+  counted : countIn (getD l 0 0) ≤ 4
+  counted = unfold structOf in (w .few)
+
+  masks-are : (f : Byte → Byte → Placement → Bool) → ((a b : Byte) (p : Placement) → f a b p ≡ f a b (fromMask (p .mask)))
+      → all (f (meaning (structOf l) .working) (meaning (structOf l) .failed)) (active (meaning (structOf l))) ≡ allBelow (countIn (getD l 0 0)) (maskTest f l)
+  masks-are f only = every-is f (structOf l) w ∙ unfold structOf in (below-ext (countIn (getD l 0 0)) (placementTest f (structOf l)) (maskTest f l) one)
+    where
+      one : (i : ℕ) → i < countIn (getD l 0 0) → placementTest f (structOf l) i ≡ maskTest f l i
+      one i h = unfold placementTest maskTest structOf in
+          (only (byte (getD l 5 0)) (byte (getD l 6 0)) _ ∙ ap (λ (m : ℕ). f (byte (getD l 5 0)) (byte (getD l 6 0)) (fromMask (byte m))) (at-row l 4 1 i (omega (arith, counted))))
+
+  -- members, safety: only the mask of a placement matters
+  only-members : (a b : Byte) (p : Placement) → membersOk a b p ≡ membersOk a b (fromMask (p .mask))
+  unfolding membersOk
+  only-members a b p = refl
+
+  only-safe : (a b : Byte) (p : Placement) → isSafe a b p ≡ isSafe a b (fromMask (p .mask))
+  unfolding isSafe
+  only-safe a b p = refl
+
+  fourth-as : fourthOk (meaning (structOf l) .failed) (meaning (structOf l) .newest) (meaning (structOf l) .older) ≡ fourthIn l
+  unfolding fourthIn structOf
+  fourth-as = sym (fourth-is (structOf l) w)
+
+  newest-as : (meaning (structOf l) .stopped || isWithin (meaning (structOf l) .newest .mask) (meaning (structOf l) .working)) ≡ newestIn l
+  unfolding newestIn meaning structOf
+  newest-as =
+      let some : 1 ≤ countIn (getD l 0 0) = w .some in
+      let at : 1 + (countIn (getD l 0 0) - 1) ≡ countIn (getD l 0 0) = omega arith in
+      ap (λ (m : ℕ). leb 128 (getD l 0 0) || isWithin (byte m) (byte (getD l 5 0)))
+      (at-row l 4 1 (countIn (getD l 0 0) - 1) (omega (arith, counted)) ∙ ap (λ (j : ℕ). getD l j 0) at)
+
+  safe-as : (meaning (structOf l) .stopped || all (isSafe (meaning (structOf l) .working) (meaning (structOf l) .failed)) (active (meaning (structOf l))))
+      ≡ (leb 128 (getD l 0 0) || allBelow (countIn (getD l 0 0)) (maskTest isSafe l))
+  safe-as = ap (λ (t : Bool). meaning (structOf l) .stopped || t) (masks-are isSafe only-safe) ∙ unfold meaning structOf in refl
+
+  -- the homes
+  home-at : (n : ℕ) → 8 ≤ n → n < 23 → homeTest (structOf l) (n - 7) ≡ homeOkAt (leb 128 (getD l 0 0)) l n
+  unfolding structOf homeOkAt
+  home-at n p q =
+      let s : 8 + (n - 7 - 1) ≡ n = omega arith in
+      home-test (structOf l) (n - 7) (omega arith) (omega arith)
+      ∙ ap (λ (b : ℕ). homeOk (leb 128 (getD l 0 0)) (byte (getD l 5 0)) (homeIn b)) (at-row l 15 8 (n - 7 - 1) (omega arith) ∙ ap (λ (j : ℕ). getD l j 0) s)
+
+  opened-as : allBelow tranBound (homeTest (structOf l)) ≡ allFrom 8 23 (homeOkAt (leb 128 (getD l 0 0)) l)
+  opened-as = same-test (allBelow tranBound (homeTest (structOf l))) (allFrom 8 23 (homeOkAt (leb 128 (getD l 0 0)) l))
+      (λ t. all-from 8 (homeOkAt (leb 128 (getD l 0 0)) l) 23 (λ n p q. sym (home-at n p q) ∙ below-all tranBound (homeTest (structOf l)) (n - 7) t (omega arith)))
+      (λ t. all-below tranBound (homeTest (structOf l)) (back t))
+    where
+      back : allFrom 8 23 (homeOkAt (leb 128 (getD l 0 0)) l) ≡ true → (t : ℕ) → t < tranBound → homeTest (structOf l) t ≡ true
+      back e zero h = below-all 1 (homeTest (structOf l)) 0 (home-none (structOf l)) (omega arith)
+      back e (suc t) h =
+          let n : ℕ = suc t + 7 in
+          let s : n - 7 ≡ suc t = omega arith in
+          ap (homeTest (structOf l)) (sym s) ∙ home-at n (omega arith) (omega arith) ∙ from-all 8 (homeOkAt (leb 128 (getD l 0 0)) l) 23 n e (omega arith) (omega arith)
+
+  abbrev homesOpen : Bool
+  homesOpen = allBelow tranBound (λ t. homeOk (meaning (structOf l) .stopped) (meaning (structOf l) .working) (meaning (structOf l) .home t))
+
+  homes-as : (allFrom 8 23 (isHomeAt l) && homesOpen) ≡ allFrom 8 23 (homeFitsAt l)
+  unfolding homeFitsAt
+  homes-as = ap (λ (t : Bool). allFrom 8 23 (isHomeAt l) && t) (homes-are (structOf l) ∙ opened-as)
+      ∙ sym (from-both 8 23 (isHomeAt l) (homeOkAt (leb 128 (getD l 0 0)) l))
+
+  zeros-as : zeroFieldsOk (λ n. getD l n 0) ≡ (otherZeros l && allFrom 8 23 (isHomeAt l))
+  unfolding otherZeros
+  zeros-as = zero-fields-by l ok bytes
+      ∙ tail-four (eqb (getD l 0 0 % 16) 0) (allFrom (1 + countIn (getD l 0 0)) 5 (isZeroAt l)) (eqb (bitAnd (getD l 7 0) (bitsFrom (countIn (getD l 0 0)))) 0)
+      (allFrom 23 controlSize (isZeroAt l)) (allFrom 8 23 (isHomeAt l))
+
+  zero-behind : otherZeros l ≡ true → getD l 23 0 ≡ 0
+  unfolding otherZeros
+  zero-behind t =
+      let z : allFrom 23 controlSize (isZeroAt l) ≡ true = last-of (eqb (getD l 0 0 % 16) 0) (allFrom (1 + countIn (getD l 0 0)) 5 (isZeroAt l))
+      (eqb (bitAnd (getD l 7 0) (bitsFrom (countIn (getD l 0 0)))) 0) (allFrom 23 controlSize (isZeroAt l)) t in
+      zero-out l 23 (from-all 23 (isZeroAt l) controlSize 23 z (omega arith) (omega arith))
+
+  apart-as : areApart (meaning (structOf l) .working) (meaning (structOf l) .failed) ≡ areApart (byte (getD l 5 0)) (byte (getD l 6 0))
+  unfolding meaning structOf
+  apart-as = refl
+
+  part-as : partOk (controlOf (λ n. getD l n 0)) ≡ (areApart (byte (getD l 5 0)) (byte (getD l 6 0))
+      && (allBelow (countIn (getD l 0 0)) (maskTest membersOk l)
+      && (fourthIn l
+      && (newestIn l
+      && ((leb 128 (getD l 0 0) || allBelow (countIn (getD l 0 0)) (maskTest isSafe l)) && homesOpen)))))
+  unfolding partOk
+  part-as = ap partOk (sym (means-is l (structOf l) refl w))
+      ∙ ap₂ _&&_ apart-as (ap₂ _&&_ (masks-are membersOk only-members) (ap₂ _&&_ fourth-as (ap₂ _&&_ newest-as (ap (λ (t : Bool). t && homesOpen) safe-as))))
+
+  placements-as : (allBelow (countIn (getD l 0 0)) (maskTest membersOk l) && (leb 128 (getD l 0 0) || allBelow (countIn (getD l 0 0)) (maskTest isSafe l)))
+      ≡ allBelow (countIn (getD l 0 0)) (maskTest (placementOk (leb 128 (getD l 0 0))) l)
+  placements-as = pair (countIn (getD l 0 0)) (leb 128 (getD l 0 0)) (maskTest membersOk l) (maskTest isSafe l)
+      ∙ below-ext (countIn (getD l 0 0)) (λ i. maskTest membersOk l i && (leb 128 (getD l 0 0) || maskTest isSafe l i)) (maskTest (placementOk (leb 128 (getD l 0 0))) l)
+      (λ i h. unfold maskTest placementOk in refl)
+
+  -- with the byte behind them, which the other clauses ask to be zero
+  sixteen : (x : Bool → Bool) → (otherZeros l && x (allFrom 8 23 (homeFitsAt l))) ≡ (otherZeros l && x (allFrom 8 24 (homeFitsAt l)))
+  sixteen x = go (otherZeros l) refl
+    where
+      last : otherZeros l ≡ true → homeFitsAt l 23 ≡ true
+      last t = unfold homeFitsAt isHomeAt homeOkAt in (zero-fits (byte (getD l 5 0)) (leb 128 (getD l 0 0)) (getD l 23 0) (zero-behind t))
+
+      go : (b : Bool) → otherZeros l ≡ b → (b && x (allFrom 8 23 (homeFitsAt l))) ≡ (b && x (allFrom 8 24 (homeFitsAt l)))
+      go false e = refl
+      go true e = ap x (unfold allFrom in (rw (last e)))
+
+  pub form-by : formOk (λ n. getD l n 0) ≡ clauses l
+  unfolding formOk
+  form-by = ap (λ (t : Bool). t && (zeroFieldsOk (λ n. getD l n 0) && partOk (controlOf (λ n. getD l n 0)))) ok
+      ∙ ap₂ _&&_ zeros-as part-as
+      ∙ order (otherZeros l) (allFrom 8 23 (isHomeAt l)) (areApart (byte (getD l 5 0)) (byte (getD l 6 0))) (allBelow (countIn (getD l 0 0)) (maskTest membersOk l)) (fourthIn l) (newestIn l)
+      (leb 128 (getD l 0 0) || allBelow (countIn (getD l 0 0)) (maskTest isSafe l)) homesOpen
+      ∙ ap₂ (λ (p h : Bool). otherZeros l && (areApart (byte (getD l 5 0)) (byte (getD l 6 0)) && (p && (fourthIn l && (newestIn l && h))))) placements-as homes-as
+      ∙ sixteen (λ h. areApart (byte (getD l 5 0)) (byte (getD l 6 0))
+      && (allBelow (countIn (getD l 0 0)) (maskTest (placementOk (leb 128 (getD l 0 0))) l) && (fourthIn l && (newestIn l && h))))
