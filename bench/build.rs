@@ -1,6 +1,7 @@
-//! Links libbefore.a into settles, from the folder that NOLPIGAT_BEFORE_DIR names. The program bench needs neither.
+//! Links libbefore.a from the folder that NOLPIGAT_BEFORE_DIR names, with the feature `before`. The program bench needs
+//! neither.
 
-use std::path::Path;
+use std::path::PathBuf;
 use std::{env, process};
 
 const VARIABLE: &str = "NOLPIGAT_BEFORE_DIR";
@@ -10,11 +11,13 @@ fn main() {
     if env::var_os("CARGO_FEATURE_BEFORE").is_none() {
         return;
     }
-    let archive = Path::new(&env::var_os(VARIABLE).unwrap_or_default()).join("libbefore.a");
+    let folder = PathBuf::from(env::var_os(VARIABLE).unwrap_or_default());
+    let archive = folder.join("libbefore.a");
     println!("cargo:rerun-if-changed={}", archive.display());
     if !archive.is_file() {
-        eprintln!("{} is missing: run bench/settles.sh, which makes it and sets {VARIABLE}", archive.display());
+        eprintln!("{} is missing: run bench/before.sh, which makes it and sets {VARIABLE}", archive.display());
         process::exit(1);
     }
-    println!("cargo:rustc-link-arg-bin=settles={}", archive.display());
+    println!("cargo:rustc-link-search=native={}", folder.display());
+    println!("cargo:rustc-link-lib=static=before");
 }

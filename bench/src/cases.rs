@@ -14,40 +14,74 @@ pub struct Case {
     pub call: &'static str,
     pub image: Vec<u8>,
     pub calls: Vec<Asked>,
+    /// The figures are those of the whole list, and not of one call.
+    whole: bool,
 }
 
 impl Case {
     fn new(state: &'static str, call: &'static str, image: &[u8], calls: Vec<Call>) -> Case {
-        Case { state, call, image: image.to_vec(), calls: calls.into_iter().map(Asked::Call).collect() }
+        let calls = calls.into_iter().map(Asked::Call).collect();
+        Case { state, call, image: image.to_vec(), calls, whole: false }
     }
 
-    fn move_list(state: &'static str, call: &'static str, image: Vec<u8>) -> Case {
-        Case { state, call, image, calls: vec![Asked::MoveList; 4] }
+    fn whole(state: &'static str, call: &'static str, image: &[u8], calls: Vec<Call>) -> Case {
+        Case { whole: true, ..Case::new(state, call, image, calls) }
+    }
+
+    fn move_list(state: &'static str, call: &'static str, image: &[u8]) -> Case {
+        Case { state, call, image: image.to_vec(), calls: vec![Asked::MoveList; 4], whole: false }
+    }
+
+    /// What the figures of a copy are divided by.
+    pub fn shares(&self) -> usize {
+        if self.whole {
+            1
+        } else {
+            self.calls.len()
+        }
+    }
+
+    /// The order of the table's rows: by state, single calls first, as the calls are numbered.
+    fn place(&self) -> (bool, bool, u8) {
+        (self.state == REORGANISING, self.whole, self.calls[0].place())
     }
 }
 
 const FULL: &str = "full";
 const REORGANISING: &str = "reorganising";
 
-/// Records that each of the fifteen transactions stores before it ends.
+/// Records that a transaction stores before it ends.
 const PENDING: usize = 8;
 
 const TRANSACTIONS: u8 = 15;
+
+/// The card that fails.
+const FAILING: u8 = 2;
 
 fn accept(image: &mut [u8], call: Call) {
     let answer = perform(image, &call);
     assert!(!matches!(answer, Answer::Refused(_)), "{call:?} {answer}");
 }
 
+/// The image after these calls, all accepted.
+fn after(image: &[u8], calls: Vec<Call>) -> Vec<u8> {
+    let mut image = image.to_vec();
+    for call in calls {
+        accept(&mut image, call);
+    }
+    image
+}
+
+/// Transaction 1 from its begin to its commit.
+fn transaction(home: u8, stores: impl Iterator<Item = Call>) -> Vec<Call> {
+    let (begin, commit) = (Call::Begin { transaction: 1, home }, Call::Commit { transaction: 1 });
+    [begin].into_iter().chain(stores).chain([commit]).collect()
+}
+
 /// Every record stored and committed, one placement.
 pub fn filled(mask: u8) -> Vec<u8> {
-    let mut image = started(mask);
-    accept(&mut image, Call::Begin { transaction: 1, home: members(mask)[0] as u8 });
-    for record in 0..RECORDS as u16 {
-        accept(&mut image, Call::Store { transaction: 1, record, value: record.wrapping_mul(0x9E37) });
-    }
-    accept(&mut image, Call::Commit { transaction: 1 });
-    image
+    let store = |record: u16| Call::Store { transaction: 1, record, value: record.wrapping_mul(0x9E37) };
+    after(&started(mask), transaction(members(mask)[0] as u8, (0..RECORDS as u16).map(store)))
 }
 
 /// The moves of these blocks that let settle succeed.
@@ -59,47 +93,32 @@ fn moves(image: &[u8], blocks: std::ops::Range<usize>) -> Vec<Call> {
 
 /// Three active placements; card 6 works outside them and card 7 does not work. The first blocks are moved.
 pub fn reorganising(moved: usize) -> Vec<u8> {
-    let mut image = filled(0xFC);
-    accept(&mut image, Call::Fit { card: 6 });
-    place_and_move(image, [0x7C, 0x3C], moved)
+    place_and_move(&after(&filled(0xFC), vec![Call::Fit { card: 6 }]), [0x7C, 0x3C], moved)
 }
 
 /// Two more placements; the first blocks are moved to the newest sites.
-pub fn place_and_move(mut image: Vec<u8>, masks: [u8; 2], moved: usize) -> Vec<u8> {
-    for mask in masks {
-        accept(&mut image, Call::Place { mask });
-    }
-    for call in moves(&image, 0..moved) {
-        accept(&mut image, call);
-    }
-    image
+pub fn place_and_move(image: &[u8], masks: [u8; 2], moved: usize) -> Vec<u8> {
+    let placed = after(image, masks.map(|mask| Call::Place { mask }).to_vec());
+    let moves = moves(&placed, 0..moved);
+    after(&placed, moves)
 }
 
-/// All transactions open, with homes in the newest placement.
-fn opened(image: &[u8]) -> Vec<u8> {
-    let mut image = image.to_vec();
-    for call in begins(&image) {
-        accept(&mut image, call);
-    }
-    image
+/// All transactions open, with these homes in turn, each with pending records.
+fn pending(image: &[u8], homes: &[u8]) -> Vec<u8> {
+    let record = |transaction: u8, at: usize| ((transaction as usize - 1) * 4 * PENDING + 4 * at) as u16;
+    let store = |transaction, record| Call::Store { transaction, record, value: record };
+    let stores = |transaction| (0..PENDING).map(move |at| store(transaction, record(transaction, at)));
+    after(&after(image, begins(homes)), (1..=TRANSACTIONS).flat_map(stores).collect())
 }
 
-/// All transactions open, each with pending records.
-fn pending(image: &[u8]) -> Vec<u8> {
-    let mut image = opened(image);
-    for transaction in 1..=TRANSACTIONS {
-        for at in 0..PENDING {
-            let record = ((transaction as usize - 1) * 4 * PENDING + 4 * at) as u16;
-            accept(&mut image, Call::Store { transaction, record, value: record });
-        }
-    }
-    image
+/// The cards at which transactions begin: those of the newest placement.
+fn homes(image: &[u8]) -> Vec<u8> {
+    let newest = Control::read(image).expect("the form is whole").newest();
+    members(newest.mask).into_iter().map(|card| card as u8).collect()
 }
 
-fn begins(image: &[u8]) -> Vec<Call> {
-    let cards = members(Control::read(image).expect("the form is whole").newest().mask);
-    let home = |transaction: u8| cards[transaction as usize % cards.len()] as u8;
-    (1..=TRANSACTIONS).map(|transaction| Call::Begin { transaction, home: home(transaction) }).collect()
+fn begins(homes: &[u8]) -> Vec<Call> {
+    transactions(|transaction| Call::Begin { transaction, home: homes[transaction as usize % homes.len()] })
 }
 
 /// A call for every record, by all transactions in turn.
@@ -111,49 +130,91 @@ fn transactions(call: impl Fn(u8) -> Call) -> Vec<Call> {
     (1..=TRANSACTIONS).map(call).collect()
 }
 
+/// The values are in the range that store takes.
+fn store(transaction: u8, record: u16) -> Call {
+    Call::Store { transaction, record, value: 0xFFFE - record }
+}
+
+/// The first record of the store, the last, and those between at equal distances: no two of them lie in one block or at
+/// one place of their blocks.
+fn spread() -> impl Iterator<Item = u16> {
+    (0..RECORDS as u16).step_by((RECORDS - 1) / (PENDING - 1))
+}
+
+/// The lists that are measured as wholes.
+fn lists(state: &'static str, image: &[u8]) -> Vec<Case> {
+    let home = homes(image)[0];
+    let begun = after(image, vec![Call::Begin { transaction: 1, home }]);
+    let stores = spread().map(|record| store(1, record));
+    let gets = (0..RECORDS as u16).map(|record| Call::Get { transaction: 1, record }).collect();
+    vec![
+        Case::whole(state, "transaction of eight stores", image, transaction(home, stores)),
+        Case::whole(state, "512 gets", &begun, gets),
+    ]
+}
+
 /// The calls that are alike in both states.
 fn common(state: &'static str, image: &[u8]) -> Vec<Case> {
-    let (open, locked) = (opened(image), pending(image));
+    let homes = homes(image);
+    let others: Vec<u8> = homes.iter().copied().filter(|home| *home != FAILING).collect();
+    let (open, locked) = (after(image, begins(&homes)), pending(image, &homes));
     let case = |call, image: &[u8], calls| Case::new(state, call, image, calls);
     let cards = members(Control::read(image).expect("the form is whole").working);
     vec![
         case("start", image, vec![Call::Start { mask: 0xFF }; 4]),
-        case("begin", image, begins(image)),
+        case("begin", image, begins(&homes)),
         case("get", &open, records(|transaction, record| Call::Get { transaction, record })),
-        case("store", &open, records(|transaction, record| Call::Store { transaction, record, value: 0xFFFE - record })),
+        case("store", &open, records(store)),
         case("delete", &open, records(|transaction, record| Call::Delete { transaction, record })),
         case("commit", &locked, transactions(|transaction| Call::Commit { transaction })),
         case("rollback", &locked, transactions(|transaction| Call::Rollback { transaction })),
-        case("fail", &locked, vec![Call::Fail { card: 2 }]),
+        case("fail", &locked, vec![Call::Fail { card: FAILING }]),
+        case("fail, none begun there", &pending(image, &others), vec![Call::Fail { card: FAILING }]),
         case("state", image, vec![Call::State; 64]),
         case("load", image, cards.into_iter().map(|card| Call::Load { card: card as u8 }).collect()),
+    ]
+}
+
+/// The other calls on the full store.
+fn on_full(full: &[u8]) -> Vec<Case> {
+    let case = |call, calls| Case::new(FULL, call, full, calls);
+    let newest = Control::read(full).expect("the form is whole").newest();
+    let at_sites = |block: usize| sites(newest, block).map(|card| Call::Move { card: card as u8, block: block as u16 });
+    vec![
+        case("fit", (0..CARDS as u8).map(|card| Call::Fit { card }).collect()),
+        case("withdraw", (0..CARDS as u8).map(|card| Call::Withdraw { card }).collect()),
+        case("place", vec![Call::Place { mask: 0xFE }, Call::Place { mask: 0x7E }]),
+        case("move", (0..BLOCKS).flat_map(at_sites).collect()),
+        case("settle", vec![Call::Settle; 4]),
+        Case::move_list(FULL, "move list", full),
+    ]
+}
+
+/// The other calls in the middle of the reorganisation.
+fn on_half(half: &[u8]) -> Vec<Case> {
+    let case = |call, calls| Case::new(REORGANISING, call, half, calls);
+    vec![
+        case("fit", vec![Call::Fit { card: 7 }]),
+        case("withdraw", vec![Call::Withdraw { card: 6 }]),
+        case("place", vec![Call::Place { mask: 0x7E }; 64]),
+        case("move", moves(half, BLOCKS / 2..BLOCKS)),
+        case("settle", vec![Call::Settle; 4]),
+        Case::new(REORGANISING, "settle, all moved", &reorganising(BLOCKS), vec![Call::Settle]),
+        Case::move_list(REORGANISING, "move list", half),
     ]
 }
 
 pub fn cases() -> Vec<Case> {
     let full = filled(0xFF);
     let half = reorganising(BLOCKS / 2);
-    let mut all = common(FULL, &full);
-    let on_full = |call, calls| Case::new(FULL, call, &full, calls);
-    all.push(on_full("fit", (0..CARDS as u8).map(|card| Call::Fit { card }).collect()));
-    all.push(on_full("withdraw", (0..CARDS as u8).map(|card| Call::Withdraw { card }).collect()));
-    all.push(on_full("place", vec![Call::Place { mask: 0xFE }, Call::Place { mask: 0x7E }]));
-    let newest = Control::read(&full).expect("the form is whole").newest();
-    let at_sites = |block: usize| sites(newest, block).map(|card| Call::Move { card: card as u8, block: block as u16 });
-    all.push(on_full("move", (0..BLOCKS).flat_map(at_sites).collect()));
-    all.push(on_full("settle", vec![Call::Settle; 4]));
-    all.extend(common(REORGANISING, &half));
-    let on_half = |call, calls| Case::new(REORGANISING, call, &half, calls);
-    all.push(on_half("fit", vec![Call::Fit { card: 7 }]));
-    all.push(on_half("withdraw", vec![Call::Withdraw { card: 6 }]));
-    all.push(on_half("place", vec![Call::Place { mask: 0x7E }; 64]));
-    all.push(on_half("move", moves(&half, BLOCKS / 2..BLOCKS)));
-    all.push(on_half("settle", vec![Call::Settle; 4]));
-    all.push(Case::new(REORGANISING, "settle, all moved", &reorganising(BLOCKS), vec![Call::Settle]));
-    let eight = place_and_move(full.clone(), [0x7E, 0x3C], BLOCKS / 4);
-    all.push(Case::move_list(FULL, "move list", full));
-    all.push(Case::move_list(REORGANISING, "move list", half));
-    all.push(Case::move_list(REORGANISING, "move list, eight cards", eight));
-    all.sort_by_key(|case| (case.state == REORGANISING, case.calls[0].place()));
+    let mut all = Vec::new();
+    for (state, image, own) in [(FULL, &full, on_full(&full)), (REORGANISING, &half, on_half(&half))] {
+        all.extend(common(state, image));
+        all.extend(own);
+        all.extend(lists(state, image));
+    }
+    let eight = place_and_move(&full, [0x7E, 0x3C], BLOCKS / 4);
+    all.push(Case::move_list(REORGANISING, "move list, eight cards", &eight));
+    all.sort_by_key(Case::place);
     all
 }

@@ -1,5 +1,8 @@
 //! Instructions of a call, by callgrind: the difference of two runs that differ in the copies they call on.
 
+use crate::cases::cases;
+use crate::sides::{named, Lent, Side};
+use crate::timing;
 use std::env::current_exe;
 use std::process::Command;
 
@@ -14,6 +17,14 @@ pub fn run_on(image: &[u8], copies: usize, run: impl FnOnce(&mut [Vec<u8>])) {
     run(&mut images[..copies]);
 }
 
+/// The same for a case by its number and a side by its name; None if there is no such case or side.
+pub fn run_case(sides: &[Side], at: usize, side: &str, copies: usize) -> Option<()> {
+    let (all, side) = (cases(), named(sides, side)?);
+    let case = all.get(at)?;
+    run_on(&case.image, copies, |copies| timing::run(side, copies, &mut Lent::default(), case));
+    Some(())
+}
+
 /// All instructions of a run; None without valgrind.
 fn collected(at: usize, side: &str, copies: usize) -> Option<u64> {
     let output = Command::new("valgrind")
@@ -26,8 +37,12 @@ fn collected(at: usize, side: &str, copies: usize) -> Option<u64> {
     text.lines().find_map(|line| line.split_once("Collected :"))?.1.trim().parse().ok()
 }
 
-/// Instructions of one call, by the number of the case, the name of the side and the number of calls on each copy.
-pub fn instructions(at: usize, side: &str, calls: usize) -> Option<u64> {
-    let more = collected(at, side, MADE)? - collected(at, side, FEW)?;
-    Some(more / ((MADE - FEW) * calls) as u64)
+/// Instructions of each side by the number of the case, divided by the shares of each copy; None without valgrind.
+pub fn instructions<const N: usize>(at: usize, sides: [Side; N], shares: usize) -> Option<[f64; N]> {
+    let mut counts = [0.0; N];
+    for (count, side) in counts.iter_mut().zip(sides) {
+        let more = collected(at, side.name, MADE)? - collected(at, side.name, FEW)?;
+        *count = (more / ((MADE - FEW) * shares) as u64) as f64;
+    }
+    Some(counts)
 }

@@ -1,5 +1,8 @@
 //! What the programs have in common: images and calls, times, instructions and the command line.
 
+pub mod answers;
+#[cfg(feature = "before")]
+mod before;
 pub mod cases;
 pub mod counting;
 pub mod program;

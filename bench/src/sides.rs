@@ -13,7 +13,7 @@ pub enum Asked {
 }
 
 impl Asked {
-    /// The order of the table's rows.
+    /// The number of the call, and the next after all calls for the list.
     pub fn place(&self) -> u8 {
         match self {
             Asked::Call(call) => Fields::of(call).operation,
@@ -22,53 +22,60 @@ impl Asked {
     }
 }
 
-/// The lists that are lent, in the form of each side.
+/// The lists that are lent, in the form of an archive and in that of the model.
 pub struct Lent {
-    rattle: [u8; 2 * MOST_MOVES],
+    archive: [u8; 2 * MOST_MOVES],
     model: [Move; MOST_MOVES],
 }
 
 impl Default for Lent {
     fn default() -> Lent {
-        Lent { rattle: [0; 2 * MOST_MOVES], model: [Move::default(); MOST_MOVES] }
+        Lent { archive: [0; 2 * MOST_MOVES], model: [Move::default(); MOST_MOVES] }
     }
 }
 
 impl Lent {
-    /// Both sides have left the same entries.
+    /// An archive and the model have left the same entries.
     pub fn same(&self) -> bool {
-        self.rattle.chunks(2).zip(&self.model).all(|(bytes, entry)| *bytes == [entry.card, entry.block])
+        self.archive.chunks(2).zip(&self.model).all(|(bytes, entry)| *bytes == [entry.card, entry.block])
     }
 }
 
-#[derive(Clone, Copy, PartialEq, Eq)]
-pub enum Side {
-    Rattle,
-    Model,
+/// All sides run through a pointer of the same type, so that what the harness adds is alike.
+#[derive(Clone, Copy)]
+pub struct Side {
+    pub name: &'static str,
+    /// Answers a code.
+    pub perform: fn(&mut [u8], &mut Lent, &Asked) -> u32,
 }
 
-/// In the order of the table's columns.
-pub const SIDES: [Side; 2] = [Side::Rattle, Side::Model];
+/// The archive libabi.a.
+pub const RATTLE: Side = Side {
+    name: "rattle",
+    perform: |image, lent, asked| match asked {
+        Asked::Call(call) => archive::perform(image, call),
+        Asked::MoveList => archive::move_list(image, &mut lent.archive),
+    },
+};
 
-impl Side {
-    /// The code of the answer.
-    pub fn perform(self, image: &mut [u8], lent: &mut Lent, asked: &Asked) -> u32 {
-        match (self, asked) {
-            (Side::Rattle, Asked::Call(call)) => archive::perform(image, call),
-            (Side::Model, Asked::Call(call)) => archive::code(perform(image, call)),
-            (Side::Rattle, Asked::MoveList) => archive::move_list(image, &mut lent.rattle),
-            (Side::Model, Asked::MoveList) => archive::list_code(move_list(image, &mut lent.model)),
-        }
-    }
+pub const MODEL: Side = Side {
+    name: "model",
+    perform: |image, lent, asked| match asked {
+        Asked::Call(call) => archive::code(perform(image, call)),
+        Asked::MoveList => archive::list_code(move_list(image, &mut lent.model)),
+    },
+};
 
-    pub fn name(self) -> &'static str {
-        match self {
-            Side::Rattle => "rattle",
-            Side::Model => "model",
-        }
-    }
+/// The archive libbefore.a.
+#[cfg(feature = "before")]
+pub const BEFORE: Side = Side {
+    name: "before",
+    perform: |image, lent, asked| match asked {
+        Asked::Call(call) => crate::before::perform(image, call),
+        Asked::MoveList => crate::before::move_list(image, &mut lent.archive),
+    },
+};
 
-    pub fn named(name: &str) -> Option<Side> {
-        SIDES.into_iter().find(|side| side.name() == name)
-    }
+pub fn named(sides: &[Side], name: &str) -> Option<Side> {
+    sides.iter().copied().find(|side| side.name == name)
 }

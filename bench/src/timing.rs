@@ -1,7 +1,7 @@
 //! Median times by the sides, in turns.
 
 use crate::cases::Case;
-use crate::sides::{Lent, Side, SIDES};
+use crate::sides::{Lent, Side};
 use std::array::from_fn;
 use std::hint::black_box;
 use std::time::Instant;
@@ -39,26 +39,26 @@ fn median(mut times: Vec<f64>) -> f64 {
 pub fn run(side: Side, copies: &mut [Vec<u8>], lent: &mut Lent, case: &Case) {
     for image in copies {
         for call in &case.calls {
-            black_box(side.perform(image, lent, black_box(call)));
+            black_box((side.perform)(image, lent, black_box(call)));
         }
     }
 }
 
-/// Nanoseconds of one call.
+/// Nanoseconds of one call, or of the whole list.
 fn round(side: Side, copies: &mut [Vec<u8>], lent: &mut Lent, case: &Case) -> f64 {
     for image in copies.iter_mut() {
         image.copy_from_slice(&case.image);
     }
     let start = Instant::now();
     run(side, copies, lent, case);
-    start.elapsed().as_nanos() as f64 / (copies.len() * case.calls.len()) as f64
+    start.elapsed().as_nanos() as f64 / (copies.len() * case.shares()) as f64
 }
 
 /// The rounds of a pass that count.
-pub fn pass(case: &Case) -> Vec<[f64; 2]> {
+pub fn pass<const N: usize>(sides: [Side; N], case: &Case) -> Vec<[f64; N]> {
     let mut copies = vec![case.image.clone(); COPIES];
     let mut lent = Lent::default();
-    let mut in_turns = || SIDES.map(|side| round(side, &mut copies, &mut lent, case));
+    let mut in_turns = || sides.map(|side| round(side, &mut copies, &mut lent, case));
     for _ in 0..WARM_UP {
         in_turns();
     }

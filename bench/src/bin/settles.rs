@@ -3,32 +3,16 @@
 //! settles count STATE SIDE COPIES: settles on so many copies of one state's image, for callgrind.
 
 use bench::cases::{filled, place_and_move, reorganising};
+use bench::sides::{named, Asked, Lent, Side, BEFORE, MODEL, RATTLE};
 use bench::{counting, program, timing};
-use differential::archive::code;
 use model::image::BLOCKS;
-use model::{perform, Call};
-use nolpigat::ffi::nolpigat_settle;
+use model::Call;
 use nolpigat::Answer;
 use std::hint::black_box;
 use std::time::Instant;
 
-extern "C" {
-    /// The settle of libbefore.a, whose functions are named apart from those of libabi.a.
-    fn before_nolpigat_settle(image: *mut u8, length: usize) -> u32;
-}
-
-/// Whose settle runs; it answers a code.
-struct Side {
-    name: &'static str,
-    settle: fn(&mut [u8]) -> u32,
-}
-
-/// In the order of the table's columns. A pointer and its length are those of a slice that is lent for the call alone.
-const SIDES: [Side; 3] = [
-    Side { name: "before", settle: |image| unsafe { before_nolpigat_settle(image.as_mut_ptr(), image.len()) } },
-    Side { name: "after", settle: |image| unsafe { nolpigat_settle(image.as_mut_ptr(), image.len()) } },
-    Side { name: "model", settle: |image| code(perform(image, &Call::Settle)) },
-];
+/// In the order of the table's columns.
+const SIDES: [Side; 3] = [BEFORE, RATTLE, MODEL];
 
 /// Settles by each side in a timed round, all on one image, as by a panel that polls.
 const TIMED: usize = 10_000;
@@ -46,7 +30,7 @@ struct State {
 
 /// No settle changes these images: there is one placement, or a block has not moved.
 fn states() -> Vec<State> {
-    let half_of_eight = place_and_move(filled(0xFF), [0x7E, 0x3C], BLOCKS / 2);
+    let half_of_eight = place_and_move(&filled(0xFF), [0x7E, 0x3C], BLOCKS / 2);
     vec![
         State { name: "eight cards, all in place", image: filled(0xFF) },
         State { name: "reorganising, half moved", image: reorganising(BLOCKS / 2) },
@@ -55,11 +39,15 @@ fn states() -> Vec<State> {
     ]
 }
 
+fn settle(side: Side, image: &mut [u8], lent: &mut Lent) -> u32 {
+    (side.perform)(image, lent, black_box(&Asked::Call(Call::Settle)))
+}
+
 /// The answer of every side, which leaves the image as found. So all settles of a round do the same.
 fn answer(state: &State) -> Answer {
     let [before, after, model] = SIDES.map(|side| {
         let mut image = state.image.clone();
-        let answer = Answer::from((side.settle)(&mut image));
+        let answer = Answer::from(settle(side, &mut image, &mut Lent::default()));
         assert!(image == state.image, "{}, {}: the image is changed", state.name, side.name);
         answer
     });
@@ -70,20 +58,20 @@ fn answer(state: &State) -> Answer {
 
 /// All that is timed and counted.
 #[inline(never)]
-fn settles(side: &Side, image: &mut [u8], number: usize) {
+fn settles(side: Side, image: &mut [u8], lent: &mut Lent, number: usize) {
     for _ in 0..number {
-        black_box((side.settle)(black_box(&mut *image)));
+        black_box(settle(side, image, lent));
     }
 }
 
 /// One round: microseconds of each side's settles. The first of them are too few to need a warm-up.
 fn pass(state: &State) -> Vec<[f64; 3]> {
-    let mut image = state.image.clone();
+    let (mut image, mut lent) = (state.image.clone(), Lent::default());
     let mut round = [0.0; 3];
     for _ in 0..TIMED / TURN {
-        for (time, side) in round.iter_mut().zip(&SIDES) {
+        for (time, side) in round.iter_mut().zip(SIDES) {
             let start = Instant::now();
-            settles(side, &mut image, TURN);
+            settles(side, &mut image, &mut lent, TURN);
             *time += start.elapsed().as_nanos() as f64 / 1000.0;
         }
     }
@@ -96,11 +84,9 @@ fn cells([before, after, model]: [f64; 3]) -> String {
 }
 
 fn row(at: usize, state: &State, answer: Answer, times: [f64; 3]) {
-    let instructions = match SIDES.map(|side| counting::instructions(at, side.name, COUNTED)) {
-        [Some(before), Some(after), Some(model)] => cells([before, after, model].map(|number| number as f64)),
-        _ => "- | - | - | - | -".to_string(),
-    };
-    println!("| {} | {answer} | {} | {instructions} |", state.name, cells(times));
+    let instructions = counting::instructions(at, SIDES, COUNTED);
+    let counted = instructions.map_or("- | - | - | - | -".to_string(), cells);
+    println!("| {} | {answer} | {} | {counted} |", state.name, cells(times));
 }
 
 fn table() {
@@ -116,9 +102,10 @@ fn table() {
 }
 
 fn count(at: usize, side: &str, copies: usize) -> Option<()> {
-    let (all, side) = (states(), SIDES.iter().find(|known| known.name == side)?);
+    let (all, side) = (states(), named(&SIDES, side)?);
+    let mut lent = Lent::default();
     counting::run_on(&all.get(at)?.image, copies, |copies| {
-        copies.iter_mut().for_each(|image| settles(side, image, COUNTED))
+        copies.iter_mut().for_each(|image| settles(side, image, &mut lent, COUNTED))
     });
     Some(())
 }

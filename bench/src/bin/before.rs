@@ -1,0 +1,50 @@
+//! before: a Markdown table of each call's time and instructions by the archive of an earlier commit ("before") and by
+//! the present archive ("after"). The model takes its turn too, so that "after" is timed as bench times Rattle.
+//! before count CASE SIDE COPIES: the calls of one case on so many copies, for callgrind.
+
+use bench::answers::compared;
+use bench::cases::{cases, Case};
+use bench::sides::{Side, BEFORE, MODEL, RATTLE};
+use bench::{counting, program, timing};
+
+/// In the order of the turns.
+const TIMED: [Side; 3] = [BEFORE, RATTLE, MODEL];
+
+/// In the order of the table's columns.
+const COUNTED: [Side; 2] = [BEFORE, RATTLE];
+
+fn cells([before, after]: [f64; 2]) -> String {
+    format!("{before:.0} | {after:.0} | {:.2}", after / before)
+}
+
+fn row(at: usize, case: &Case, answers: &str, [before, after, _]: [f64; 3]) {
+    let instructions = counting::instructions(at, COUNTED, case.shares());
+    let counted = instructions.map_or("- | - | -".to_string(), cells);
+    println!("| {} | {} | {answers} | {} | {counted} |", case.state, case.call, cells([before, after]));
+}
+
+/// By both archives, which answer as the model does.
+fn answers(case: &Case) -> String {
+    compared(BEFORE, case);
+    compared(RATTLE, case)
+}
+
+fn table() {
+    let all = cases();
+    let answers: Vec<String> = all.iter().map(answers).collect();
+    let times = timing::medians(&all, |case| timing::pass(TIMED, case));
+    print!("| state | call | answer | before ns | after ns | after/before ");
+    println!("| before instr. | after instr. | after/before |");
+    println!("|---|---|---|---|---|---|---|---|---|");
+    for (at, case) in all.iter().enumerate() {
+        row(at, case, &answers[at], times[at]);
+    }
+}
+
+fn count(at: usize, side: &str, copies: usize) -> Option<()> {
+    counting::run_case(&COUNTED, at, side, copies)
+}
+
+fn main() {
+    program::main("before", table, count);
+}
