@@ -1,4 +1,4 @@
--- The proof of `fourth_ok`. Assumes nothing.
+-- The proof of `fourth_ok`: by whether the count is 4. Assumes nothing.
 use mathlib.Core.Path.{_∙_}
 use borrow.Author.Tests.{eq-eqb, ne-eqb}
 use Rattle.control_form.specs.Reading.{fourthIn}

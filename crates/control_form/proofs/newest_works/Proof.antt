@@ -1,4 +1,4 @@
--- The proof of `newest_works`. Assumes nothing.
+-- The proof of `newest_works`: by whether the store is stopped. Assumes nothing.
 use borrow.Author.Tests.{le-leb, lt-leb}
 use Rattle.control_form.specs.Reading.{newestIn}
 use borrow.Author.Needs.{needs}

@@ -1,4 +1,4 @@
--- The proof of `read`. Assumes nothing.
+-- The proof of `read`: the length, then the form, then the struct that the bytes show. Assumes nothing.
 use mathlib.Core.Path.{_∙_}
 use native.Mathlib.Omega.{arith}
 use borrow.Author.Tests.{eq-eqb, ne-eqb}

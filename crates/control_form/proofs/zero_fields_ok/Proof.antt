@@ -1,4 +1,4 @@
--- The proof of `zero_fields_ok`. Assumes nothing.
+-- The proof of `zero_fields_ok`: the parts in their order; a return takes those before it as passed. Assumes nothing.
 use mathlib.Core.Path.{_≡_, sym}
 use mathlib.Core.Bool.{true, false}
 use Prim.Native.Nat.{ℕ}
