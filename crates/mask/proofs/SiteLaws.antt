@@ -10,12 +10,13 @@ use lib.Bits.{bitAnd}
 use lib.Count.{leadingZeros}
 use lib.Dec.{leb, ltb, eqb}
 use lib.ListN.{length, getD}
-use borrow.Author.Tests.{eqb-true, leb-true, le-leb, lt-ltb}
+use borrow.Author.Tests.{eqb-true, leb-true, le-leb, lt-ltb, ltb-true}
 use Rattle.lists.specs.Tests.{elem, distinct, allBelow, keepIf}
 use Rattle.lists.specs.Tabulate.{tabulate}
 use Rattle.lists.proofs.Bools.{tf, imp-out, or-cases, and-in, and-l, and-r, not-is}
+use Rattle.lists.proofs.Counts.{below-all}
 use Rattle.image.specs.Layout.{cardCount, copyCount}
-use Rattle.mask.specs.Masks.{Byte, byte, hasCard, members, size}
+use Rattle.mask.specs.Masks.{Byte, bitOf, byte, hasCard, members, size}
 use Rattle.mask.specs.declared.Sites.{Sites}
 use Rattle.mask.specs.Placements.{AreSites, Placement, Usable, acrossRails, chainedSites, fromMask, memberAt, membersAfter}
 use Rattle.mask.specs.Placements.{olderFromMask, onBothRails, onOneRail, otherRail, railSites, siteList, sitesOf}
@@ -185,6 +186,36 @@ pair-of p b u = go (p .mask) (p .byRails) (has-members p u)
       differ = next-other m b h;
       two-rails = λ e both. tf false e refl;
     }
+
+-- The member after a member, going round, as the code finds it: the first of those behind it, or else of all.
+nextIs : Byte → ℕ → Bool
+nextIs m i = not (ltb i (length (members m)))
+    || eqb (getD (members (byte (bitAnd (m .0) (bitOf (getD (members m) i 0) - 1)))) 0 (getD (members m) 0 0)) (memberAt m (i + 1))
+
+test-next-of : allBelow 256 (λ n. allBelow cardCount (nextIs (byte n))) ≡ true
+unfolding nextIs memberAt members hasCard
+test-next-of = refl
+
+-- A card has a bit.
+test-bits : allBelow cardCount (λ c. ltb 0 (bitOf c)) ≡ true
+test-bits = refl
+
+pub bit-some : (c : ℕ) → c < cardCount → 0 < bitOf c
+bit-some c h = ltb-true 0 (bitOf c) (below-all cardCount (λ c. ltb 0 (bitOf c)) c test-bits h)
+
+pub next-found : (n b first : ℕ) → n < 256 → 0 < length (members (byte n)) → first ≡ memberAt (byte n) b
+    → getD (members (byte (bitAnd n (bitOf first - 1)))) 0 (getD (members (byte n)) 0 0) ≡ memberAt (byte n) (b + 1)
+unfolding memberAt nextIs
+next-found n b first h some e =
+    ap₂ (λ (k c : ℕ). getD (members (byte (bitAnd k (bitOf c - 1)))) 0 (getD (members m) 0 0)) (sym (mod-eq-of-lt h)) e
+    ∙ eqb-true _ _ (imp-out _ _ (every-pair cardCount nextIs test-next-of m i (omega (arith, few-members m, mod-lt b some))) (lt-ltb i (length (members m)) (mod-lt b some)))
+    ∙ ap (λ (j : ℕ). getD (members m) j 0) (mod-add-mod b (length (members m)) 1)
+  where
+    m : Byte
+    m = byte n
+
+    i : ℕ
+    i = b % length (members m)
 
 -- As the code finds them: the second site is the first of the members across, if there is one.
 pub sites-found : (n : ℕ) (rails : Bool) (b first across : ℕ) → n < 256 → copyCount ≤ size (byte n) → first ≡ memberAt (byte n) b

@@ -2,7 +2,7 @@
 ghost use mathlib.Core.Path.{_≡_};
 ghost use mathlib.Core.Bool.{_&&_, cond, not};
 ghost use mathlib.Core.List.{_∷_, []};
-ghost use Prim.Native.Nat.{_-_, _<_, _≤_};
+ghost use Prim.Native.Nat.{_+_, _-_, _<_, _≤_};
 ghost use lib.Bits.{bitAnd};
 ghost use lib.Dec.{leb};
 ghost use lib.ListN.{length, getD, drop, take};
@@ -147,6 +147,17 @@ pub fn first_member(mask: u8) -> Card
     Card(u8::leading_zeros(mask) as u8)
 }
 
+// The first of these members; where there are none, of all: going round.
+fn first_or(rest: u8, all: u8) -> Card
+    requires { ⌜ 0 < length (members (byte all)) ⌝ }
+    ensures { λ r. ⌜ (r .0 ≡ getD (members (byte rest)) 0 (getD (members (byte all)) 0 0)) × (r .0 < cardCount) ⌝ }
+{
+    if rest == 0 {
+        return first_member(all);
+    }
+    first_member(rest)
+}
+
 // The mask without its first member.
 pub fn without_first(mask: u8) -> u8
     requires { ⌜ 0 < length (members (byte mask)) ⌝ }
@@ -254,6 +265,15 @@ impl Placement {
         Card(nth_member(self.mask, i % u8::count_ones(self.mask) as u8))
     }
 
+    // The member after the block's first site, going round: the first of those behind it, or else of all.
+    fn next_member(self, block: Block, first: Card) -> Card
+        requires { ⌜ copyCount ≤ size (byte (self .mask)) ⌝ }
+        requires { ⌜ first .0 ≡ memberAt (byte (self .mask)) (block .0) ⌝ }
+        ensures { λ r. ⌜ r .0 ≡ memberAt (byte (self .mask)) (block .0 + 1) ⌝ }
+    {
+        first_or(self.mask & (bit_of(first) - 1), self.mask)
+    }
+
     // The members on the other rail than the card, where the sites are by rails; else none.
     fn across(self, card: Card) -> u8
         ensures { λ r. ⌜ r ≡ cond (self .rails) (bitAnd (self .mask) (otherRail (card .0))) 0 ⌝ }
@@ -274,7 +294,7 @@ impl Placement {
     {
         let across = self.across(first);
         if across == 0 {
-            return self.member_at(block.0 + 1);
+            return self.next_member(block, first);
         }
         Card(u8::leading_zeros(across) as u8)
     }

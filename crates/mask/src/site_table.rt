@@ -10,6 +10,7 @@ ghost use Rattle.mask.specs.Placements.{Usable, meant};
 ghost use Rattle.mask.specs.SiteTable.{SitesFrom, SitesIn};
 use crate::Placement;
 use crate::first_member;
+use crate::first_or;
 use image::CARD_COUNT;
 use image::Card;
 
@@ -18,17 +19,6 @@ use image::Card;
 pub struct SiteTable {
     pub count: u8,
     pub masks: [u8; CARD_COUNT],
-}
-
-// The first of these members; where there are none, of all: going round.
-fn first_or(rest: u8, all: u8) -> Card
-    requires { ⌜ 0 < length (members (byte all)) ⌝ }
-    ensures { λ r. ⌜ (r .0 ≡ getD (members (byte rest)) 0 (getD (members (byte all)) 0 0)) × (r .0 < cardCount) ⌝ }
-{
-    if rest == 0 {
-        return first_member(all);
-    }
-    first_member(rest)
 }
 
 // The mask of two cards.

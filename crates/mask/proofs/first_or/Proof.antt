@@ -1,4 +1,4 @@
--- The proof of `site_table::first_or`. Assumes nothing.
+-- The proof of `first_or`. Assumes nothing.
 use mathlib.Core.Path.{_∙_}
 use native.Mathlib.Omega.{arith}
 use lib.ListN.{getD}
@@ -6,8 +6,8 @@ use borrow.Author.Needs.{needs}
 use Rattle.lists.proofs.Lists.{any-default}
 use Rattle.mask.specs.Masks.{byte, members}
 use Rattle.mask.proofs.FirstMember.{no-members, some-members}
-use Rattle.mask.proofs.site_table.first_or.Statement.{statement}
-use Rattle.mask.proofs.site_table.first_or.Tie as tie
+use Rattle.mask.proofs.first_or.Statement.{statement}
+use Rattle.mask.proofs.first_or.Tie as tie
 
 first-member-requires : tie.Need-first-member-requires
 first-member-requires c κs = search needs
