@@ -3,7 +3,8 @@ use mathlib.Core.Path.{_≡_, refl, sym, ap, ap₂, subst, _∙_, fun-ext}
 use mathlib.Core.Logic.{_⊎_, inl, inr, ⊎-elim}
 use mathlib.Core.Bool.{Bool, true, false, _&&_, cond}
 use mathlib.Core.List.{List, [], _∷_, _++_}
-use Prim.Native.Nat.{ℕ, zero, suc, _+_, _-_, _*_, _≤_, _<_}
+use mathlib.Core.Option.{none, some}
+use Prim.Native.Nat.{ℕ, zero, suc, _+_, _-_, _*_, _/_, _%_, _≤_, _<_}
 use native.Mathlib.Omega.{arith}
 use native.Mathlib.Nat.{mod-eq-of-lt}
 use lib.Bits.{bitAnd}
@@ -16,11 +17,20 @@ use Rattle.image.specs.Layout.{tranBound}
 use Rattle.mask.specs.Masks.{byte}
 use Rattle.mask.specs.Placements.{Placement}
 use Rattle.method.specs.ControlPart.{active}
+use Rattle.method.specs.Slots.{isSome}
 use Rattle.control.specs.ControlBytes.{Part, maskBytes, marksFrom, homeByte, controlByte, countIn, homeIn, homeOf, keptAs, placementAt}
 use Rattle.control.specs.ControlBytes.{placementsIn, controlOf}
 use Rattle.control.specs.Meaning.{rowOf, structOf, bitsFrom, maskIn, newestMask, placementIn, meaning, Counted}
 use Rattle.control.specs.declared.Control.{Control}
 use Rattle.control.proofs.Marks.{marks-kept}
+
+-- The highest bit of a transaction's byte says that it is open.
+pub open-bit : (n : ℕ) → leb 128 n ≡ isSome (homeIn n)
+open-bit n = go (leb 128 n)
+  where
+    go : (b : Bool) → b ≡ isSome (cond b (some (n / 16 % 8)) none)
+    go true = refl
+    go false = refl
 
 -- ---- lists of placements: one more, the same ones, the length, the masks
 pub placements-more : (f : ℕ → Placement) (n : ℕ) → placementsIn f n ++ (f n ∷ []) ≡ placementsIn f (suc n)

@@ -7,17 +7,18 @@ ghost use lib.Bits.{bitAnd};
 ghost use lib.Dec.{ltb};
 ghost use lib.ListN.{getD, length};
 ghost use Rattle.lists.specs.Tabulate.{tabulate};
-ghost use Rattle.image.specs.Layout.{cardCount, controlSize};
+ghost use Rattle.image.specs.Layout.{cardCount, controlSize, tranBound};
 ghost use Rattle.mask.specs.Placements.{meant};
-ghost use Rattle.method.specs.ControlPart.{isCard};
+ghost use Rattle.method.specs.ControlPart.{isCard, isOpen};
 ghost use Rattle.method.specs.Slots.{isSome};
-ghost use Rattle.control.specs.ControlBytes.{homeByte, controlByte, homeIn, placementAt};
+ghost use Rattle.control.specs.ControlBytes.{homeByte, controlByte, controlOf, homeIn, placementAt};
 ghost use Rattle.control.specs.Meaning.{structOf, meaning, mostActive, bitsFrom, Counted, putControl};
 use crate::Control;
 use crate::FIRST_MARK;
 use crate::MASK_COUNT;
 use crate::TRAN_COUNT;
 use image::Card;
+use image::Tran;
 use mask::Placement;
 
 // Where the fields start; byte 0 has the stopped bit and the count. Those from HOMES_END on are zero.
@@ -170,6 +171,15 @@ pub fn decode(s: &[u8]) -> Control
             s[22],
         ],
     }
+}
+
+// Whether the transaction is open, read off its byte without the rest of the struct.
+pub fn is_open_at(s: &[u8], tran: Tran) -> bool
+    requires { ⌜ controlSize ≤ length (now s) ⌝ }
+    requires { ⌜ (0 < tran .0) × (tran .0 < tranBound) ⌝ }
+    ensures { λ r. ⌜ r ≡ isOpen (controlOf (λ n. getD (now (s .entry)) n 0)) (tran .0) ⌝ }
+{
+    s[HOMES_AT + (tran.0 - 1) as usize] >= OPEN
 }
 
 // Active placement i, oldest first, read off the bytes without the rest of the struct.

@@ -2,14 +2,16 @@
 use Prim.Native.Nat.{_<_, ℕ}
 use borrow.Author.Tests.{ltb-true}
 use lib.Dec.{ltb}
+use lib.ListN.{getD}
 use mathlib.Core.Bool.{Bool, false, not, true}
 use mathlib.Core.Path.{_≡_, ap, sym}
 use Rattle.lists.proofs.Bools.{and-l, and-r, not-not-is}
 use Rattle.image.specs.Layout.{cardCount, tranBound}
 use Rattle.mask.specs.Masks.{hasCard}
+use Rattle.method.specs.ControlPart.{isOpen}
 use Rattle.method.specs.Rules.{refusal, row, state}
 use Rattle.method.proofs.Refusals.{row-3, row-clear}
-use Rattle.control.specs.ControlBytes.{Part}
+use Rattle.control.specs.ControlBytes.{Part, controlOf}
 use Rattle.control.specs.Meaning.{meaning}
 use Rattle.control.specs.declared.Control.{Control}
 use Rattle.cabinet_rules.specs.Cabinet.{tranOk}
@@ -43,3 +45,7 @@ module _ (k : Control) (g : Image) (is : Given k g) where
   pub state-rows : row 4 (k .stopped) 0 ≡ rowsOn state g
   unfolding refusal
   state-rows = ap (λ (t : Bool). row 4 t 0) stopped-is
+
+-- Whether a transaction is open, by the struct and by the bytes.
+pub open-given : {k : Control} {g : Image} → Given k g → (t : ℕ) → isOpen (meaning k) t ≡ isOpen (controlOf (λ n. getD g n 0)) t
+open-given given t = ap (λ (p : Part). isOpen p t) (given .is .means)

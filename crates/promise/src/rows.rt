@@ -2,6 +2,7 @@
 ghost use mathlib.Core.Path.{_≡_};
 ghost use Rattle.control.specs.Meaning.{meaning};
 ghost use Rattle.cabinet_rules.specs.Cabinet.{tranOk};
+ghost use Rattle.promise.specs.Given.{Given};
 ghost use Rattle.promise.specs.Rows.{cardRows, tranRows};
 use control::Control;
 use control::TRAN_COUNT;
@@ -36,7 +37,8 @@ pub fn is_tran(tran: Tran) -> bool
 }
 
 // Rows 3, 4 and 5 of a call of an open transaction.
-pub fn tran_refusal(k: Control, tran: Tran) -> u8
+pub fn tran_refusal(image: &[u8], k: Control, tran: Tran) -> u8
+    requires { ⌜ Given k (now image) ⌝ }
     ensures { λ r. ⌜ r ≡ tranRows (meaning k) (tran .0) ⌝ }
 {
     if !is_tran(tran) {
@@ -45,7 +47,7 @@ pub fn tran_refusal(k: Control, tran: Tran) -> u8
     if k.stopped {
         return 4;
     }
-    if !k.is_open(tran) {
+    if !control::codec::is_open_at(image, tran) {
         return 5;
     }
     0

@@ -2,6 +2,7 @@
 ghost use mathlib.Core.Path.{_≡_};
 ghost use Rattle.control.specs.Meaning.{meaning};
 ghost use Rattle.cabinet_rules.specs.Delivery.{storable};
+ghost use Rattle.promise.specs.Given.{Given};
 ghost use Rattle.records.specs.Access.{LooksUp, earlyRows, withValue};
 use control::Control;
 use image::Rec;
@@ -37,13 +38,14 @@ fn refused(refusal: u8) -> Access
 }
 
 // Rows 3, 4 and 5.
-fn early_rows(k: Control, tran: Tran, rec: Rec) -> u8
+fn early_rows(image: &[u8], k: Control, tran: Tran, rec: Rec) -> u8
+    requires { ⌜ Given k (now image) ⌝ }
     ensures { λ r. ⌜ r ≡ earlyRows (meaning k) (tran .0) (rec .0) ⌝ }
 {
     if rec.0 as usize >= RECORD_COUNT {
         return 3;
     }
-    promise::rows::tran_refusal(k, tran)
+    promise::rows::tran_refusal(image, k, tran)
 }
 
 // The record's rows and holders.
@@ -55,7 +57,7 @@ pub fn look_up(image: &[u8], tran: Tran, rec: Rec) -> Access
         return refused(found.refusal);
     }
     let k = found.control;
-    let early = early_rows(k, tran, rec);
+    let early = early_rows(image, k, tran, rec);
     if early != 0 {
         return refused(early);
     }

@@ -82,7 +82,7 @@ fn end(image: &mut [u8], tran: Tran, take: bool) -> Answer
         return Answer::Refused(found.refusal);
     }
     let k = found.control;
-    let refusal = rows::tran_refusal(k, tran);
+    let refusal = rows::tran_refusal(image, k, tran);
     if refusal != 0 {
         return Answer::Refused(refusal);
     }

@@ -1,26 +1,13 @@
 -- The proof of `Control::is_open`. Assumes nothing.
-use Prim.Native.Nat.{_%_, _-_, _/_, ℕ}
-use lib.Dec.{leb}
+use Prim.Native.Nat.{_-_}
 use lib.ListN.{getD}
-use mathlib.Core.Bool.{Bool, cond, false, true}
-use mathlib.Core.Option.{none, some}
-use mathlib.Core.Path.{_≡_, refl}
 use borrow.Author.Needs.{needs}
 use borrow.Author.Tests.{lt-ltb}
 use Rattle.image.specs.Layout.{tranBound}
-use Rattle.method.specs.Slots.{isSome}
-use Rattle.control.specs.ControlBytes.{homeIn}
 use Rattle.control.specs.Meaning.{meaning}
+use Rattle.control.proofs.Struct.{open-bit}
 use Rattle.control.proofs.Control.is_open.Statement.{statement}
 use Rattle.control.proofs.Control.is_open.Tie as tie
-
--- The highest bit of a transaction's byte says that it is open.
-open-bit : (n : ℕ) → leb 128 n ≡ isSome (homeIn n)
-open-bit n = go (leb 128 n)
-  where
-    go : (b : Bool) → b ≡ isSome (cond b (some (n / 16 % 8)) none)
-    go true = refl
-    go false = refl
 
 sub-i : tie.Need-sub-i
 sub-i c = search needs

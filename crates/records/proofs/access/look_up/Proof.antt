@@ -26,7 +26,7 @@ returns c =
     (form-row (get (a .tran .0) (a .rec .0)) refl (a .image .now) _ (f .read .ensures .refusal-is) (t .if1 .taken))
 
 early-rows-requires : tie.Need-early-rows-requires
-early-rows-requires c κs = search needs
+early-rows-requires c κs = given (c .before .before .before .read .ensures) (c .before .if1 .left)
 
 refused-requires-2 : tie.Need-refused-requires-2
 refused-requires-2 c κs = search needs
