@@ -14,6 +14,7 @@ use Rattle.method.specs.Parameters.{Parameters}
 use Rattle.method.specs.PlainList.{orRefused}
 use Rattle.method.specs.Rules.{Answer, Call, Plan, View, act, anyLocked, begin, clearCard, commit, delete, dropHeld, endHeld}
 use Rattle.method.specs.Rules.{fail, fit, get, holders, isProtected, layBlock, load, lockHolders, lockedOut, look, lostOf}
+use Rattle.method.specs.Rules.{clearStamp, stampAll, stamped}
 use Rattle.method.specs.Rules.{move, moveWrites, place, refusal, refused, rollback, row, seenSlot, settle, settled}
 use Rattle.method.specs.Rules.{settledAt, start, state, stopping, store, trail, withdraw}
 use Rattle.method.specs.Slots.{isNone, readBy}
@@ -23,7 +24,7 @@ use Rattle.cabinet_rules.specs.BrokenWire.{BrokenWireRefused, ElseAsBefo
 use Rattle.cabinet_rules.specs.Cabinet.{cabinet, placeRows, rulesOf, tranOk}
 use Rattle.cabinet_rules.specs.Delivery.{anyValue, brokenWire, current, storable, twoRails}
 use Rattle.cabinet_rules.specs.Images.{Image, after, answerBy, controlBy, isStart, nextBy, planBy, refusalBy, stateBy}
-use Rattle.cabinet_rules.specs.Images.{Writes, unlessRefusedImage}
+use Rattle.cabinet_rules.specs.Images.{afterPlan, formBy, unlessRefusedImage}
 
 -- The rules of the delivery before.
 abbrev before : Parameters
@@ -59,29 +60,29 @@ same-rows (load c) d k v = refl
 
 -- ---- what an accepted call answers and writes
 abbrev SamePlan : Plan cabinet → Plan before → Type 0
-SamePlan p q = (p .answer ≡ q .answer) × (p .after ≡ q .after) × (p .write ≡ q .write)
+SamePlan p q = (p .answer ≡ q .answer) × (p .after ≡ q .after) × (p .write ≡ q .write) × (p .stamps ≡ q .stamps)
 
 same-either : (b : Bool) (p p′ : Plan cabinet) (q q′ : Plan before) → SamePlan p q → SamePlan p′ q′ → SamePlan (cond b p p′) (cond b q q′)
 same-either true p p′ q q′ h h′ = h
 same-either false p p′ q q′ h h′ = h′
 
 same-plan : (c : Call cabinet) (k : Part) (v : View cabinet) → SamePlan (act cabinet c k v) (act before c k v)
-unfolding act trail holders lostOf stopping settled settledAt isProtected lockHolders layBlock endHeld dropHeld clearCard moveWrites
-same-plan (start m) k v = (refl, refl, refl)
-same-plan (begin t home) k v = (refl, refl, refl)
-same-plan (get t r) k v = (refl, refl, refl)
-same-plan (store t r n) k v = (refl, refl, refl)
-same-plan (delete t r) k v = same-either (isNone (readBy t (seenSlot cabinet k v r))) _ _ _ _ (refl, refl, refl) (refl, refl, refl)
-same-plan (commit t) k v = (refl, refl, refl)
-same-plan (rollback t) k v = (refl, refl, refl)
-same-plan (fit c) k v = (refl, refl, refl)
-same-plan (withdraw c) k v = (refl, refl, refl)
-same-plan (place m) k v = (refl, refl, refl)
-same-plan (fail c) k v = same-either (stopping cabinet k c) _ _ _ _ (refl, refl, refl) (refl, refl, refl)
-same-plan (move c b) k v = (refl, refl, refl)
-same-plan settle k v = (refl, refl, refl)
-same-plan state k v = (refl, refl, refl)
-same-plan (load c) k v = (refl, refl, refl)
+unfolding act trail holders lostOf stopping settled settledAt isProtected lockHolders layBlock endHeld dropHeld clearCard moveWrites stampAll clearStamp stamped
+same-plan (start m) k v = (refl, refl, refl, refl)
+same-plan (begin t home) k v = (refl, refl, refl, refl)
+same-plan (get t r) k v = (refl, refl, refl, refl)
+same-plan (store t r n) k v = (refl, refl, refl, refl)
+same-plan (delete t r) k v = same-either (isNone (readBy t (seenSlot cabinet k v r))) _ _ _ _ (refl, refl, refl, refl) (refl, refl, refl, refl)
+same-plan (commit t) k v = (refl, refl, refl, refl)
+same-plan (rollback t) k v = (refl, refl, refl, refl)
+same-plan (fit c) k v = (refl, refl, refl, refl)
+same-plan (withdraw c) k v = (refl, refl, refl, refl)
+same-plan (place m) k v = (refl, refl, refl, refl)
+same-plan (fail c) k v = same-either (stopping cabinet k c) _ _ _ _ (refl, refl, refl, refl) (refl, refl, refl, refl)
+same-plan (move c b) k v = (refl, refl, refl, refl)
+same-plan settle k v = (refl, refl, refl, refl)
+same-plan state k v = (refl, refl, refl, refl)
+same-plan (load c) k v = (refl, refl, refl, refl)
 
 -- ---- on images
 same-refused : (n : ℕ) (a : Answer cabinet) → orRefused cabinet n a ≡ orRefused before n a
@@ -91,7 +92,7 @@ same-refused (suc n) a = refl
 module _ (c : Call cabinet) (d : (t r : ℕ) → c ≢ store t r brokenWire) (g : Image) where
   same-refusal : refusalBy current c g ≡ refusalBy twoRails c g
   unfolding refusalBy stateBy look
-  same-refusal = ap (λ (n : ℕ). formRows (isStart c) (current .form (λ n. getD g n 0)) g n) (same-rows c d (controlBy current g) (look cabinet (stateBy current g)))
+  same-refusal = ap (λ (n : ℕ). formRows (isStart c) (formBy current g) g n) (same-rows c d (controlBy current g) (look cabinet (stateBy current g)))
 
   same-planned : SamePlan (planBy current c g) (planBy twoRails c g)
   unfolding stateBy look
@@ -102,7 +103,7 @@ unfolding ElseAsBefore answerBy nextBy
 else-as-before c d g =
     let p = same-planned c d g in (
       ap₂ (orRefused cabinet) (same-refusal c d g) (p .0) ∙ same-refused (refusalBy twoRails c g) (planBy twoRails c g .answer),
-      ap₂ (λ (n : ℕ) (x : Image). unlessRefusedImage n g x) (same-refusal c d g) (ap₂ (λ (k : Part) (w : Writes). after (current .bytes k) w g) (p .1) (p .2)),
+      ap₂ (λ (n : ℕ) (x : Image). unlessRefusedImage n g x) (same-refusal c d g) (λ i. afterPlan current (record { answer = p .0 i; after = p .1 i; write = p .2 i; stamps = p .3 i }) g),
     )
 
 -- ---- a store of 65,535

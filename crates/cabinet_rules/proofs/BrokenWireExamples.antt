@@ -58,7 +58,7 @@ module _ (before : Image) (long : length before ≡ imageSize) where
   wasRails = calledStore twoRails (plainly (committedCalls ++ pendingCalls)) (startedStore twoRails (byte 0xCC) before)
 
   abbrev left : Store
-  left = takenOver twoRails current (λ p. p) wasRails
+  left = takenOver twoRails current (λ p. p) (λ g. g) wasRails
 
   left-earlier : Earlier left
   unfolding NoStopBy answerBy refusalBy refusal act startRow size members hasCard
@@ -121,17 +121,17 @@ module _ (before : Image) (long : length before ≡ imageSize) where
   wasBase = calledStore base (plainly committedCalls) (startedStore base (byte 0xCC) before)
 
   abbrev wasBoth : StoreBy twoRails
-  wasBoth = calledStore twoRails (plainly pendingCalls) (takenOver base twoRails olderFromMask wasBase)
+  wasBoth = calledStore twoRails (plainly pendingCalls) (takenOver base twoRails olderFromMask (λ g. g) wasBase)
 
   abbrev leftByBoth : Store
-  leftByBoth = takenOver twoRails current (λ p. p) wasBoth
+  leftByBoth = takenOver twoRails current (λ p. p) (λ g. g) wasBoth
 
   both-earlier : Earlier leftByBoth
   unfolding NoStopBy answerBy refusalBy refusal act startRow size members hasCard
   both-earlier = record {
     was = wasBoth;
     left = record {
-      first = takenOver base twoRails olderFromMask wasBase;
+      first = takenOver base twoRails olderFromMask (λ g. g) wasBase;
       begins = inr (record {
         was = wasBase;
         left = record {

@@ -24,6 +24,7 @@ use Rattle.method.specs.ControlPart.{active, halted, isOpen, part}
 use Rattle.method.specs.Rules.{lost, lostOf}
 use Rattle.method.proofs.Capacity.{Chain, ControlInv, bounded, chain-map}
 use Rattle.method.proofs.Invariant.{Form}
+use Rattle.method.proofs.Stopped.{Rests}
 use Rattle.control.specs.ControlBytes.{Part, controlByte, countIn}
 use Rattle.control_form.specs.ControlForm.{countOk, formOk, fourthOk, homeOk, isSafe, membersOk, partOk, zeroFieldsOk}
 use Rattle.control_form.proofs.RoundTrip.{read-control, read-count}
@@ -98,31 +99,27 @@ module _ (k : Part) (f : Form cabinet k) (u : ControlInv cabinet lawful k) where
       home t none e = rw e
       home t (some h) e = rw (e, f .base .running) (u .homes t h e)
 
-  -- ---- a store that a fail of card c stops
-  module _ (c : ℕ) (c-ok : ltb c cardCount ≡ true) where
-    stay : (p : Placement) (x : ℕ) → In p (reverse (k .older)) → hasCard (p .mask) x ≡ true → hasCard (k .failed) x ≡ true → hasCard (withCard (k .failed) c) x ≡ true
-    stay p x m h d = rw (has-with (k .failed) c x c-ok) (or-r (eqb x c) (hasCard (k .failed) x) d)
+-- ---- a store that has stopped
+module _ (k : Part) (r : Rests cabinet lawful k) where
+  few-resting : length (k .older) ≤ mostPlaced
+  few-resting = let h : suc (length (k .older)) < mostPlaced + copyCount = r .bound in omega arith
 
-    apart : (x : ℕ) → hasCard (withoutCard (k .working) c) x ≡ true → hasCard (withCard (k .failed) c) x ≡ false
-    apart x h =
-        let e : (hasCard (k .working) x && not (eqb x c)) ≡ true = sym (has-without (k .working) c x) ∙ h in
-        rw (has-with (k .failed) c x c-ok, not-is (eqb x c) (and-r (hasCard (k .working) x) (not (eqb x c)) e)) (f .base .apart x (and-l (hasCard (k .working) x) (not (eqb x c)) e))
+  known-resting : (p : Placement) (c : ℕ) → In p (active k) → hasCard (p .mask) c ≡ true → (hasCard (k .working) c || hasCard (k .failed) c) ≡ true
+  known-resting p c m e = go (split (hasCard (k .failed) c))
+    where
+      go : (hasCard (k .failed) c ≡ true) ⊎ (hasCard (k .failed) c ≡ false) → (hasCard (k .working) c || hasCard (k .failed) c) ≡ true
+      go (inl d) = or-r (hasCard (k .working) c) (hasCard (k .failed) c) d
+      go (inr d) = or-l (hasCard (k .working) c) (hasCard (k .failed) c) (r .known p c m e d)
 
-    known-still : (p : Placement) (x : ℕ) → In p (active k) → hasCard (p .mask) x ≡ true → (hasCard (withoutCard (k .working) c) x || hasCard (withCard (k .failed) c) x) ≡ true
-    known-still p x m e = rw (has-without (k .working) c x, has-with (k .failed) c x c-ok) (go (hasCard (k .working) x) (hasCard (k .failed) x) (eqb x c) (known p x m e))
-      where
-        go : (w d s : Bool) → (w || d) ≡ true → ((w && not s) || (s || d)) ≡ true
-        go w d true h = or-r (w && false) true refl
-        go true d false h = refl
-        go false d false h = h
-
-    pub halted-ok : partOk (halted (marked cabinet k c)) ≡ true
-    unfolding partOk areApart isWithinEither membersOk homeOk
-    halted-ok =
-        and-in _ _ (all-below cardCount _ (λ x h. nand (hasCard (withoutCard (k .working) c) x) (hasCard (withCard (k .failed) c) x) (apart x)))
-        (and-in _ _ (all-in (membersOk (withoutCard (k .working) c) (withCard (k .failed) c)) (active k) (λ p m. and-in _ _ (le-leb copyCount (size (p .mask)) (f .base .sound p m)) (all-below cardCount _ (λ x h. imp (hasCard (p .mask) x) _ (known-still p x m)))))
-        (and-in _ _ (fourth-ok (withCard (k .failed) c) (k .newest) (u .room .steps) (k .older) (chain-map cabinet lawful (k .failed) (withCard (k .failed) c) (u .room .steps) (k .newest) (reverse (k .older)) stay (u .room .chain)) (u .room .few))
-        (all-below tranBound _ (λ t h. refl))))
+  pub resting-ok : partOk k ≡ true
+  unfolding partOk areApart isWithinEither membersOk homeOk
+  resting-ok =
+      and-in _ _ (all-below cardCount _ (λ x h. nand (hasCard (k .working) x) (hasCard (k .failed) x) (r .apart x)))
+      (and-in _ _ (all-in (membersOk (k .working) (k .failed)) (active k) (λ p m. and-in _ _ (le-leb copyCount (size (p .mask)) (r .sound p m)) (all-below cardCount _ (λ x h. imp (hasCard (p .mask) x) _ (known-resting p x m)))))
+      (and-in _ _ (fourth-ok (k .failed) (k .newest) (r .room .steps) (k .older) (r .room .chain) (r .room .few))
+      (and-in _ _ (or-l (k .stopped) _ (r .stays))
+      (and-in _ _ (or-l (k .stopped) _ (r .stays))
+      (all-below tranBound (λ t. homeOk (k .stopped) (k .working) (k .home t)) (λ t h. rw (r .shut t)))))))
 
 -- ---- bytes that were written from a control part that meets the clauses have the control form
 pub written-form : (k : Part) → length (k .older) ≤ mostPlaced → ((t : ℕ) → isOpen k t ≡ true → tranOk t ≡ true) → ((t h : ℕ) → k .home t ≡ some h → h < cardCount)
@@ -144,13 +141,10 @@ module _ (k : Part) (shut : (t : ℕ) → k .home t ≡ none) where
 -- ---- the delivery in force
 pub controlLaws : ControlLaws current ruleLaws
 controlLaws = record {
-  reads = λ k f u g w. read-control k (few-older k f u) (u .opens) (homes k u) g w;
-  formed = λ k f u g w. written-form k (few-older k f u) (u .opens) (homes k u) (running-ok k f u) g w;
-  stop-read = λ k f u c r g w. ap (λ (p : Part). p .stopped)
-      (read-control (halted (marked cabinet k c)) (few-older k f u) (none-opens (halted (marked cabinet k c)) (λ t. refl)) (none-homes (halted (marked cabinet k c)) (λ t. refl)) g w);
-  stop-formed = λ k f u c r g w. written-form (halted (marked cabinet k c)) (few-older k f u) (none-opens (halted (marked cabinet k c)) (λ t. refl))
-      (none-homes (halted (marked cabinet k c)) (λ t. refl)) (halted-ok k f u c r) g w;
-  same-failed = λ g. refl;
+  reads = λ k f u g t w. read-control k (few-older k f u) (u .opens) (homes k u) g (w .front);
+  formed = λ k f u g t w. written-form k (few-older k f u) (u .opens) (homes k u) (running-ok k f u) g (w .front);
+  rest-read = λ k r g t w. read-control k (few-resting k r) (none-opens k (r .shut)) (none-homes k (r .shut)) g (w .front);
+  rest-formed = λ k r g t w. written-form k (few-resting k r) (none-opens k (r .shut)) (none-homes k (r .shut)) (resting-ok k r) g (w .front);
 }
   where
     homes : (k : Part) → ControlInv cabinet lawful k → (t h : ℕ) → k .home t ≡ some h → h < cardCount

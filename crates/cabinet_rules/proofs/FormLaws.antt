@@ -165,4 +165,4 @@ module _ (g : Image) (form : controlForm g ≡ true) where
   pub running-inv : ControlInv cabinet lawful (controlIn g)
   running-inv =
       let f = few-steps (controlIn g .failed) (controlIn g .newest) (controlIn g .older) few-older (clauses .fourth) in
-      record { homes = home-works; opens = open-in-range; room = record { steps = f .0; chain = f .1; few = f .2 } }
+      record { homes = home-works; opens = open-in-range; room = record { steps = f .0; chain = f .1; few = f .2 }; numbers = tt }

@@ -6,10 +6,10 @@ use lib.ListN.{getD, length}
 use mathlib.Core.Bool.{Bool, _&&_, false, not, true}
 use mathlib.Core.List.{List, [], _∷_}
 use mathlib.Core.Logic.{_⊎_, inl, inr}
-use mathlib.Core.Path.{_∙_, _≡_, ap, refl, sym}
+use mathlib.Core.Path.{_∙_, _≡_, ap, refl, subst, sym}
 use native.Mathlib.Omega.{arith}
 use Rattle.lists.proofs.Bools.{and-l, and-r, split, tf}
-use Rattle.image.specs.Layout.{blockCount, cardCount, controlSize, imageSize, recordCount}
+use Rattle.image.specs.Layout.{blockCount, cardCount, imageSizeOf, recordCount}
 use Rattle.mask.specs.Masks.{Byte, hasCard}
 use Rattle.mask.proofs.Masks.{has-card}
 use Rattle.method.specs.Changes.{marked}
@@ -23,15 +23,16 @@ use Rattle.method.proofs.Capacity.{ControlInv}
 use Rattle.method.proofs.Invariant.{Form}
 use Rattle.method.proofs.Laws.{Laws}
 use Rattle.method.proofs.StopRule.{stop-same}
-use Rattle.control_form.specs.ControlForm.{formRefusal, formRows}
+use Rattle.method.proofs.Stopped.{Rests, rests-halted}
+use Rattle.control_form.specs.ControlForm.{formRefusal, formRowsOf}
 use Rattle.cabinet_rules.specs.Cabinet.{cabinet, rulesOf, tranOk}
-use Rattle.cabinet_rules.specs.Claims.{ControlFormStays, NoisyCallBy, imageAfter, imageAfterBy, noisy}
+use Rattle.cabinet_rules.specs.Claims.{ControlFormStays, NoisyCallBy, imageAfter, imageAfterBy, noisyBy}
 use Rattle.cabinet_rules.specs.Delivery.{Delivery, PartOf, current}
-use Rattle.cabinet_rules.specs.Images.{Image, answerBy, controlBy, isStart, next, nextBy, planBy, refusalBy, stateBy}
-use Rattle.cabinet_rules.proofs.After.{after-control, length-after}
+use Rattle.cabinet_rules.specs.Images.{Image, afterPlan, answerBy, formBy, tailBy}
+use Rattle.cabinet_rules.specs.Images.{controlBy, isStart, next, nextBy, planBy, refusalBy, stateBy}
 use Rattle.cabinet_rules.proofs.Form.{currentLaws}
 use Rattle.cabinet_rules.proofs.Lawful.{DeliveryLaws, lawfulBy}
-use Rattle.cabinet_rules.proofs.Shows.{control-form, control-noisy, length-noisy}
+use Rattle.cabinet_rules.proofs.Shows.{WroteIn, control-form, length-noisy, noise-wrote, plan-long, plan-wrote}
 use Rattle.cabinet_rules.proofs.Sound.{Sound, noise-sound, refusal-sound, start-sound, step-sound}
 
 later : (b : Bool) → (n : ℕ) × (row 3 b 4 ≡ suc n)
@@ -45,32 +46,29 @@ module _ (D : Delivery) (W : DeliveryLaws D) where
   abbrev L : Laws P
   L = lawfulBy D (W .rules)
 
-  -- ---- an image that a stopping fail of a card left
+  -- ---- an image of a stopped store
   pub record Stopped (g : Image) : Type 0 where
-    pub running : PartOf D
-    pub form : Form P running
-    pub full : ControlInv P L running
-    pub card : ℕ
-    pub in-range : ltb card cardCount ≡ true
-    pub long : length g ≡ imageSize
-    pub wrote : (n : ℕ) → n < controlSize → getD g n 0 ≡ D .bytes (halted (marked P running card)) n
+    pub part : PartOf D
+    pub rests : Rests P L part
+    pub long : length g ≡ imageSizeOf (D .layout)
+    pub wrote : WroteIn D g part
 
   module _ (g : Image) (s : Stopped g) where
-    stopped-form : D .form (λ n. getD g n 0) ≡ true
-    stopped-form = W .control .stop-formed (s .running) (s .form) (s .full) (s .card) (s .in-range) (λ n. getD g n 0) (s .wrote)
+    stopped-form : formBy D g ≡ true
+    stopped-form = W .control .rest-formed (s .part) (s .rests) (λ n. getD g n 0) (tailBy (D .layout) g) (s .wrote)
+
+    pub stopped-read : controlBy D g ≡ s .part
+    stopped-read = W .control .rest-read (s .part) (s .rests) (λ n. getD g n 0) (tailBy (D .layout) g) (s .wrote)
 
     stopped-bit : controlBy D g .stopped ≡ true
-    stopped-bit = W .control .stop-read (s .running) (s .form) (s .full) (s .card) (s .in-range) (λ n. getD g n 0) (s .wrote)
+    stopped-bit = ap (λ (x : PartOf D). x .stopped) stopped-read ∙ s .rests .stays
 
-    noise-stopped : (noise : ℕ → ℕ) → Stopped (noisy noise g)
+    noise-stopped : (noise : ℕ → ℕ) → Stopped (noisyBy D noise g)
     noise-stopped noise = record {
-      running = s .running;
-      form = s .form;
-      full = s .full;
-      card = s .card;
-      in-range = s .in-range;
-      long = length-noisy noise g ∙ s .long;
-      wrote = λ n h. control-noisy noise g n h (omega (arith, s .long)) ∙ s .wrote n h;
+      part = s .part;
+      rests = s .rests;
+      long = length-noisy D noise g ∙ s .long;
+      wrote = noise-wrote D noise g (s .part) (s .long) (s .wrote);
     }
 
   -- ---- a fail that stops the store leaves such an image
@@ -97,13 +95,10 @@ module _ (D : Delivery) (W : DeliveryLaws D) where
     stop-leaves : Stopped (nextBy D (fail c) g)
     unfolding nextBy
     stop-leaves = rw fail-accepted (record {
-      running = q .control;
-      form = s .ready .inv .form;
-      full = s .ready .full;
-      card = c;
-      in-range = in-range;
-      long = length-after (D .bytes (planBy D (fail c) g .after)) (planBy D (fail c) g .write) g;
-      wrote = λ n h. after-control (D .bytes (planBy D (fail c) g .after)) (planBy D (fail c) g .write) g n h ∙ ap (λ (k : PartOf D). D .bytes k n) fail-plan;
+      part = halted (marked P (q .control) c);
+      rests = rests-halted P L (q .control) c in-range (s .ready .inv .form) (s .ready .full);
+      long = plan-long D (planBy D (fail c) g) g;
+      wrote = subst (WroteIn D (afterPlan D (planBy D (fail c) g) g)) fail-plan (plan-wrote D (planBy D (fail c) g) g);
     })
 
   -- ---- while stopped, every call but an accepted start leaves the image as found
@@ -118,7 +113,7 @@ module _ (D : Delivery) (W : DeliveryLaws D) where
   refused-4 (rollback t) l k v e = rw e (later (not (tranOk t)))
   refused-4 (fit c) l k v e = rw e (later (not (ltb c cardCount)))
   refused-4 (withdraw c) l k v e = rw e (later (not (ltb c cardCount)))
-  refused-4 (place m) l k v e = rw e (3, refl)
+  refused-4 (place m) l k v e = rw e (later (not (D .placeInRange m)))
   refused-4 (fail c) l k v e = rw e (later (not (ltb c cardCount)))
   refused-4 (move c b) l k v e = rw e (later (not (ltb c cardCount && ltb b blockCount)))
   refused-4 settle l k v e = rw e (3, refl)
@@ -134,9 +129,9 @@ module _ (D : Delivery) (W : DeliveryLaws D) where
     runs : (z : State P) (q : PlainList P) → Sound D W g z q → Started g
     stands : Stopped g → Started g
 
-  pub started-form : (g : Image) → Started g → formRows false (D .form (λ n. getD g n 0)) g 0 ≡ 0
-  started-form g (runs z q s) = rw (eq-eqb (length g) imageSize (s .long), control-form D W (q .control) (s .ready .inv .form) (s .ready .full) g (s .wrote))
-  started-form g (stands s) = rw (eq-eqb (length g) imageSize (s .long), stopped-form g s)
+  pub started-form : (g : Image) → Started g → formRowsOf (imageSizeOf (D .layout)) false (formBy D g) g 0 ≡ 0
+  started-form g (runs z q s) = rw (eq-eqb (length g) (imageSizeOf (D .layout)) (s .long), control-form D W (q .control) (s .ready .inv .form) (s .ready .full) g (s .wrote))
+  started-form g (stands s) = rw (eq-eqb (length g) (imageSizeOf (D .layout)) (s .long), stopped-form g s)
 
   -- an accepted start begins anew; a refused one leaves the image
   start-either : (m : Byte) (g : Image) → Started g → Started (nextBy D (start m) g)
@@ -153,7 +148,7 @@ module _ (D : Delivery) (W : DeliveryLaws D) where
   stopped-next c l g s = let r = refused-4 c l (controlBy D g) (look P (stateBy D g)) (stopped-bit g s) in next-same c g (r .0) (rows (r .0) (r .1))
     where
       rows : (n : ℕ) → refusal P c (controlBy D g) (look P (stateBy D g)) ≡ suc n → refusalBy D c g ≡ suc n
-      rows n e = unfold refusalBy in (rw (eq-eqb (length g) imageSize (s .long), stopped-form g s, l) e)
+      rows n e = unfold refusalBy in (rw (eq-eqb (length g) (imageSizeOf (D .layout)) (s .long), stopped-form g s, l) e)
 
   -- a call that is observed and does not end the observations keeps a sound image sound
   going-on : (c : Call P) (g : Image) (z : State P) (q : PlainList P) → Sound D W g z q → isLast P (plainObserve P c q) ≡ false → Started (nextBy D c g)
@@ -215,7 +210,7 @@ module _ (D : Delivery) (W : DeliveryLaws D) where
   started-next c g (runs z q s) = runs-next c g z q s
   started-next c g (stands s) = stands-next c g s
 
-  started-noise : (noise : ℕ → ℕ) (g : Image) → Started g → Started (noisy noise g)
+  started-noise : (noise : ℕ → ℕ) (g : Image) → Started g → Started (noisyBy D noise g)
   started-noise noise g (runs z q s) = runs z q (noise-sound D W noise g z q s)
   started-noise noise g (stands s) = stands (noise-stopped g s noise)
 
@@ -223,7 +218,7 @@ module _ (D : Delivery) (W : DeliveryLaws D) where
   pub started-after : (l : List (NoisyCallBy D)) (g : Image) → Started g → Started (imageAfterBy D l g)
   unfolding imageAfterBy
   started-after [] g s = s
-  started-after (e ∷ l) g s = started-after l (nextBy D (e .1) (noisy (e .0) g)) (started-next (e .1) (noisy (e .0) g) (started-noise (e .0) g s))
+  started-after (e ∷ l) g s = started-after l (nextBy D (e .1) (noisyBy D (e .0) g)) (started-next (e .1) (noisyBy D (e .0) g) (started-noise (e .0) g s))
 
 -- ---- by the delivery in force
 pub form-kept : (l : List (NoisyCallBy current)) (g : Image) → Started current currentLaws g → formRefusal (imageAfter l g) ≡ 0

@@ -22,15 +22,17 @@ use Rattle.slot.specs.Words.{entryOf, freedSlot, lockedSlot, slotOf, stateOf}
 use Rattle.slot.specs.declared.Slot.{Slot as Fields}
 use Rattle.slot.proofs.Blocks.{held-empty, held-end, held-fresh, held-lock, slot-end, slot-fresh, slot-lock}
 use Rattle.method.specs.Changes.{marked}
-use Rattle.method.specs.ControlPart.{active, halted}
+use Rattle.method.specs.ControlPart.{ControlPart, active, halted}
 use Rattle.method.specs.Rules.{row}
 use Rattle.method.specs.Slots.{Slot, blank, ended, freed, locked}
 use Rattle.method.proofs.Capacity.{ControlInv}
 use Rattle.method.proofs.Invariant.{Form}
 use Rattle.method.proofs.Laws.{Laws}
 use Rattle.method.proofs.Refusals.{row-clear}
+use Rattle.method.proofs.Stopped.{Rests}
 use Rattle.cabinet_rules.specs.Cabinet.{cabinet, mostPlaced, placeRows, rulesOf, slotSeen, startRow, tranOk}
-use Rattle.cabinet_rules.specs.Delivery.{Delivery, PartOf, brokenWire, current, railed, storable}
+use Rattle.control.specs.ControlBytes.{Serial, Setting}
+use Rattle.cabinet_rules.specs.Delivery.{Delivery, PartOf, againByRails, brokenWire, current, railed, storable}
 
 -- ---- slots, as the rules see them
 -- what the rules see of a slot's fields
@@ -83,38 +85,45 @@ unfolding startRow
 start-members m e = ltb-false (size m) leastMembers (row-clear (ltb (size m) leastMembers) 8 e .0)
 
 -- ---- what is asked of a delivery
--- Sites are two different members, the cards of the placement made of a mask are the mask's, and a slot has room for a value in range.
+-- Sites are two different members, what start and fail make of a mask has its cards and is usable where they are two, an accepted argument of
+-- place gives a usable placement of working cards while there is room, and a slot has room for a value in range.
 pub record RuleLaws (D : Delivery) : Type 0 where
-  pub site-count : (p : D .Placement) (b : ℕ) → length (D .sites p b) ≡ copyCount
-  pub site-member : (p : D .Placement) (b c : ℕ) → copyCount ≤ size (D .mask p) → elem c (D .sites p b) ≡ true → hasCard (D .mask p) c ≡ true
-  pub site-distinct : (p : D .Placement) (b : ℕ) → copyCount ≤ size (D .mask p) → distinct (D .sites p b) ≡ true
+  pub site-count : (p : D .Placement) (b : ℕ) → D .usable p → b < blockCount → length (D .sites p b) ≡ copyCount
+  pub site-member : (p : D .Placement) (b c : ℕ) → D .usable p → b < blockCount → elem c (D .sites p b) ≡ true → hasCard (D .mask p) c ≡ true
+  pub site-distinct : (p : D .Placement) (b : ℕ) → D .usable p → b < blockCount → distinct (D .sites p b) ≡ true
   pub mask-back : (m : Byte) → D .mask (D .fromMask m) ≡ m
+  pub made-usable : (m : Byte) → copyCount ≤ size m → D .usable (D .fromMask m)
+  pub place-usable : (k : PartOf D) (a : D .PlaceArgument) → D .placeRefusal k a ≡ 0 → D .usable (D .places (k .newest) a)
+  pub place-members : (k : PartOf D) (a : D .PlaceArgument) → D .placeRefusal k a ≡ 0 → copyCount ≤ size (D .mask (D .places (k .newest) a))
+  pub place-working : (k : PartOf D) (a : D .PlaceArgument) (c : ℕ) → D .placeRefusal k a ≡ 0 → hasCard (D .mask (D .places (k .newest) a)) c ≡ true → hasCard (k .working) c ≡ true
+  pub place-few : (k : PartOf D) (a : D .PlaceArgument) → D .placeRefusal k a ≡ 0 → suc (suc (length (k .older))) ≤ mostPlaced
   pub value-fits : (n : ℕ) → D .valueInRange n ≡ true → n < valueBound
 
+-- An accepted mask of place.
+module _ {A : Type 0} (isAgain : A → Byte → Bool) (k : ControlPart Byte A Setting Serial) (m : Byte) (e : placeRows isAgain k m ≡ 0) where
+  bad : Bool
+  bad = not (isWithin m (k .working)) || isAgain (k .newest) m
+
+  rows : ((ltb (size m) leastMembers || bad) ≡ false) × (row 10 (leb mostPlaced (length (active k))) 0 ≡ 0)
+  unfolding placeRows bad
+  rows = row-clear (ltb (size m) leastMembers || (not (isWithin m (k .working)) || isAgain (k .newest) m)) 8 e
+
+  pub mask-members : copyCount ≤ size m
+  mask-members = ltb-false (size m) leastMembers (nor-l (ltb (size m) leastMembers) bad (rows .0))
+
+  pub mask-working : (c : ℕ) → hasCard m c ≡ true → hasCard (k .working) c ≡ true
+  unfolding isWithin bad
+  mask-working c h = imp-out (hasCard m c) (hasCard (k .working) c)
+      (below-all cardCount (λ x. not (hasCard m x) || hasCard (k .working) x) c
+      (not-not-is (isWithin m (k .working)) (nor-l (not (isWithin m (k .working))) (isAgain (k .newest) m) (nor-r (ltb (size m) leastMembers) bad (rows .0))))
+      (has-card m c h)) h
+
+  pub mask-few : suc (suc (length (k .older))) ≤ mostPlaced
+  mask-few =
+      let h : length (k .older ++ (k .newest ∷ [])) < mostPlaced = leb-false mostPlaced (length (active k)) (row-clear (leb mostPlaced (length (active k))) 9 (rows .1) .0) in
+      omega (arith, h, length-append (k .older) (k .newest ∷ []))
+
 module _ (D : Delivery) (S : RuleLaws D) where
-  module _ (k : PartOf D) (m : Byte) (e : placeRows D k m ≡ 0) where
-    bad : Bool
-    bad = not (isWithin m (k .working)) || D .isAgain (k .newest) m
-
-    rows : ((ltb (size m) leastMembers || bad) ≡ false) × (row 10 (leb mostPlaced (length (active k))) 0 ≡ 0)
-    unfolding placeRows bad
-    rows = row-clear (ltb (size m) leastMembers || (not (isWithin m (k .working)) || D .isAgain (k .newest) m)) 8 e
-
-    place-members : copyCount ≤ size m
-    place-members = ltb-false (size m) leastMembers (nor-l (ltb (size m) leastMembers) bad (rows .0))
-
-    place-working : (c : ℕ) → hasCard m c ≡ true → hasCard (k .working) c ≡ true
-    unfolding isWithin bad
-    place-working c h = imp-out (hasCard m c) (hasCard (k .working) c)
-        (below-all cardCount (λ x. not (hasCard m x) || hasCard (k .working) x) c
-        (not-not-is (isWithin m (k .working)) (nor-l (not (isWithin m (k .working))) (D .isAgain (k .newest) m) (nor-r (ltb (size m) leastMembers) bad (rows .0))))
-        (has-card m c h)) h
-
-    place-few : suc (suc (length (k .older))) ≤ mostPlaced
-    place-few =
-        let h : length (k .older ++ (k .newest ∷ [])) < mostPlaced = leb-false mostPlaced (length (active k)) (row-clear (leb mostPlaced (length (active k))) 9 (rows .1) .0) in
-        omega (arith, h, length-append (k .older) (k .newest ∷ []))
-
   -- the placement made of a mask with members enough
   made : (m : Byte) → copyCount ≤ size m → copyCount ≤ size (D .mask (D .fromMask m))
   made m h = rw (S .mask-back m) h
@@ -135,19 +144,24 @@ module _ (D : Delivery) (S : RuleLaws D) where
     has-none = has-none;
     has-insert = has-with;
     has-remove = has-without;
-    site-count = λ σ p b u h. S .site-count p b;
-    site-member = λ σ p b c u h e. S .site-member p b c u e;
-    site-distinct = λ σ p b u h. S .site-distinct p b u;
+    site-count = λ σ p b u h. S .site-count p b u (ltb-true b blockCount h);
+    site-member = λ σ p b c u h e. S .site-member p b c u (ltb-true b blockCount h) e;
+    site-distinct = λ σ p b u h. S .site-distinct p b u (ltb-true b blockCount h);
     has-without = λ p c x. made-has (withoutCard (D .mask p) c) x ∙ has-without (D .mask p) c x;
-    usable-without = λ σ p c h. h;
-    start-usable = λ m e. made m (start-members m e);
+    usable-without = λ σ p c h. S .made-usable (withoutCard (D .mask p) c) (rw (S .mask-back (withoutCard (D .mask p) c)) at h);
+    start-usable = λ m e. S .made-usable m (start-members m e);
     start-many = λ m e. made m (start-members m e);
     start-some = λ m e. omega arith;
-    place-usable = λ k m e. made m (place-members k m e);
-    place-many = λ k m e. made m (place-members k m e);
-    place-works = λ k m c e h. place-working k m e c (sym (made-has m c) ∙ h);
+    place-usable = S .place-usable;
+    place-many = S .place-members;
+    place-works = S .place-working;
     limit-some = λ σ. omega arith;
-    place-room = place-few;
+    numbered-start = λ a e. tt;
+    numbered-same = λ j k o n s h. tt;
+    numbered-place = λ k a e h. tt;
+    numbered-fail = λ k c e h. tt;
+    numbered-settle = λ k h. tt;
+    place-room = S .place-few;
     held-empty = held-empty;
     held-fresh = held-fresh;
     slot-fresh = fresh-seen;
@@ -158,18 +172,17 @@ module _ (D : Delivery) (S : RuleLaws D) where
     slot-end = end-seen;
   }
 
--- Control bytes: those written from the control part of a running store show it and have the form, those that a stopping fail of a card
--- writes show a stopped store and have the form, and the failed cards stand where noise looks for them.
+-- These control bytes, in front and behind the tables, are those that are written of k.
+pub record Wrote (D : Delivery) (head tail : ℕ → ℕ) (k : PartOf D) : Type 0 where
+  pub front : (n : ℕ) → n < controlSize → head n ≡ D .bytes k n
+  pub behind : (n : ℕ) → n < D .layout .imageTail → tail n ≡ D .tail k n
+
+-- Control bytes: those written from the control part of a running store, and of a stopped one, show it and have the form.
 pub record ControlLaws (D : Delivery) (S : RuleLaws D) : Type 0 where
-  pub reads : (k : PartOf D) → Form (rulesOf D) k → ControlInv (rulesOf D) (lawfulBy D S) k → (g : ℕ → ℕ)
-      → ((n : ℕ) → n < controlSize → g n ≡ D .bytes k n) → D .part g ≡ k
-  pub formed : (k : PartOf D) → Form (rulesOf D) k → ControlInv (rulesOf D) (lawfulBy D S) k → (g : ℕ → ℕ)
-      → ((n : ℕ) → n < controlSize → g n ≡ D .bytes k n) → D .form g ≡ true
-  pub stop-read : (k : PartOf D) → Form (rulesOf D) k → ControlInv (rulesOf D) (lawfulBy D S) k → (c : ℕ) → ltb c cardCount ≡ true → (g : ℕ → ℕ)
-      → ((n : ℕ) → n < controlSize → g n ≡ D .bytes (halted (marked (rulesOf D) k c)) n) → D .part g .stopped ≡ true
-  pub stop-formed : (k : PartOf D) → Form (rulesOf D) k → ControlInv (rulesOf D) (lawfulBy D S) k → (c : ℕ) → ltb c cardCount ≡ true → (g : ℕ → ℕ)
-      → ((n : ℕ) → n < controlSize → g n ≡ D .bytes (halted (marked (rulesOf D) k c)) n) → D .form g ≡ true
-  pub same-failed : (g : ℕ → ℕ) → D .part g .failed ≡ current .part g .failed
+  pub reads : (k : PartOf D) → Form (rulesOf D) k → ControlInv (rulesOf D) (lawfulBy D S) k → (g t : ℕ → ℕ) → Wrote D g t k → D .part g t ≡ k
+  pub formed : (k : PartOf D) → Form (rulesOf D) k → ControlInv (rulesOf D) (lawfulBy D S) k → (g t : ℕ → ℕ) → Wrote D g t k → D .form g t ≡ true
+  pub rest-read : (k : PartOf D) → Rests (rulesOf D) (lawfulBy D S) k → (g t : ℕ → ℕ) → Wrote D g t k → D .part g t ≡ k
+  pub rest-formed : (k : PartOf D) → Rests (rulesOf D) (lawfulBy D S) k → (g t : ℕ → ℕ) → Wrote D g t k → D .form g t ≡ true
 
 pub record DeliveryLaws (D : Delivery) : Type 0 where
   pub rules : RuleLaws D
@@ -178,10 +191,15 @@ pub record DeliveryLaws (D : Delivery) : Type 0 where
 -- ---- since A.1, whatever values store takes that a slot has room for
 pub railedRules : (values : ℕ → Bool) → ((n : ℕ) → values n ≡ true → n < valueBound) → RuleLaws (railed values)
 railedRules values fits = record {
-  site-count = site-count;
-  site-member = site-member;
-  site-distinct = site-distinct;
+  site-count = λ p b u h. site-count p b;
+  site-member = λ p b c u h e. site-member p b c u e;
+  site-distinct = λ p b u h. site-distinct p b u;
   mask-back = λ m. refl;
+  made-usable = λ m h. h;
+  place-usable = mask-members againByRails;
+  place-members = mask-members againByRails;
+  place-working = λ k m c e h. mask-working againByRails k m e c h;
+  place-few = mask-few againByRails;
   value-fits = fits;
 }
 

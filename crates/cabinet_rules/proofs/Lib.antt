@@ -20,3 +20,4 @@ pub mod Rails
 pub mod Running
 pub mod Protection
 pub mod MoveLists
+pub mod Lengthen

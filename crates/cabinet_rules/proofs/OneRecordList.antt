@@ -7,7 +7,7 @@ use Rattle.method.specs.Parameters.{Parameters}
 use Rattle.method.specs.PlainList.{PlainList, plainNext, plainStart}
 use Rattle.method.specs.Rules.{State, nextState, start}
 use Rattle.cabinet_rules.specs.Cabinet.{cabinet, rulesOf}
-use Rattle.cabinet_rules.specs.Claims.{NoisyCallBy, OneRecordListOnImages, imageCallsBy, noisy, runImageBy}
+use Rattle.cabinet_rules.specs.Claims.{NoisyCallBy, OneRecordListOnImages, imageCallsBy, noisyBy, runImageBy}
 use Rattle.cabinet_rules.specs.Delivery.{Delivery, current}
 use Rattle.cabinet_rules.specs.Images.{Image, next, nextBy}
 use Rattle.cabinet_rules.proofs.Form.{currentLaws}
@@ -21,18 +21,18 @@ module _ (D : Delivery) (W : DeliveryLaws D) where
   pub run-image : (l : List (NoisyCallBy D)) (g : Image) (z : State P) (q : PlainList P) → Sound D W g z q → runImageBy D l g ≡ runPlain P (imageCallsBy D l) z q
   unfolding runImageBy runPlain
   run-image [] g z q s = refl
-  run-image (e ∷ l) g z q s = go (step-sound D W (noisy (e .0) g) z q (noise-sound D W (e .0) g z q s) (e .1)) (run-image l)
+  run-image (e ∷ l) g z q s = go (step-sound D W (noisyBy D (e .0) g) z q (noise-sound D W (e .0) g z q s) (e .1)) (run-image l)
     where
-      go : Steps D W (noisy (e .0) g) z q (e .1) → ((g : Image) (z : State P) (q : PlainList P) → Sound D W g z q → runImageBy D l g ≡ runPlain P (imageCallsBy D l) z q)
+      go : Steps D W (noisyBy D (e .0) g) z q (e .1) → ((g : Image) (z : State P) (q : PlainList P) → Sound D W g z q → runImageBy D l g ≡ runPlain P (imageCallsBy D l) z q)
           → runImageBy D (e ∷ l) g ≡ runPlain P (imageCallsBy D (e ∷ l)) z q
       go h ih = rw (h .shows) (last (isLast P (plainObserve P (e .1) q)) refl)
         where
           last : (o : Bool) → isLast P (plainObserve P (e .1) q) ≡ o
-              → _≡_ {A = List (Observation P)} (plainObserve P (e .1) q ∷ cond o [] (runImageBy D l (nextBy D (e .1) (noisy (e .0) g))))
+              → _≡_ {A = List (Observation P)} (plainObserve P (e .1) q ∷ cond o [] (runImageBy D l (nextBy D (e .1) (noisyBy D (e .0) g))))
               (plainObserve P (e .1) q ∷ cond o [] (runPlain P (imageCallsBy D l) (nextState P (e .1) z) (plainNext P (settleAccepted P z) (e .1) q)))
           last true p = refl
           last false p = ap (λ (t : List (Observation P)). plainObserve P (e .1) q ∷ t)
-              (ih (nextBy D (e .1) (noisy (e .0) g)) (nextState P (e .1) z) (plainNext P (settleAccepted P z) (e .1) q) (h .goes-on p))
+              (ih (nextBy D (e .1) (noisyBy D (e .0) g)) (nextState P (e .1) z) (plainNext P (settleAccepted P z) (e .1) q) (h .goes-on p))
 
 -- DEMAND 3
 pub one-record-list-on-images : OneRecordListOnImages

@@ -6,6 +6,7 @@ use lib.ListN.{getD, length}
 use mathlib.Core.Bool.{false, not, true}
 use mathlib.Core.Path.{_≡_, refl, sym}
 use Rattle.lists.proofs.Bools.{not-not-is}
+use native.Mathlib.Omega.{arith}
 use Rattle.image.specs.Layout.{imageSize}
 use Rattle.slot.specs.Blocks.{emptyBlock}
 use Rattle.method.specs.Rules.{look, row, visible}
@@ -41,7 +42,7 @@ running-image g e =
 pub running-shows : (g : Image) → Running g → Shows current currentLaws g (controlIn g) (look cabinet (stateIn g))
 running-shows g r = record {
   long = r .long;
-  wrote = λ n h. sym (control-back (λ n. getD g n 0) (r .formed) n h);
+  wrote = record { front = λ n h. sym (control-back (λ n. getD g n 0) (r .formed) n h); behind = λ n h. absurd (omega arith) };
   form = running-form g (r .formed) (r .running);
   full = running-inv g (r .formed);
   idle = idle;

@@ -8,7 +8,7 @@ use mathlib.Core.List.{List, [], _∷_}
 use mathlib.Core.Option.{some}
 use mathlib.Core.Path.{_∙_, _≡_, ap, refl, sym}
 use native.Mathlib.Omega.{arith}
-use Rattle.image.specs.Layout.{controlSize, imageSize}
+use Rattle.image.specs.Layout.{imageSizeOf}
 use Rattle.mask.specs.Masks.{Byte}
 use Rattle.slot.specs.Blocks.{emptyBlock}
 use Rattle.method.specs.Changes.{startedBy}
@@ -22,13 +22,13 @@ use Rattle.method.proofs.Laws.{Laws}
 use Rattle.method.proofs.Refusals.{row-clear}
 use Rattle.method.proofs.Run.{Ready, ready-start, ready-step}
 use Rattle.cabinet_rules.specs.Cabinet.{rulesOf, startRow}
-use Rattle.cabinet_rules.specs.Claims.{NoStopBy, NoisyCallBy, imageAfterBy, imageCallsBy, noisy}
+use Rattle.cabinet_rules.specs.Claims.{NoStopBy, NoisyCallBy, imageAfterBy, imageCallsBy, noisyBy}
 use Rattle.cabinet_rules.specs.Delivery.{Delivery}
-use Rattle.cabinet_rules.specs.Images.{Image, after, answerBy, blockIn, controlBy}
+use Rattle.cabinet_rules.specs.Images.{Image, afterPlan, answerBy, blockBy, controlBy}
 use Rattle.cabinet_rules.specs.Images.{nextBy, planBy, refusalBy, stateBy}
-use Rattle.cabinet_rules.proofs.After.{after-block, after-control, length-after}
 use Rattle.cabinet_rules.proofs.Lawful.{DeliveryLaws, lawfulBy}
-use Rattle.cabinet_rules.proofs.Shows.{Shows, answer-shows, next-shows, noise-shows, refusal-shows, shows-of, visible-card, visible-number}
+use Rattle.cabinet_rules.proofs.Shows.{Shows, WroteIn, answer-shows, next-shows, noise-shows, plan-block, plan-long, plan-wrote, refusal-shows, shows-of}
+use Rattle.cabinet_rules.proofs.Shows.{visible-card, visible-number}
 
 module _ (D : Delivery) (W : DeliveryLaws D) where
   abbrev P : Parameters
@@ -38,8 +38,8 @@ module _ (D : Delivery) (W : DeliveryLaws D) where
   L = lawfulBy D (W .rules)
 
   pub record Sound (g : Image) (z : State P) (q : PlainList P) : Type 0 where
-    pub long : length g ≡ imageSize
-    pub wrote : (n : ℕ) → n < controlSize → getD g n 0 ≡ D .bytes (q .control) n
+    pub long : length g ≡ imageSizeOf (D .layout)
+    pub wrote : WroteIn D g (q .control)
     pub ready : Ready P L (stateBy D g) z q
 
   -- such an image shows the list's control part and what the store beside it sees; and one that shows this is such an image
@@ -54,15 +54,14 @@ module _ (D : Delivery) (W : DeliveryLaws D) where
   }
 
   -- an image that has k's control bytes and, where blocks are visible, the blocks of a store that is ready
-  module _ (s z : State P) (q : PlainList P) (r : Ready P L s z q) (g : Image) (long : length g ≡ imageSize)
-      (low : (n : ℕ) → n < controlSize → getD g n 0 ≡ D .bytes (q .control) n)
-      (same : (c b : ℕ) → visible P (q .control) c b ≡ true → blockIn g c b ≡ s .block c b) where
+  module _ (s z : State P) (q : PlainList P) (r : Ready P L s z q) (g : Image) (long : length g ≡ imageSizeOf (D .layout)) (low : WroteIn D g (q .control))
+      (same : (c b : ℕ) → visible P (q .control) c b ≡ true → blockBy (D .layout) g c b ≡ s .block c b) where
     pub sound-of : Sound g z q
     sound-of = shows-sound s z q r g (shows-of D W (q .control) (r .inv .form) (r .full) (r .sees) (r .inv .idle) s (r .store-beside) g long low same)
 
   -- ---- noise on failed cards is not seen
-  pub noise-sound : (noise : ℕ → ℕ) (g : Image) (z : State P) (q : PlainList P) → Sound g z q → Sound (noisy noise g) z q
-  noise-sound noise g z q s = shows-sound (stateBy D g) z q (s .ready) (noisy noise g) (noise-shows D W noise g (q .control) (s .ready .sees) (sound-shows g z q s))
+  pub noise-sound : (noise : ℕ → ℕ) (g : Image) (z : State P) (q : PlainList P) → Sound g z q → Sound (noisyBy D noise g) z q
+  noise-sound noise g z q s = shows-sound (stateBy D g) z q (s .ready) (noisyBy D noise g) (noise-shows D W noise g (q .control) (s .ready .sees) (sound-shows g z q s))
 
   -- ---- a call
   -- where the image is sound, only the rows from 3 on can refuse
@@ -105,13 +104,12 @@ module _ (D : Delivery) (W : DeliveryLaws D) where
   pub start-sound : (m : Byte) (before : Image) → answerBy D (start m) before ≡ ok → Sound (nextBy D (start m) before) (zeroed P m) (plainStart P m)
   unfolding nextBy act
   start-sound m before e = rw (start-refusal m before e)
-      (sound-of (zeroed P m) (zeroed P m) (plainStart P m) (ready-start P L m row-9) (after (D .bytes (startedBy P m)) (λ c b. some emptyBlock) before)
-      (length-after (D .bytes (startedBy P m)) (λ c b. some emptyBlock) before)
-      (after-control (D .bytes (startedBy P m)) (λ c b. some emptyBlock) before)
-      (λ c b v. after-block (D .bytes (startedBy P m)) (λ c b. some emptyBlock) before c b (visible-card D W (startedBy P m) c b v) (visible-number D W (startedBy P m) c b v)))
+      (sound-of (zeroed P m) (zeroed P m) (plainStart P m) (ready-start P L m row-9) (afterPlan D (planBy D (start m) before) before)
+      (plan-long D (planBy D (start m) before) before) (plan-wrote D (planBy D (start m) before) before)
+      (λ c b v. plan-block D (planBy D (start m) before) before c b (visible-card D W (startedBy P m) c b v) (visible-number D W (startedBy P m) c b v)))
     where
       row-9 : startRow m ≡ 0
-      row-9 = unfold refusalBy refusal in (row-clear (not (eqb (length before) imageSize)) 0 (start-refusal m before e) .1)
+      row-9 = unfold refusalBy refusal in (row-clear (not (eqb (length before) (imageSizeOf (D .layout)))) 0 (start-refusal m before e) .1)
 
   -- ---- a list of calls that does not stop the store leaves the image sound
   pub sound-after : (l : List (NoisyCallBy D)) (g : Image) (z : State P) (q : PlainList P) → Sound g z q → NoStopBy D l g
@@ -119,6 +117,6 @@ module _ (D : Delivery) (W : DeliveryLaws D) where
   unfolding imageAfterBy NoStopBy rulesAfter plainAfter
   sound-after [] g z q s h = s
   sound-after (e ∷ l) g z q s h =
-      let st = step-sound (noisy (e .0) g) z q (noise-sound (e .0) g z q s) (e .1) in
-      sound-after l (nextBy D (e .1) (noisy (e .0) g)) (nextState P (e .1) z) (plainNext P (settleAccepted P z) (e .1) q)
+      let st = step-sound (noisyBy D (e .0) g) z q (noise-sound (e .0) g z q s) (e .1) in
+      sound-after l (nextBy D (e .1) (noisyBy D (e .0) g)) (nextState P (e .1) z) (plainNext P (settleAccepted P z) (e .1) q)
       (st .goes-on (sym (ap (isLast P) (st .shows)) ∙ h .0)) (h .1)

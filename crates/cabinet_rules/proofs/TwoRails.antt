@@ -7,14 +7,15 @@ use Rattle.mask.specs.Placements.{Placement}
 use Rattle.method.specs.ControlPart.{part}
 use Rattle.method.specs.Growth.{grownControl}
 use Rattle.method.proofs.Capacity.{ControlInv}
-use Rattle.method.proofs.Growth.{control-inv-grown, form-grown}
+use Rattle.method.proofs.Growth.{control-inv-grown, form-grown, rests-grown}
+use Rattle.method.proofs.Stopped.{Rests}
 use Rattle.method.proofs.Invariant.{Form}
 use Rattle.control.specs.ControlBytes.{Part, controlByte}
 use Rattle.cabinet_rules.specs.Cabinet.{cabinet, rulesOf}
 use Rattle.cabinet_rules.specs.Delivery.{anyValue, current, twoRails}
 use Rattle.cabinet_rules.specs.GoesOn.{growthOf}
 use Rattle.cabinet_rules.proofs.Form.{controlLaws}
-use Rattle.cabinet_rules.proofs.GoesOn.{Follows, keeps}
+use Rattle.cabinet_rules.proofs.GoesOn.{Carries, Follows, carries-same, keeps}
 use Rattle.cabinet_rules.proofs.Lawful.{ControlLaws, DeliveryLaws, RuleLaws, lawful, lawfulBy, railedRules}
 
 pub railRules : RuleLaws twoRails
@@ -26,28 +27,34 @@ same-list [] = refl
 same-list (p ∷ l) = ap (λ (t : List Placement). p ∷ t) (same-list l)
 
 same-part : (k : Part) → grownControl (rulesOf twoRails) (growthOf twoRails current (λ p. p)) k ≡ k
-same-part k = ap (λ (l : List Placement). part (k .stopped) l (k .newest) (k .working) (k .failed) (k .home) (k .setting)) (same-list (k .older))
+same-part k = ap (λ (l : List Placement). part (k .stopped) l (k .newest) (k .working) (k .failed) (k .home) (k .setting) (k .serial)) (same-list (k .older))
 
 pub current-follows : Follows twoRails current (λ p. p)
-current-follows = record { same-mask = λ p. refl; same-sites = λ p b. refl; same-bytes = λ k n h. ap (λ (x : Part). controlByte x n) (sym (same-part k)) }
+current-follows = record { same-mask = λ p. refl; same-sites = λ p b. refl; still-usable = λ p h. h }
+
+pub current-carries : Carries twoRails current (λ p. p) (λ g. g)
+current-carries = carries-same twoRails current (λ p. p) refl (λ k n h. ap (λ (x : Part). controlByte x n) (sym (same-part k))) (λ k n h. refl)
 
 module _ (k : Part) where
   form-now : Form (rulesOf twoRails) k → Form cabinet k
   form-now f = subst (Form cabinet) (same-part k)
       (form-grown (rulesOf twoRails) (lawfulBy twoRails railRules) (growthOf twoRails current (λ p. p)) (keeps twoRails current (λ p. p) current-follows) lawful k f)
 
-  inv-now : ControlInv (rulesOf twoRails) (lawfulBy twoRails railRules) k → ControlInv cabinet lawful k
-  inv-now u = subst (ControlInv cabinet lawful) (same-part k)
-      (control-inv-grown (rulesOf twoRails) (lawfulBy twoRails railRules) (growthOf twoRails current (λ p. p)) (keeps twoRails current (λ p. p) current-follows) lawful k u)
+  inv-now : Form (rulesOf twoRails) k → ControlInv (rulesOf twoRails) (lawfulBy twoRails railRules) k → ControlInv cabinet lawful k
+  inv-now f u = subst (ControlInv cabinet lawful) (same-part k)
+      (control-inv-grown (rulesOf twoRails) (lawfulBy twoRails railRules) (growthOf twoRails current (λ p. p)) (keeps twoRails current (λ p. p) current-follows) lawful k f u)
+
+  rests-now : Rests (rulesOf twoRails) (lawfulBy twoRails railRules) k → Rests cabinet lawful k
+  rests-now r = subst (Rests cabinet lawful) (same-part k)
+      (rests-grown (rulesOf twoRails) (lawfulBy twoRails railRules) (growthOf twoRails current (λ p. p)) (keeps twoRails current (λ p. p) current-follows) lawful k r)
 
 -- ---- control bytes are those of the delivery in force
 pub railControl : ControlLaws twoRails railRules
 railControl = record {
-  reads = λ k f u. controlLaws .reads k (form-now k f) (inv-now k u);
-  formed = λ k f u. controlLaws .formed k (form-now k f) (inv-now k u);
-  stop-read = λ k f u. controlLaws .stop-read k (form-now k f) (inv-now k u);
-  stop-formed = λ k f u. controlLaws .stop-formed k (form-now k f) (inv-now k u);
-  same-failed = λ g. refl;
+  reads = λ k f u g t w. controlLaws .reads k (form-now k f) (inv-now k f u) g t (record { front = w .front; behind = w .behind });
+  formed = λ k f u g t w. controlLaws .formed k (form-now k f) (inv-now k f u) g t (record { front = w .front; behind = w .behind });
+  rest-read = λ k r g t w. controlLaws .rest-read k (rests-now k r) g t (record { front = w .front; behind = w .behind });
+  rest-formed = λ k r g t w. controlLaws .rest-formed k (rests-now k r) g t (record { front = w .front; behind = w .behind });
 }
 
 abbrev pub railLaws : DeliveryLaws twoRails

@@ -13,8 +13,9 @@ use Rattle.method.specs.ControlPart.{active}
 use Rattle.method.specs.Parameters.{Parameters}
 use Rattle.method.specs.Rules.{row}
 use Rattle.method.specs.Slots.{Slot}
-use Rattle.control.specs.ControlBytes.{Setting}
+use Rattle.control.specs.ControlBytes.{Serial, Setting}
 use Rattle.cabinet_rules.specs.Delivery.{Delivery, PartOf, current}
+unfoldable pub use Rattle.cabinet_rules.specs.Places.{mostPlaced, placeRows, startRow}
 
 -- A slot as the rules see it: an absence shows no value, and the unnamed bits are ignored.
 abbrev pub slotSeen : BlockBytes → ℕ → Slot
@@ -28,21 +29,7 @@ slotSeen x i = record {
 abbrev pub tranOk : ℕ → Bool
 tranOk t = ltb 0 t && ltb t tranBound
 
--- start, place: under two members is 9.
-unfoldable pub startRow : Byte → ℕ
-startRow m = row 9 (ltb (size m) leastMembers) 0
-
--- The most active placements that a place call leaves.
-abbrev pub mostPlaced : ℕ
-mostPlaced = 3
-
 module _ (D : Delivery) where
-  -- place: also a member not working, or the newest mask again, is 9; with three or more active it is 10.
-  unfoldable pub placeRows : PartOf D → Byte → ℕ
-  placeRows k m =
-      row 9 (ltb (size m) leastMembers || (not (isWithin m (k .working)) || D .isAgain (k .newest) m)) (
-      row 10 (leb mostPlaced (length (active k))) 0)
-
   -- The rules by a delivery.
   abbrev pub rulesOf : Parameters
   rulesOf = record {
@@ -50,8 +37,15 @@ module _ (D : Delivery) where
     Placement = D .Placement;
     Setting = Setting;
     Block = BlockBytes;
+    Serial = Serial;
+    firstSerial = tt;
+    nextSerial = λ ν. tt;
+    numbered = λ k. Unit {0};
+    Stamp = D .Stamp;
+    noStamp = D .noStamp;
+    stampOf = D .stampOf;
     StartArgument = Byte;
-    PlaceArgument = Byte;
+    PlaceArgument = D .PlaceArgument;
     cards = cardCount;
     transactions = tranBound;
     slots = slotCount;
@@ -70,13 +64,13 @@ module _ (D : Delivery) where
     mask = D .mask;
     sites = λ σ p b. D .sites p b;
     without = λ p c. D .fromMask (withoutCard (D .mask p) c);
-    usable = λ σ p. copyCount ≤ size (D .mask p);
+    usable = λ σ p. D .usable p;
     starts = D .fromMask;
     startSetting = λ m. tt;
     startRefusal = startRow;
-    places = λ newest m. D .fromMask m;
-    placeInRange = λ m. true;
-    placeRefusal = placeRows;
+    places = D .places;
+    placeInRange = D .placeInRange;
+    placeRefusal = D .placeRefusal;
     placeLimit = λ σ. mostPlaced;
     empty = emptyBlock;
     fresh = freshBlock;

@@ -14,18 +14,18 @@ use Rattle.method.specs.Rules.{Call, ok, start}
 use Rattle.control_form.specs.ControlForm.{formRefusal}
 use Rattle.cabinet_rules.specs.Cabinet.{cabinet, rulesOf}
 use Rattle.cabinet_rules.specs.Delivery.{Delivery, current}
-use Rattle.cabinet_rules.specs.Images.{Image, answer, answerBy, cardAt, controlIn, next, nextBy}
-
--- ---- noise
--- Before each call the tables of failed cards hold any bytes: those that noise gives.
-unfoldable pub noisyByte : (ℕ → ℕ) → Image → ℕ → ℕ
-noisyByte noise g n = cond (leb controlSize n && hasCard (controlIn g .failed) (cardAt n)) (noise n) (getD g n 0)
-
-unfoldable pub noisy : (ℕ → ℕ) → Image → Image
-noisy noise g = tabulate (length g) (noisyByte noise g)
+use Rattle.cabinet_rules.specs.Images.{Image, answer, answerBy, cardBy, controlBy, next, nextBy}
 
 -- ---- a list of calls by a delivery, each with the noise before it
 module _ (D : Delivery) where
+  -- Before each call the tables of failed cards hold any bytes: those that noise gives.
+  unfoldable pub noisyByte : (ℕ → ℕ) → Image → ℕ → ℕ
+  noisyByte noise g n =
+      cond (leb controlSize n && hasCard (controlBy D g .failed) (cardBy (D .layout) n)) (noise n) (getD g n 0)
+
+  unfoldable pub noisyBy : (ℕ → ℕ) → Image → Image
+  noisyBy noise g = tabulate (length g) (noisyByte noise g)
+
   -- The noise, as the bytes that it gives, and the call.
   abbrev pub NoisyCallBy : Type 0
   NoisyCallBy = (ℕ → ℕ) × Call (rulesOf D)
@@ -34,9 +34,9 @@ module _ (D : Delivery) where
   unfoldable pub runImageBy : List NoisyCallBy → Image → List (Observation (rulesOf D))
   runImageBy [] g = []
   runImageBy (e ∷ l) g =
-      observe (rulesOf D) (e .1) (answerBy D (e .1) (noisy (e .0) g))
-      ∷ cond (isLast (rulesOf D) (observe (rulesOf D) (e .1) (answerBy D (e .1) (noisy (e .0) g)))) []
-      (runImageBy l (nextBy D (e .1) (noisy (e .0) g)))
+      observe (rulesOf D) (e .1) (answerBy D (e .1) (noisyBy (e .0) g))
+      ∷ cond (isLast (rulesOf D) (observe (rulesOf D) (e .1) (answerBy D (e .1) (noisyBy (e .0) g)))) []
+      (runImageBy l (nextBy D (e .1) (noisyBy (e .0) g)))
 
   -- The calls alone.
   abbrev pub imageCallsBy : List NoisyCallBy → List (Call (rulesOf D))
@@ -46,16 +46,19 @@ module _ (D : Delivery) where
   -- The image after all of them, stops included.
   unfoldable pub imageAfterBy : List NoisyCallBy → Image → Image
   imageAfterBy [] g = g
-  imageAfterBy (e ∷ l) g = imageAfterBy l (nextBy D (e .1) (noisy (e .0) g))
+  imageAfterBy (e ∷ l) g = imageAfterBy l (nextBy D (e .1) (noisyBy (e .0) g))
 
   -- None of them stopped the store.
   unfoldable pub NoStopBy : List NoisyCallBy → Image → Type 0
   NoStopBy [] g = Unit {0}
   NoStopBy (e ∷ l) g =
-      (isLast (rulesOf D) (observe (rulesOf D) (e .1) (answerBy D (e .1) (noisy (e .0) g))) ≡ false)
-      × NoStopBy l (nextBy D (e .1) (noisy (e .0) g))
+      (isLast (rulesOf D) (observe (rulesOf D) (e .1) (answerBy D (e .1) (noisyBy (e .0) g))) ≡ false)
+      × NoStopBy l (nextBy D (e .1) (noisyBy (e .0) g))
 
 -- ---- by the delivery in force
+abbrev pub noisy : (ℕ → ℕ) → Image → Image
+noisy = noisyBy current
+
 abbrev pub NoisyCall : Type 0
 NoisyCall = NoisyCallBy current
 

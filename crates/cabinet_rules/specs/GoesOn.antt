@@ -63,13 +63,19 @@ module _ (D : Delivery) where
     pub is : g ≡ imageAfterBy D calls first
 
 -- ---- a later delivery goes on
--- E is the earlier delivery, D the later one; older says what a placement of E is by D.
 module _ (E D : Delivery) (older : E .Placement → D .Placement) where
   -- What D changes of the rules by E: they become the rules by D.
   abbrev pub growthOf : Growth (rulesOf E)
   growthOf = record {
     Placement = Parameters.Placement (rulesOf D);
     Setting = Parameters.Setting (rulesOf D);
+    Stamp = Parameters.Stamp (rulesOf D);
+    Serial = Parameters.Serial (rulesOf D);
+    firstSerial = Parameters.firstSerial (rulesOf D);
+    nextSerial = Parameters.nextSerial (rulesOf D);
+    numbered = Parameters.numbered (rulesOf D);
+    noStamp = Parameters.noStamp (rulesOf D);
+    stampOf = Parameters.stampOf (rulesOf D);
     StartArgument = Parameters.StartArgument (rulesOf D);
     PlaceArgument = Parameters.PlaceArgument (rulesOf D);
     copies = Parameters.copies (rulesOf D);
@@ -89,14 +95,18 @@ module _ (E D : Delivery) (older : E .Placement → D .Placement) where
     placeLimit = Parameters.placeLimit (rulesOf D);
     older = older;
     olderSetting = λ σ. σ;
+    olderSerial = λ ν. ν;
   }
 
-  -- E's store as D goes on with it: no byte changes, and no record of the plain record list.
+-- E is the earlier delivery, D the later one; older says what a placement of E is by D, and carry what becomes of E's
+-- image: it stays, or a converter lengthens it.
+module _ (E D : Delivery) (older : E .Placement → D .Placement) (carry : Image → Image) where
+  -- E's store as D goes on with it: no record of the plain record list changes.
   abbrev pub takenOver : StoreBy E → StoreBy D
   takenOver s = record {
-    image = s .image;
-    rules = grownState (rulesOf E) growthOf (s .rules);
-    plain = grownPlain (rulesOf E) growthOf (s .plain);
+    image = carry (s .image);
+    rules = grownState (rulesOf E) (growthOf E D older) (s .rules);
+    plain = grownPlain (rulesOf E) (growthOf E D older) (s .plain);
   }
 
   -- A store that D has from E.
@@ -112,14 +122,14 @@ LeftByBase = LeftBy base (λ s. ⊥)
 
 -- Those that calls by A.1 to A.4 left. The base's placements stay marked 0.
 abbrev pub LeftByRails : StoreBy twoRails → Type 0
-LeftByRails = LeftBy twoRails (TakenOver base twoRails olderFromMask LeftByBase)
+LeftByRails = LeftBy twoRails (TakenOver base twoRails olderFromMask (λ g. g) LeftByBase)
 
 -- Those that the delivery in force has from the earlier ones.
 abbrev pub Store : Type 0
 Store = StoreBy current
 
 abbrev pub Earlier : Store → Type 0
-Earlier = TakenOver twoRails current (λ p. p) LeftByRails
+Earlier = TakenOver twoRails current (λ p. p) (λ g. g) LeftByRails
 
 -- The images that the earlier ones left, of running and of stopped stores.
 abbrev pub EarlierImage : Image → Type 0

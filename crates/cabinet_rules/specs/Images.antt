@@ -2,53 +2,79 @@
 use Prim.Native.Nat.{_%_, _+_, _-_, _/_, suc, zero, ℕ}
 use lib.Dec.{ltb}
 use lib.ListN.{getD}
-use mathlib.Core.Bool.{Bool, _&&_, cond, false, true}
+use mathlib.Core.Bool.{Bool, cond, false, true}
 use mathlib.Core.List.{List}
-use mathlib.Core.Option.{Option}
+use mathlib.Core.Option.{Option, none, some}
 use Rattle.lists.specs.Tabulate.{tabulate}
-use Rattle.image.specs.Layout.{blockAddress, blockCount, blockSize, cardCount, controlSize, imageSize, tableSize}
+use Rattle.image.specs.Layout.{Layout, blockAddressOf, blockSize, blocksSize, controlSize, endStartOf, imageSizeOf, layout}
+use Rattle.image.specs.Layout.{tableSizeOf, tailStartOf}
 use Rattle.slot.specs.Blocks.{BlockBytes, blockOfBytes, byteIn}
 use Rattle.method.specs.PlainList.{orRefused}
 use Rattle.method.specs.Rules.{Answer, Call, CallOf, Plan, State, act, begin, commit, delete, fail, fit, get, load}
 use Rattle.method.specs.Rules.{look, move, place, refusal, rollback, settle, start, state, store, updated, withdraw}
 use Rattle.control.specs.ControlBytes.{Part}
-use Rattle.control_form.specs.ControlForm.{formRows}
+use Rattle.control_form.specs.ControlForm.{formRowsOf}
 use Rattle.cabinet_rules.specs.Cabinet.{cabinet, rulesOf}
 use Rattle.cabinet_rules.specs.Delivery.{Delivery, PartOf, current}
 
 abbrev pub Image : Type 0
 Image = List ℕ
 
--- ---- reading: the blocks that an image shows
-abbrev pub blockIn : Image → ℕ → ℕ → BlockBytes
-blockIn g c b = blockOfBytes (λ j. getD g (blockAddress c b + j) 0)
-
--- ---- writing: g with other control bytes, and for each card and block what w writes there
+-- ---- by a layout
+-- For each card and block what is written there; for each card what is written behind its blocks.
 abbrev pub Writes : Type 0
 Writes = ℕ → ℕ → Option BlockBytes
 
--- The card, the block and the place in the block of the byte n of an image, and whether it is a block's byte.
-abbrev pub cardAt : ℕ → ℕ
-cardAt n = (n - controlSize) / tableSize
+abbrev pub Ends : Type 0
+Ends = ℕ → Option (ℕ → ℕ)
 
-abbrev pub blockNumber : ℕ → ℕ
-blockNumber n = (n - controlSize) % tableSize / blockSize
+module _ (y : Layout) where
+  -- What an image shows: block b of card c, the bytes behind the card's blocks, the control bytes behind the tables.
+  abbrev pub blockBy : Image → ℕ → ℕ → BlockBytes
+  blockBy g c b = blockOfBytes (λ j. getD g (blockAddressOf y c b + j) 0)
 
-abbrev pub placeInBlock : ℕ → ℕ
-placeInBlock n = (n - controlSize) % tableSize % blockSize
+  abbrev pub endBy : Image → ℕ → ℕ → ℕ
+  endBy g c j = getD g (endStartOf y c + j) 0
 
-abbrev pub isBlockByte : ℕ → Bool
-isBlockByte n = ltb (cardAt n) cardCount && ltb (blockNumber n) blockCount
+  abbrev pub tailBy : Image → ℕ → ℕ
+  tailBy g n = getD g (tailStartOf y + n) 0
 
-unfoldable pub afterByte : (ℕ → ℕ) → Writes → Image → ℕ → ℕ
-afterByte control w g n =
-    cond (ltb n controlSize) (control n) (
-    cond (isBlockByte n)
-    (byteIn (updated (w (cardAt n) (blockNumber n)) (blockIn g (cardAt n) (blockNumber n))) (placeInBlock n))
-    (getD g n 0))
+  -- The card of the byte n of an image, and its place in the card's table.
+  abbrev pub cardBy : ℕ → ℕ
+  cardBy n = (n - controlSize) / tableSizeOf y
 
-unfoldable pub after : (ℕ → ℕ) → Writes → Image → Image
-after control w g = tabulate imageSize (afterByte control w g)
+  abbrev pub placeBy : ℕ → ℕ
+  placeBy n = (n - controlSize) % tableSizeOf y
+
+  -- The byte at place j of card c's table: a block's, or behind the blocks.
+  unfoldable pub tableByte : Writes → Ends → Image → ℕ → ℕ → ℕ
+  tableByte w e g c j =
+      cond (ltb j blocksSize)
+      (byteIn (updated (w c (j / blockSize)) (blockBy g c (j / blockSize))) (j % blockSize))
+      (updated (e c) (endBy g c) (j - blocksSize))
+
+  -- g with other control bytes, at the front and behind the tables, and in the tables what is written there.
+  unfoldable pub afterByte : (ℕ → ℕ) → (ℕ → ℕ) → Writes → Ends → Image → ℕ → ℕ
+  afterByte head tail w e g n =
+      cond (ltb n controlSize) (head n) (
+      cond (ltb n (tailStartOf y)) (tableByte w e g (cardBy n) (placeBy n)) (
+      tail (n - tailStartOf y)))
+
+  unfoldable pub afterBy : (ℕ → ℕ) → (ℕ → ℕ) → Writes → Ends → Image → Image
+  afterBy head tail w e g = tabulate (imageSizeOf y) (afterByte head tail w e g)
+
+-- By the layout in force.
+abbrev pub blockIn : Image → ℕ → ℕ → BlockBytes
+blockIn = blockBy layout
+
+abbrev pub tailIn : Image → ℕ → ℕ
+tailIn = tailBy layout
+
+abbrev pub endIn : Image → ℕ → ℕ → ℕ
+endIn = endBy layout
+
+abbrev pub after : (ℕ → ℕ) → (ℕ → ℕ) → Writes → Ends → Image → Image
+after = afterBy layout
 
 -- A refused call leaves the image as found.
 abbrev pub unlessRefusedImage : ℕ → Image → Image → Image
@@ -76,17 +102,24 @@ isStart (load c) = false
 
 -- ---- by a delivery
 module _ (D : Delivery) where
-  -- The control part that an image shows, and the whole state.
+  -- The control part that an image shows, its control form, and the whole state.
   abbrev pub controlBy : Image → PartOf D
-  controlBy g = D .part (λ n. getD g n 0)
+  controlBy g = D .part (λ n. getD g n 0) (tailBy (D .layout) g)
+
+  abbrev pub formBy : Image → Bool
+  formBy g = D .form (λ n. getD g n 0) (tailBy (D .layout) g)
 
   unfoldable pub stateBy : Image → State (rulesOf D)
-  stateBy g = record { control = controlBy g; block = blockIn g }
+  stateBy g = record {
+    control = controlBy g;
+    block = blockBy (D .layout) g;
+    stamp = λ c. D .stampIn (endBy (D .layout) g c);
+  }
 
   -- The whole refusal table: rows 1 and 2, then the rows from 3 on.
   unfoldable pub refusalBy : Call (rulesOf D) → Image → ℕ
   refusalBy c g =
-      formRows (isStart c) (D .form (λ n. getD g n 0)) g
+      formRowsOf (imageSizeOf (D .layout)) (isStart c) (formBy g) g
       (refusal (rulesOf D) c (controlBy g) (look (rulesOf D) (stateBy g)))
 
   -- What an accepted call answers and writes.
@@ -97,9 +130,19 @@ module _ (D : Delivery) where
   unfoldable pub answerBy : Call (rulesOf D) → Image → Answer (rulesOf D)
   answerBy c g = orRefused (rulesOf D) (refusalBy c g) (planBy c g .answer)
 
+  -- The bytes of a stamp that is written.
+  abbrev pub endOf : Option (D .Stamp) → Option (ℕ → ℕ)
+  endOf none = none
+  endOf (some m) = some (D .stampBytes m)
+
+  -- The image after a plan.
+  abbrev pub afterPlan : Plan (rulesOf D) → Image → Image
+  afterPlan p g =
+      afterBy (D .layout) (D .bytes (p .after)) (D .tail (p .after)) (p .write) (λ c. endOf (p .stamps c)) g
+
   -- The image after the call.
   unfoldable pub nextBy : Call (rulesOf D) → Image → Image
-  nextBy c g = unlessRefusedImage (refusalBy c g) g (after (D .bytes (planBy c g .after)) (planBy c g .write) g)
+  nextBy c g = unlessRefusedImage (refusalBy c g) g (afterPlan (planBy c g) g)
 
 -- ---- by the delivery in force
 -- What an image shows.

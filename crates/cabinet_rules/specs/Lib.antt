@@ -1,3 +1,4 @@
+pub mod Places
 pub mod Delivery
 pub mod Cabinet
 pub mod Images

@@ -10,7 +10,7 @@ use Rattle.mask.specs.Placements.{fromMask, leastMembers}
 use Rattle.slot.specs.Blocks.{emptyBlock}
 use Rattle.method.specs.Changes.{startedBy}
 use Rattle.method.specs.ControlPart.{added, withCards}
-use Rattle.method.specs.Rules.{act, clearCard, fit, ok, place, refusal, start, unwritten, withdraw, writing}
+use Rattle.method.specs.Rules.{act, clearCard, clearStamp, fit, ok, place, refusal, stampAll, stamping, start, unwritten, withdraw, writing}
 use Rattle.control.specs.Meaning.{putControl}
 use Rattle.cabinet_rules.specs.Cabinet.{cabinet, startRow}
 use Rattle.cabinet_rules.specs.Images.{Image, answerBy, controlIn, nextBy, planOn, refusalBy}
@@ -20,15 +20,15 @@ use Rattle.cards.specs.Clearing.{cleared}
 use Rattle.promise.specs.declared.Answer.the-variants.{Ok, Refused}
 
 module _ (g : Image) where
-  pub fit-plan : (c : ℕ) → planOn (fit c) g ≡ writing cabinet ok (withCards (controlIn g) (withCard (controlIn g .working) c) (withoutCard (controlIn g .failed) c)) (clearCard cabinet c)
+  pub fit-plan : (c : ℕ) → planOn (fit c) g ≡ stamping cabinet (writing cabinet ok (withCards (controlIn g) (withCard (controlIn g .working) c) (withoutCard (controlIn g .failed) c)) (clearCard cabinet c)) (clearStamp cabinet c)
   unfolding act
   fit-plan c = refl
 
-  pub withdraw-plan : (c : ℕ) → planOn (withdraw c) g ≡ writing cabinet ok (withCards (controlIn g) (withoutCard (controlIn g .working) c) (controlIn g .failed)) (clearCard cabinet c)
+  pub withdraw-plan : (c : ℕ) → planOn (withdraw c) g ≡ stamping cabinet (writing cabinet ok (withCards (controlIn g) (withoutCard (controlIn g .working) c) (controlIn g .failed)) (clearCard cabinet c)) (clearStamp cabinet c)
   unfolding act
   withdraw-plan c = refl
 
-  pub place-plan : (m : Byte) → planOn (place m) g ≡ unwritten cabinet ok (added (controlIn g) (fromMask m))
+  pub place-plan : (m : Byte) → planOn (place m) g ≡ stamping cabinet (unwritten cabinet ok (added (controlIn g) (fromMask m) tt)) (stampAll cabinet (added (controlIn g) (fromMask m) tt))
   unfolding act
   place-plan m = refl
 
@@ -45,5 +45,5 @@ module _ (g : Image) where
   unfolding answerBy nextBy refusalBy refusal startRow act cleared
   start-done m w h behind e = record {
     answers = rw (eq-eqb (length g) imageSize w, le-ltb (size m) leastMembers h);
-    leaves = e ∙ rw (eq-eqb (length g) imageSize w, le-ltb (size m) leastMembers h) (write-control (λ c b. some emptyBlock) g (startedBy cabinet m));
+    leaves = e ∙ rw (eq-eqb (length g) imageSize w, le-ltb (size m) leastMembers h) (write-control (λ c b. some emptyBlock) g (startedBy cabinet m) _);
   }

@@ -20,7 +20,7 @@ use Rattle.slot.proofs.Blocks.{zeros-empty}
 use Rattle.method.specs.Rules.{clearCard, updated}
 use Rattle.cabinet_rules.specs.Cabinet.{cabinet}
 use Rattle.cabinet_rules.specs.Images.{Image, Writes, blockIn}
-use Rattle.promise.proofs.Laid.{laid, laid-block, laid-blocks, laid-control, laid-none, laid-same, whole-laid}
+use Rattle.promise.proofs.Laid.{laid, laid-block, laid-control, laid-ext, laid-none, laid-same, whole-laid}
 use Rattle.cards.specs.Clearing.{cleared}
 
 -- card c's blocks are empty, the others as w has them
@@ -28,15 +28,17 @@ abbrev pub emptied : ℕ → Writes → Writes
 emptied c w d b = cond (eqb d c) (some emptyBlock) (w d b)
 
 pub laid-table : (w : Writes) (g : Image) (c : ℕ) → c < cardCount → putTable (laid w g) c (zeros tableSize) ≡ laid (emptied c w) g
-laid-table w g c hc = laid-blocks (emptied c w) g (putTable (laid w g) c (zeros tableSize)) long
+laid-table w g c hc = laid-ext (emptied c w) g (putTable (laid w g) c (zeros tableSize)) long
     (λ n h. sym (byte-of-control (putTable (laid w g) c (zeros tableSize)) n h)
     ∙ ap (λ (l : List ℕ). getD l n 0) (control-put-table (laid w g) (whole-laid w g) c hc (zeros tableSize) (length-zeros tableSize))
     ∙ byte-of-control (laid w g) n h ∙ laid-control w g n h)
+    (λ n h. absurd (omega arith))
     (λ d b hd hb. by-eq (blockAt (putTable (laid w g) c (zeros tableSize)) d b ≡ updated (emptied c w d b) (blockIn g d b) .0) d c
     (λ e. rw (e, eqb-self c) (put-table-same (laid w g) (whole-laid w g) c hc (zeros tableSize) (length-zeros tableSize) b hb
     ∙ zeros-segment tableSize (blockStart b) blockSize (omega arith) ∙ zeros-empty))
     (λ n. put-table-other (laid w g) (whole-laid w g) c hc (zeros tableSize) (length-zeros tableSize) d hd n b hb ∙ laid-block w g d b hd hb
     ∙ ap (λ (o : Option BlockBytes). updated o (blockIn g d b) .0) (sym (other d b n))))
+    (λ c j hc hj. absurd (omega arith))
   where
     long : Whole (putTable (laid w g) c (zeros tableSize))
     long = whole-put-table (laid w g) (whole-laid w g) c hc (zeros tableSize) (length-zeros tableSize)

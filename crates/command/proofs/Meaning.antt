@@ -11,13 +11,13 @@ use lib.ListN.{length}
 use borrow.Author.Tests.{le-leb, le-ltb, lt-leb}
 use Rattle.lists.proofs.Cases.{lt-or-ge}
 use Rattle.image.specs.Layout.{blockCount, imageSize}
-use Rattle.control.specs.ControlBytes.{controlByte}
 use Rattle.control_form.specs.ControlForm.{controlForm, formRows}
 use Rattle.method.specs.Changes.{Control}
 use Rattle.method.specs.PlainList.{orRefused}
 use Rattle.method.specs.Rules.{View, move, refusal, refused, row}
 use Rattle.cabinet_rules.specs.Cabinet.{cabinet}
-use Rattle.cabinet_rules.specs.Images.{Image, after, answer, answerBy, next, nextBy, planOn, refusalBy, refusalOn}
+use Rattle.cabinet_rules.specs.Delivery.{current}
+use Rattle.cabinet_rules.specs.Images.{Image, afterPlan, answer, answerBy, next, nextBy, planOn, refusalBy, refusalOn}
 use Rattle.cabinet_rules.specs.Images.{unlessRefusedImage}
 use Rattle.promise.specs.Promise.{Done, asked}
 use Rattle.promise.specs.declared.Answer.{Answer}
@@ -66,7 +66,7 @@ refused-answer c b g h =
 pub refused-next : (c b : ℕ) (g : Image) → blockCount ≤ b → next (move c b) g ≡ g
 unfolding nextBy
 refused-next c b g h =
-    ap (λ (n : ℕ). unlessRefusedImage n g (after (controlByte (planOn (move c b) g .after)) (planOn (move c b) g .write) g))
+    ap (λ (n : ℕ). unlessRefusedImage n g (afterPlan current (planOn (move c b) g) g))
     (move-row c b g h ∙ refused-row g .1)
 
 -- a move of the block that stands for a number is a move of the number

@@ -105,7 +105,7 @@ module _ (k : Control) (w : Counted k) where
         marks = bitOr (k .marks) (bitOf (k .count));
         homes = k .homes;
       })
-      (added (meaning k) (fromMask (byte m)))
+      (added (meaning k) (fromMask (byte m)) tt)
   unfolding meaning
   add-is m n h = record { counted = record { some = omega arith; few = omega arith }; means = ap₂ (withPlacements (meaning k)) old new }
     where
@@ -165,9 +165,9 @@ halt-is k w = record { counted = record { some = w .some; few = w .few }; means 
 
 pub start-is : (m : ℕ)
     → Is (record { stopped = false; count = 1; masks = m ∷ 0 ∷ 0 ∷ 0 ∷ []; working = m; failed = 0; marks = 128; homes = replicate 15 0 })
-    (started (fromMask (byte m)) (byte m) noCards tt)
+    (started (fromMask (byte m)) (byte m) noCards tt tt)
 unfolding meaning
 start-is m = record {
   counted = record { some = omega arith; few = omega arith };
-  means = ap (withHome (started (fromMask (byte m)) (byte m) noCards tt)) (fun-ext none-open);
+  means = ap (withHome (started (fromMask (byte m)) (byte m) noCards tt tt)) (fun-ext none-open);
 }

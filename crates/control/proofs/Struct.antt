@@ -80,6 +80,7 @@ read-means l lo hi = λ i. record {
   failed = byte (getD l 6 0);
   home = fun-ext homes i;
   setting = tt;
+  serial = tt;
 }
   where
     n : ℕ

@@ -23,8 +23,12 @@ use Rattle.method.specs.ControlPart.{ControlPart, active}
 abbrev pub Setting : Type 0
 Setting = Unit {0}
 
+-- Placements have no serial.
+abbrev pub Serial : Type 0
+Serial = Unit {0}
+
 abbrev pub Part : Type 0
-Part = ControlPart Byte Placement Setting
+Part = ControlPart Byte Placement Setting Serial
 
 -- ---- writing
 abbrev pub maskBytes : List Placement → List ℕ
@@ -91,4 +95,5 @@ controlOf g = record {
   failed = byte (g 6);
   home = λ t. homeOf t (g (t + 7));
   setting = tt;
+  serial = tt;
 }

@@ -53,6 +53,7 @@ meaning k = record {
   failed = byte (k .failed);
   home = λ t. homeOf t (getD (k .homes) (t - 1) 0);
   setting = tt;
+  serial = tt;
 }
 
 -- The count is 1 to 4.

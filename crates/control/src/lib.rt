@@ -53,7 +53,7 @@ pub struct Control {
 impl Control {
     // The cards of a mask work and are the one placement; none failed, none open.
     pub fn started(mask: u8) -> Control
-        ensures { λ r. ⌜ Is r (started (fromMask (byte mask)) (byte mask) noCards tt) ⌝ }
+        ensures { λ r. ⌜ Is r (started (fromMask (byte mask)) (byte mask) noCards tt tt) ⌝ }
     {
         Control {
             stopped: false,
@@ -145,7 +145,7 @@ impl Control {
     pub fn add(mut self, mask: u8) -> Self
         requires { ⌜ Counted self ⌝ }
         requires { ⌜ self .count < mostActive ⌝ }
-        ensures { λ r. ⌜ Is r (added (meaning self) (fromMask (byte mask))) ⌝ }
+        ensures { λ r. ⌜ Is r (added (meaning self) (fromMask (byte mask)) tt) ⌝ }
     {
         let i = self.count as usize;
         self.masks[i] = mask;

@@ -134,6 +134,7 @@ module _
       failed = byte-back (g 6) (k .failed) (wrote 6 (omega arith)) i;
       home = fun-ext read-home i;
       setting = tt;
+      serial = tt;
     }
       where
         both : (placementsIn (placementAt g) (length (k .older)) ≡ k .older) × (placementAt g (length (k .older)) ≡ k .newest)

@@ -65,10 +65,14 @@ controlForm image = formOk (λ n. getD image n 0)
 
 -- Rows 1 and 2 of the refusal table, and the rows below them: the length is wrong; the control form is broken (formed
 -- says whether it holds), which a start does not examine.
-abbrev pub formRows : Bool → Bool → List ℕ → ℕ → ℕ
-formRows isStart formed image below =
-    row 1 (not (eqb (length image) imageSize)) (
+abbrev pub formRowsOf : ℕ → Bool → Bool → List ℕ → ℕ → ℕ
+formRowsOf size isStart formed image below =
+    row 1 (not (eqb (length image) size)) (
     row 2 (not isStart && not formed) below)
+
+-- The same by the length in force.
+abbrev pub formRows : Bool → Bool → List ℕ → ℕ → ℕ
+formRows = formRowsOf imageSize
 
 -- They alone.
 unfoldable pub formRefusal : List ℕ → ℕ

@@ -20,7 +20,7 @@ use Rattle.mask.proofs.Masks.{byte-path, has-card, has-with}
 use Rattle.slot.specs.Blocks.{inSet}
 use Rattle.method.specs.Changes.{marked}
 use Rattle.method.specs.ControlPart.{active, added, begunAt, closed, halted, isOpen, withCards}
-use Rattle.method.specs.Rules.{act, dropHeld, fail, look, lost, lostOf, placed, refusal, stopping, stops}
+use Rattle.method.specs.Rules.{act, dropHeld, fail, look, lost, lostOf, placed, refusal, stampAll, stamping, stopping, stops}
 use Rattle.method.specs.Rules.{unplaced, writing}
 use Rattle.control.specs.ControlBytes.{Part}
 use Rattle.control_form.specs.ControlForm.{formRefusal, fourthOk, isSafe}
@@ -142,7 +142,7 @@ module _ (g : Image) (clear : formRefusal g ≡ 0) (k : Struct) (i : Is k (contr
     closedPart = closed (marked cabinet (controlIn g) c) (begunAt (controlIn g) c)
 
     pub placed-plan : hasCard (controlIn g .newest .mask) c ≡ true
-        → planOn (fail c) g ≡ writing cabinet (placed (withoutCard (controlIn g .newest .mask) c)) (added closedPart (fromMask (withoutCard (controlIn g .newest .mask) c))) (dropHeld cabinet (begunAt (controlIn g) c) c (look cabinet (stateIn g)))
+        → planOn (fail c) g ≡ stamping cabinet (writing cabinet (placed (withoutCard (controlIn g .newest .mask) c)) (added closedPart (fromMask (withoutCard (controlIn g .newest .mask) c)) tt) (dropHeld cabinet (begunAt (controlIn g) c) c (look cabinet (stateIn g)))) (stampAll cabinet (added closedPart (fromMask (withoutCard (controlIn g .newest .mask) c)) tt))
     unfolding act
     placed-plan h = rw (s, h)
 
@@ -156,9 +156,9 @@ module _ (g : Image) (clear : formRefusal g ≡ 0) (k : Struct) (i : Is k (contr
       closed-is = ix .means ∙ ap (λ (y : Part). closed y (begunAt y c)) marked-is
 
       -- the new placement
-      pub added-is : (mask : ℕ) (y : Struct) → byte mask ≡ withoutCard (controlIn g .newest .mask) c → Is y (added (meaning x) (fromMask (byte mask)))
-          → meaning y ≡ added closedPart (fromMask (withoutCard (controlIn g .newest .mask) c))
-      added-is mask y e iy = iy .means ∙ ap₂ (λ (p : Part) (b : Byte). added p (fromMask b)) closed-is e
+      pub added-is : (mask : ℕ) (y : Struct) → byte mask ≡ withoutCard (controlIn g .newest .mask) c → Is y (added (meaning x) (fromMask (byte mask)) tt)
+          → meaning y ≡ added closedPart (fromMask (withoutCard (controlIn g .newest .mask) c)) tt
+      added-is mask y e iy = iy .means ∙ ap₂ (λ (p : Part) (b : Byte). added p (fromMask b) tt) closed-is e
 
       pub room : hasCard (controlIn g .newest .mask) c ≡ true → x .count < 4
       room h =

@@ -38,7 +38,7 @@ valueBound = 65536
 abbrev pub copyCount : ℕ
 copyCount = 2
 
--- Sizes in bytes. A table may have bytes behind its blocks and the image bytes behind its tables: none today.
+-- Sizes in bytes.
 abbrev pub controlSize : ℕ
 controlSize = 32
 
@@ -51,30 +51,53 @@ blockSize = 1 + slotCount * slotSize
 abbrev pub blocksSize : ℕ
 blocksSize = blockCount * blockSize
 
-abbrev pub tableTail : ℕ
-tableTail = 0
-
-abbrev pub tableSize : ℕ
-tableSize = blocksSize + tableTail
-
-abbrev pub imageTail : ℕ
-imageTail = 0
-
-abbrev pub imageSize : ℕ
-imageSize = controlSize + cardCount * tableSize + imageTail
-
--- Where a slot starts in its block, a block in its table, a table in the image and a block in the image.
+-- Where a slot starts in its block, and a block in its table.
 abbrev pub slotStart : ℕ → ℕ
 slotStart i = 1 + i * slotSize
 
 abbrev pub blockStart : ℕ → ℕ
 blockStart b = b * blockSize
 
+-- ---- what the deliveries differ in: the bytes behind the blocks of a table, and behind the tables
+pub record Layout : Type 0 where
+  pub tableTail : ℕ
+  pub imageTail : ℕ
+
+module _ (y : Layout) where
+  abbrev pub tableSizeOf : ℕ
+  tableSizeOf = blocksSize + y .tableTail
+
+  -- Where a table starts, a block, the bytes behind a table's blocks, and those behind the tables.
+  abbrev pub tableStartOf : ℕ → ℕ
+  tableStartOf c = controlSize + c * tableSizeOf
+
+  abbrev pub blockAddressOf : ℕ → ℕ → ℕ
+  blockAddressOf c b = tableStartOf c + blockStart b
+
+  abbrev pub endStartOf : ℕ → ℕ
+  endStartOf c = tableStartOf c + blocksSize
+
+  abbrev pub tailStartOf : ℕ
+  tailStartOf = tableStartOf cardCount
+
+  abbrev pub imageSizeOf : ℕ
+  imageSizeOf = tailStartOf + y .imageTail
+
+-- ---- the layout in force
+abbrev pub layout : Layout
+layout = record { tableTail = 0; imageTail = 0 }
+
+abbrev pub tableSize : ℕ
+tableSize = tableSizeOf layout
+
+abbrev pub imageSize : ℕ
+imageSize = imageSizeOf layout
+
 abbrev pub tableStart : ℕ → ℕ
-tableStart c = controlSize + c * tableSize
+tableStart = tableStartOf layout
 
 abbrev pub blockAddress : ℕ → ℕ → ℕ
-blockAddress c b = tableStart c + blockStart b
+blockAddress = blockAddressOf layout
 
 -- An image of the right length; its control part; the table of card c.
 abbrev pub Whole : List ℕ → Type 0

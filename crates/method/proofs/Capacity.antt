@@ -13,12 +13,12 @@ use Rattle.lists.specs.Tests.{In, anyBelow, count}
 use Rattle.lists.proofs.Bools.{and-in, and-l, and-r, eqb-self, nor-r, not-not-is, or-l, or-r, split, tf}
 use Rattle.lists.proofs.Counts.{below-none, but, count-but, count-mono}
 use Rattle.lists.proofs.Lists.{any-none, in-left, in-reverse, in-right}
-use Rattle.method.specs.Changes.{Control, marked, replaced, startedBy}
+use Rattle.method.specs.Changes.{Control, addedBy, marked, replaced, startedBy}
 use Rattle.method.specs.ControlPart.{active, added, begunAt, closed, halted, isOpen, onlyNewest, opened}
 use Rattle.method.specs.ControlPart.{withCards}
 use Rattle.method.specs.OneRecordList.{isLast, isStop, observe}
 use Rattle.method.specs.Parameters.{Parameters}
-use Rattle.method.specs.Rules.{Call, Plan, View, absent, act, begin, commit, delete, dropHeld, fail, failAnswer}
+use Rattle.method.specs.Rules.{Call, Plan, View, absent, act, begin, commit, delete, dropHeld, fail, failPlan}
 use Rattle.method.specs.Rules.{fit, get, guarded, inActive, load, lockHolders, move, ok, place, plan, refusal}
 use Rattle.method.specs.Rules.{rollback, seenSlot, settle, start, state, stopping, stops, store, unwritten}
 use Rattle.method.specs.Rules.{withdraw, writing}
@@ -36,8 +36,9 @@ none≢some a e = let z : _≡_ {A = ℕ} 0 1 = cc in omega arith
 
 module _ (P : Parameters) (L : Laws P) where
   open Parameters P using (Mask, Placement, StartArgument, PlaceArgument, cards, transactions, copies, tranInRange, has)
-  open Parameters P using (insert, remove, mask, without, startSetting, places, placeInRange, placeRefusal, placeLimit)
+  open Parameters P using (insert, remove, mask, without, startSetting, places, placeInRange, placeRefusal, placeLimit, numbered, startRefusal)
   open Laws L using (tran-below, has-card, has-insert, has-remove, has-without, limit-some, place-room)
+  open Laws L using (numbered-start, numbered-same, numbered-place, numbered-fail, numbered-settle)
 
   -- p is n and one failed card
   pub record OneMore (d : Mask) (n p : Placement) : Type 0 where
@@ -61,6 +62,7 @@ module _ (P : Parameters) (L : Laws P) where
     pub homes : (t h : ℕ) → k .home t ≡ some h → has (k .working) h ≡ true
     pub opens : (t : ℕ) → isOpen k t ≡ true → tranInRange t ≡ true
     pub room : Capacity k
+    pub numbers : numbered k
 
   -- failed marks may come and go, as long as those of the chain stay
   pub chain-map : (d e : Mask) (j : ℕ) (n : Placement) (l : List Placement) → ((p : Placement) (x : ℕ) → In p l → has (mask p) x ≡ true → has d x ≡ true → has e x ≡ true) → Chain d j n l → Chain e j n l
@@ -121,6 +123,7 @@ module _ (P : Parameters) (L : Laws P) where
         homes = λ x y e. homes′ x y (split (eqb x t)) e;
         opens = λ x e. opens′ x (split (eqb x t)) e;
         room = record { steps = g .room .steps; chain = g .room .chain; few = g .room .few };
+        numbers = numbered-same k (opened k t h) refl refl refl (g .numbers);
       }
         where
           homes′ : (x y : ℕ) → (eqb x t ≡ true) ⊎ (eqb x t ≡ false) → cond (eqb x t) (some h) (k .home x) ≡ some y → has (k .working) y ≡ true
@@ -136,6 +139,7 @@ module _ (P : Parameters) (L : Laws P) where
         homes = λ x y e. homes′ x y (split (c x)) e;
         opens = λ x e. opens′ x (split (c x)) e;
         room = record { steps = g .room .steps; chain = g .room .chain; few = g .room .few };
+        numbers = numbered-same k (closed k c) refl refl refl (g .numbers);
       }
         where
           homes′ : (x y : ℕ) → (c x ≡ true) ⊎ (c x ≡ false) → cond (c x) none (k .home x) ≡ some y → has (k .working) y ≡ true
@@ -151,6 +155,7 @@ module _ (P : Parameters) (L : Laws P) where
         homes = λ t h e. rw (has-insert (k .working) c h c-ok) (or-r (eqb h c) (has (k .working) h) (g .homes t h e));
         opens = g .opens;
         room = record { steps = g .room .steps; chain = chain-map (k .failed) (remove (k .failed) c) (g .room .steps) (k .newest) (reverse (k .older)) stays (g .room .chain); few = g .room .few };
+        numbers = numbered-same k (withCards k (insert (k .working) c) (remove (k .failed) c)) refl refl refl (g .numbers);
       }
         where
           stays : (p : Placement) (x : ℕ) → In p (reverse (k .older)) → has (mask p) x ≡ true → has (k .failed) x ≡ true → has (remove (k .failed) c) x ≡ true
@@ -161,6 +166,7 @@ module _ (P : Parameters) (L : Laws P) where
         homes = λ t h e. rw (has-remove (k .working) c h, ne-eqb h c (elsewhere t h e)) (and-true (has (k .working) h) ∙ g .homes t h e);
         opens = g .opens;
         room = record { steps = g .room .steps; chain = g .room .chain; few = g .room .few };
+        numbers = numbered-same k (withCards k (remove (k .working) c) (k .failed)) refl refl refl (g .numbers);
       }
         where
           elsewhere : (t h : ℕ) → k .home t ≡ some h → h ≡ c → ⊥
@@ -169,11 +175,11 @@ module _ (P : Parameters) (L : Laws P) where
               let b : begunAt k c t ≡ true = rw e (eq-eqb h c z) in
               tf (begunAt k c t) b (below-none transactions (begunAt k c) t n (tran-below t (g .opens t o)))
 
-      full-place : (a : PlaceArgument) → placeRefusal k a ≡ 0 → ControlInv (added k (places (k .newest) a))
-      full-place a e = record { homes = g .homes; opens = g .opens; room = record { steps = 0; chain = tt; few = simp length-append (omega (arith, place-room k a e)) } }
+      full-place : (a : PlaceArgument) → placeRefusal k a ≡ 0 → ControlInv (addedBy P k (places (k .newest) a))
+      full-place a e = record { homes = g .homes; opens = g .opens; room = record { steps = 0; chain = tt; few = simp length-append (omega (arith, place-room k a e)) }; numbers = numbered-place k a e (g .numbers) }
 
       full-settle : ControlInv (onlyNewest k)
-      full-settle = record { homes = g .homes; opens = g .opens; room = record { steps = 0; chain = tt; few = omega (arith, limit-some (k .setting)) } }
+      full-settle = record { homes = g .homes; opens = g .opens; room = record { steps = 0; chain = tt; few = omega (arith, limit-some (k .setting)) }; numbers = numbered-settle k (g .numbers) }
 
       module _ (c : ℕ) (c-ok : ltb c cards ≡ true) where
         -- what stays open has its home on a card that works on
@@ -197,7 +203,7 @@ module _ (P : Parameters) (L : Laws P) where
         still-failed p x m h d = rw (has-insert (k .failed) c x c-ok) (or-r (eqb x c) (has (k .failed) x) d)
 
         full-fail : (b : Bool) → has (mask (k .newest)) c ≡ b
-            → ControlInv (cond b (added (closed (marked P k c) (begunAt k c)) (without (k .newest) c)) (closed (marked P k c) (begunAt k c)))
+            → ControlInv (cond b (addedBy P (closed (marked P k c) (begunAt k c)) (without (k .newest) c)) (closed (marked P k c) (begunAt k c)))
         full-fail true e = record {
           homes = fail-homes;
           opens = fail-opens;
@@ -206,6 +212,7 @@ module _ (P : Parameters) (L : Laws P) where
             chain = rw (reverse-append (k .older) (k .newest ∷ [])) (step, chain-map (k .failed) (insert (k .failed) c) (g .room .steps) (k .newest) (reverse (k .older)) still-failed (g .room .chain));
             few = simp length-append (omega (arith, g .room .few));
           };
+          numbers = numbered-same (addedBy P k (without (k .newest) c)) (addedBy P (closed (marked P k c) (begunAt k c)) (without (k .newest) c)) refl refl refl (numbered-fail k c e (g .numbers));
         }
           where
             step : OneMore (insert (k .failed) c) (without (k .newest) c) (k .newest)
@@ -227,16 +234,17 @@ module _ (P : Parameters) (L : Laws P) where
             chain = chain-map (k .failed) (insert (k .failed) c) (g .room .steps) (k .newest) (reverse (k .older)) still-failed (g .room .chain);
             few = g .room .few;
           };
+          numbers = numbered-same k (closed (marked P k c) (begunAt k c)) refl refl refl (g .numbers);
         }
 
-  pub full-start : (a : StartArgument) → ControlInv (startedBy P a)
-  full-start a = record { homes = λ t h e. absurd (none≢some h e); opens = λ t e. tf false e refl; room = record { steps = 0; chain = tt; few = omega (arith, limit-some (startSetting a)) } }
+  pub full-start : (a : StartArgument) → startRefusal a ≡ 0 → ControlInv (startedBy P a)
+  full-start a e0 = record { homes = λ t h e. absurd (none≢some h e); opens = λ t e. tf false e refl; room = record { steps = 0; chain = tt; few = omega (arith, limit-some (startSetting a)) }; numbers = numbered-start a e0 }
 
   -- ---- every call that does not stop keeps it
   module _ (k : Control P) (v : View P) (f : Form P k) (g : ControlInv k) where
     act-full : (c : Call P) → refusal P c k v ≡ 0 → isLast P (observe P c (act P c k v .answer)) ≡ false → ControlInv (act P c k v .after)
     unfolding act refusal
-    act-full (start a) e s = full-start a
+    act-full (start a) e s = full-start a e
     act-full (begin t h) e s =
         let r = row-3 (tranInRange t && ltb h cards) e in
         let n = row-clear (isOpen k t) 5 (row-clear (k .stopped) 3 (r .1) .1) .1 in
@@ -260,9 +268,9 @@ module _ (P : Parameters) (L : Laws P) where
     act-full (fail c) e s = either (stopping P k c) s
       where
         either : (b : Bool) → isStop P ((cond {A = Plan P} b (writing P stops (halted (marked P k c)) (dropHeld P (isOpen k) c v))
-            (writing P (failAnswer P k c) (replaced P k c) (dropHeld P (begunAt k c) c v))) .answer) ≡ false
+            (failPlan P k v c)) .answer) ≡ false
             → ControlInv ((cond {A = Plan P} b (writing P stops (halted (marked P k c)) (dropHeld P (isOpen k) c v))
-            (writing P (failAnswer P k c) (replaced P k c) (dropHeld P (begunAt k c) c v))) .after)
+            (failPlan P k v c)) .after)
         either true z = tf true refl z
         either false z = full-fail k f g c (row-3 (ltb c cards) e .0) (has (mask (k .newest)) c) refl
     act-full (move c b) e s = g

@@ -10,7 +10,7 @@ use Rattle.lists.specs.Tests.{In, count}
 use Rattle.lists.proofs.Bools.{and-in, and-l, and-r, and-when, tf}
 use Rattle.lists.proofs.Counts.{count-mono}
 use Rattle.lists.proofs.Lists.{in-cases, in-right}
-use Rattle.method.specs.Changes.{Control, startedBy}
+use Rattle.method.specs.Changes.{Control, addedBy, startedBy}
 use Rattle.method.specs.ControlPart.{active, added, onlyNewest, withCards, withHome}
 use Rattle.method.specs.Parameters.{Parameters}
 use Rattle.method.specs.Rules.{lost, lostOf}
@@ -19,7 +19,7 @@ use Rattle.method.proofs.Laws.{Laws}
 use Rattle.method.proofs.StopRule.{enough-work, few-failed, not-lost}
 
 module _ (P : Parameters) (L : Laws P) where
-  open Parameters P using (Mask, Placement, Setting, StartArgument, cards, copies, has, noCards, mask, usable, starts)
+  open Parameters P using (Mask, Placement, Setting, Serial, StartArgument, cards, copies, has, noCards, mask, usable, starts)
   open Parameters P using (startSetting, startRefusal)
   open Laws L using (has-none, start-usable, start-many, start-some)
 
@@ -46,7 +46,7 @@ module _ (P : Parameters) (L : Laws P) where
     base-home h = record { running = f .running; apart = f .apart; known = f .known; sound = f .sound; safe = f .safe }
 
     -- a placement is added, of working cards
-    pub form-added : (p : Placement) → usable (k .setting) p → copies (k .setting) ≤ count cards (has (mask p)) → ((c : ℕ) → has (mask p) c ≡ true → has (k .working) c ≡ true) → Form P (added k p)
+    pub form-added : (p : Placement) → usable (k .setting) p → copies (k .setting) ≤ count cards (has (mask p)) → ((c : ℕ) → has (mask p) c ≡ true → has (k .working) c ≡ true) → Form P (addedBy P k p)
     form-added p fp many wk = record {
       base = record {
         running = f .running;

@@ -1,8 +1,8 @@
 -- Demand 3 where the list of calls goes on under a later paper, the proof: a store that is ready under the older rules is ready under the
 -- later ones. Assumes nothing.
-use Prim.Native.Nat.{_≤_, suc, zero, ℕ}
+use Prim.Native.Nat.{_+_, _<_, _≤_, suc, zero, ℕ}
 use lib.Dec.{ltb}
-use lib.ListN.{length-map}
+use lib.ListN.{length, length-map}
 use mathlib.Core.Bool.{_&&_, cond}
 use mathlib.Core.List.{List, [], _∷_, map, map-append, reverse}
 use mathlib.Core.Logic.{_⊎_, inl, inr}
@@ -19,7 +19,8 @@ use Rattle.method.specs.Parameters.{Parameters}
 use Rattle.method.specs.PlainList.{PlainList, plainStart}
 use Rattle.method.specs.Rules.{State, View, look, lost, lostOf, nextState, start, visible}
 use Rattle.method.specs.Slots.{Slot}
-use Rattle.method.proofs.Capacity.{Chain, ControlInv}
+use Rattle.method.proofs.Capacity.{Capacity, Chain, ControlInv, bounded}
+use Rattle.method.proofs.Stopped.{Rests}
 use Rattle.method.proofs.Invariant.{Blank, BlockInv, Cover, Form, Invariant}
 use Rattle.method.proofs.Laws.{Laws}
 use Rattle.method.proofs.Reached.{Reached, ready-reached}
@@ -32,11 +33,13 @@ pub record Keeps (P : Parameters) (G : Growth P) : Type 0 where
   pub still-usable : (σ : Parameters.Setting P) (p : Parameters.Placement P) → Parameters.usable P σ p → G .usable (G .olderSetting σ) (G .older p)
   pub same-copies : (σ : Parameters.Setting P) → G .copies (G .olderSetting σ) ≡ Parameters.copies P σ
   pub same-blocks : (σ : Parameters.Setting P) → G .blocks (G .olderSetting σ) ≡ Parameters.blocks P σ
+  pub still-numbered : (k : Control P) → suc (length (k .older)) < Parameters.placeLimit P (k .setting) + Parameters.copies P (k .setting) → Parameters.numbered P k
+      → G .numbered (grownControl P G k)
   pub enough-room : (σ : Parameters.Setting P) → Parameters.placeLimit P σ ≤ G .placeLimit (G .olderSetting σ)
 
 module _ (P : Parameters) (L : Laws P) (G : Growth P) (E : Keeps P G) (M : Laws (grown P G)) where
   open Parameters P using (Mask, Placement, has, sites, empty)
-  open Keeps E using (same-mask, same-sites, still-usable, same-copies, same-blocks, enough-room)
+  open Keeps E using (same-mask, same-sites, still-usable, same-copies, same-blocks, still-numbered, enough-room)
 
   -- ---- the control part
   module _ (k : Control P) where
@@ -74,15 +77,32 @@ module _ (P : Parameters) (L : Laws P) (G : Growth P) (E : Keeps P G) (M : Laws 
       chain-grown d j p l (c .1),
     )
 
-    pub control-inv-grown : ControlInv P L k → ControlInv (grown P G) M (grownControl P G k)
-    control-inv-grown u = record {
+    room-grown : Capacity P L k → Capacity (grown P G) M (grownControl P G k)
+    room-grown r = record {
+      steps = r .steps;
+      chain = subst (Chain (grown P G) M (k .failed) (r .steps) (G .older (k .newest))) (map-reverse (G .older) (k .older)) (chain-grown (k .failed) (r .steps) (k .newest) (reverse (k .older)) (r .chain));
+      few = omega (arith, r .few, enough-room (k .setting), length-map (k .older) (G .older));
+    }
+
+    pub control-inv-grown : Form P k → ControlInv P L k → ControlInv (grown P G) M (grownControl P G k)
+    control-inv-grown f u = record {
       homes = u .homes;
       opens = u .opens;
-      room = record {
-        steps = u .room .steps;
-        chain = subst (Chain (grown P G) M (k .failed) (u .room .steps) (G .older (k .newest))) (map-reverse (G .older) (k .older)) (chain-grown (k .failed) (u .room .steps) (k .newest) (reverse (k .older)) (u .room .chain));
-        few = omega (arith, u .room .few, enough-room (k .setting), length-map (k .older) (G .older));
-      };
+      room = room-grown (u .room);
+      numbers = still-numbered k (bounded P L k f (u .room)) (u .numbers);
+    }
+
+    -- ---- a stopped store
+    pub rests-grown : Rests P L k → Rests (grown P G) M (grownControl P G k)
+    rests-grown r = record {
+      stays = r .stays;
+      shut = r .shut;
+      apart = r .apart;
+      known = λ p c m h n. let q = was-active p m in r .known (q .0) c (q .1) (sym (ap (λ (x : Mask). has x c) (ap (G .mask) (q .2) ∙ same-mask (q .0))) ∙ h) n;
+      sound = λ p m. let q = was-active p m in subst (G .usable (G .olderSetting (k .setting))) (sym (q .2)) (still-usable (k .setting) (q .0) (r .sound (q .0) (q .1)));
+      room = room-grown (r .room);
+      numbers = still-numbered k (r .bound) (r .numbers);
+      bound = omega (arith, r .bound, enough-room (k .setting), same-copies (k .setting), length-map (k .older) (G .older));
     }
 
     -- ---- the tables
@@ -125,7 +145,7 @@ module _ (P : Parameters) (L : Laws P) (G : Growth P) (E : Keeps P G) (M : Laws 
   ready-grown s z q r = record {
     sees = r .sees;
     inv = invariant-grown (q .control) (r .sees) (q .records) (r .inv);
-    full = control-inv-grown (q .control) (r .full);
+    full = control-inv-grown (q .control) (r .inv .form) (r .full);
     store-beside = beside-grown (q .control) s (r .sees) (r .store-beside);
     rules-beside = beside-grown (q .control) z (r .sees) (r .rules-beside);
   }

@@ -7,18 +7,19 @@ use mathlib.Core.Bool.{Bool, _&&_, _||_, cond, false, not, true}
 use mathlib.Core.Option.{Option, none, some}
 use mathlib.Core.Path.{_≡_}
 use Rattle.lists.specs.Tests.{count, distinct, elem}
-use Rattle.method.specs.ControlPart.{ControlPart}
+use Rattle.method.specs.Changes.{addedBy, startedBy}
+use Rattle.method.specs.ControlPart.{ControlPart, onlyNewest}
 use Rattle.method.specs.Parameters.{Parameters}
 use Rattle.method.specs.Slots.{blank, ended, locked}
 
 module _ (P : Parameters) where
-  open Parameters P using (Mask, Placement, Setting, Block, StartArgument, PlaceArgument, cards, transactions, slots)
+  open Parameters P using (Mask, Placement, Setting, Serial, Block, StartArgument, PlaceArgument, cards, transactions, slots)
   open Parameters P using (copies, blocks, tranInRange, recInRange, valueInRange, blockOf, placeOf, has, noCards)
   open Parameters P using (insert, remove, mask, sites, without, usable, starts, startSetting, startRefusal, places)
-  open Parameters P using (placeRefusal, placeLimit, empty, fresh, held, slot, lockSlot, endSlots)
+  open Parameters P using (placeRefusal, placeLimit, numbered, empty, fresh, held, slot, lockSlot, endSlots)
 
   abbrev Control : Type 0
-  Control = ControlPart Mask Placement Setting
+  Control = ControlPart Mask Placement Setting Serial
 
   pub record Laws : Type 0 where
     -- numbers: 0 is no transaction, and a record is told by its block and its place
@@ -51,6 +52,12 @@ module _ (P : Parameters) where
         → has (mask (places (k .newest) a)) c ≡ true → has (k .working) c ≡ true
     pub limit-some : (σ : Setting) → 0 < placeLimit σ
     pub place-room : (k : Control) (a : PlaceArgument) → placeRefusal k a ≡ 0 → suc (suc (length (k .older))) ≤ placeLimit (k .setting)
+    -- serials: what is asked of them holds at a start and stays
+    pub numbered-start : (a : StartArgument) → startRefusal a ≡ 0 → numbered (startedBy P a)
+    pub numbered-same : (j k : Control) → j .older ≡ k .older → j .newest ≡ k .newest → j .serial ≡ k .serial → numbered j → numbered k
+    pub numbered-place : (k : Control) (a : PlaceArgument) → placeRefusal k a ≡ 0 → numbered k → numbered (addedBy P k (places (k .newest) a))
+    pub numbered-fail : (k : Control) (c : ℕ) → has (mask (k .newest)) c ≡ true → numbered k → numbered (addedBy P k (without (k .newest) c))
+    pub numbered-settle : (k : Control) → numbered k → numbered (onlyNewest k)
     -- blocks: the empty one is not held, a fresh one is held and blank, and a change of slots is seen slot by slot
     pub held-empty : held empty ≡ false
     pub held-fresh : held fresh ≡ true

@@ -8,6 +8,7 @@ pub mod ControlForms
 pub mod MoveEffect
 pub mod Calls
 pub mod Capacity
+pub mod Stopped
 pub mod Sight
 pub mod Run
 pub mod Reached

@@ -15,7 +15,7 @@ use Rattle.method.specs.OneRecordList.{callsOf, disturb, isStop, zeroed}
 use Rattle.method.specs.Parameters.{Parameters}
 use Rattle.method.specs.PlainList.{PlainList, plainProtected, plainStart, stopsNow}
 use Rattle.method.specs.Protection.{ProtectedByFails, ProtectedByFields, ProtectedByPlainList, noFailStops, protection}
-use Rattle.method.specs.Rules.{State, View, act, answerOf, dropHeld, fail, failAnswer, guarded, isProtected, look}
+use Rattle.method.specs.Rules.{State, View, act, answerOf, dropHeld, fail, failPlan, guarded, isProtected, look}
 use Rattle.method.specs.Rules.{nextState, placed, plan, refusal, row, start, state, stopping, stops, unplaced, writing}
 use Rattle.method.proofs.Laws.{Laws}
 use Rattle.method.proofs.Reached.{Reached, ready-reached}
@@ -63,7 +63,7 @@ module _ (P : Parameters) (L : Laws P) where
 
         stop : (t : Bool) → isStop P (cond t
             (writing P stops (halted (marked P k c)) (dropHeld P (isOpen k) c v))
-            (writing P (failAnswer P k c) (replaced P k c) (dropHeld P (begunAt k c) c v)) .answer) ≡ t
+            (failPlan P k v c) .answer) ≡ t
         stop true = refl
         stop false = goes-on (has (mask (k .newest)) c)
 

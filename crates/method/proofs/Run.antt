@@ -137,7 +137,7 @@ module _ (P : Parameters) (L : Laws P) where
   ready-start a e = record {
     sees = nextView P L (startedBy P a) (λ c b. some empty) (noBlocks P);
     inv = start-inv P L (noBlocks P) a e;
-    full = full-start P L a;
+    full = full-start P L a e;
     store-beside = zeroed-beside a;
     rules-beside = zeroed-beside a;
   }

@@ -7,12 +7,12 @@ use mathlib.Core.Option.{Option, none, some}
 use mathlib.Core.Path.{_≡_, fun-ext, refl}
 use native.Mathlib.Omega.{arith}
 use Rattle.lists.proofs.Bools.{and-in, and-l, and-r, not-not-is, split}
-use Rattle.method.specs.Changes.{Control, marked, replaced}
+use Rattle.method.specs.Changes.{Control, addedBy, marked, replaced}
 use Rattle.method.specs.ControlPart.{added, begunAt, closed, halted, isOpen, withCards}
 use Rattle.method.specs.OneRecordList.{disturb}
 use Rattle.method.specs.Parameters.{Parameters}
 use Rattle.method.specs.Rules.{Call, Plan, State, View, absent, act, apply, begin, clearCard, commit, delete}
-use Rattle.method.specs.Rules.{dropHeld, fail, failAnswer, fit, get, guarded, load, lockHolders, look, move, ok}
+use Rattle.method.specs.Rules.{dropHeld, fail, failPlan, fit, get, guarded, load, lockHolders, look, move, ok}
 use Rattle.method.specs.Rules.{place, plan, refusal, refused, rollback, seenSlot, settle, start, state, stopping}
 use Rattle.method.specs.Rules.{stops, store, unwritten, updated, visible, withdraw, writing}
 use Rattle.method.specs.Slots.{isNone, readBy}
@@ -65,11 +65,11 @@ module _ (P : Parameters) (L : Laws P) where
     either true p q x y = x
     either false p q x y = y
 
-    replaced-working : (x : ℕ) (b : Bool) → (cond b (added (closed (marked P k x) (begunAt k x)) (without (k .newest) x)) (closed (marked P k x) (begunAt k x))) .working ≡ remove (k .working) x
+    replaced-working : (x : ℕ) (b : Bool) → (cond b (addedBy P (closed (marked P k x) (begunAt k x)) (without (k .newest) x)) (closed (marked P k x) (begunAt k x))) .working ≡ remove (k .working) x
     replaced-working x true = refl
     replaced-working x false = refl
 
-    replaced-setting : (x : ℕ) (b : Bool) → (cond b (added (closed (marked P k x) (begunAt k x)) (without (k .newest) x)) (closed (marked P k x) (begunAt k x))) .setting ≡ k .setting
+    replaced-setting : (x : ℕ) (b : Bool) → (cond b (addedBy P (closed (marked P k x) (begunAt k x)) (without (k .newest) x)) (closed (marked P k x) (begunAt k x))) .setting ≡ k .setting
     replaced-setting x true = refl
     replaced-setting x false = refl
 
@@ -95,9 +95,9 @@ module _ (P : Parameters) (L : Laws P) where
     act-sight (place a) r = kept-sight (act P (place a) k v) refl refl
     act-sight (fail x) r = either (stopping P k x)
         (writing P stops (halted (marked P k x)) (dropHeld P (isOpen k) x v))
-        (writing P (failAnswer P k x) (replaced P k x) (dropHeld P (begunAt k x) x v))
+        (failPlan P k v x)
         (lost-sight (writing P stops (halted (marked P k x)) (dropHeld P (isOpen k) x v)) x refl refl)
-        (lost-sight (writing P (failAnswer P k x) (replaced P k x) (dropHeld P (begunAt k x) x v)) x (replaced-working x (has (mask (k .newest)) x)) (replaced-setting x (has (mask (k .newest)) x)))
+        (lost-sight (failPlan P k v x) x (replaced-working x (has (mask (k .newest)) x)) (replaced-setting x (has (mask (k .newest)) x)))
     act-sight (move x b) r = kept-sight (act P (move x b) k v) refl refl
     act-sight settle r = kept-sight (act P settle k v) refl refl
     act-sight state r = kept-sight (act P state k v) refl refl

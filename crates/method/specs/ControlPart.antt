@@ -9,7 +9,7 @@ use Rattle.method.specs.Slots.{isSome}
 
 -- The active placements are the older ones, oldest first, and then the newest; each open transaction has its home
 -- card; the setting is what a start fixes until the next.
-pub record ControlPart (Mask Placement Setting : Type 0) : Type 0 where
+pub record ControlPart (Mask Placement Setting Serial : Type 0) : Type 0 where
   pub stopped : Bool
   pub older : List Placement
   pub newest : Placement
@@ -17,59 +17,62 @@ pub record ControlPart (Mask Placement Setting : Type 0) : Type 0 where
   pub failed : Mask
   pub home : ℕ → Option ℕ
   pub setting : Setting
+  pub serial : Serial
 
 abbrev pub isCard : Option ℕ → ℕ → Bool
 isCard none c = false
 isCard (some h) c = eqb h c
 
-module _ {Mask Placement Setting : Type 0} where
-  abbrev pub active : ControlPart Mask Placement Setting → List Placement
+module _ {Mask Placement Setting Serial : Type 0} where
+  abbrev pub active : ControlPart Mask Placement Setting Serial → List Placement
   active k = k .older ++ (k .newest ∷ [])
 
   -- Transaction t is open.
-  abbrev pub isOpen : ControlPart Mask Placement Setting → ℕ → Bool
+  abbrev pub isOpen : ControlPart Mask Placement Setting Serial → ℕ → Bool
   isOpen k t = isSome (k .home t)
 
   -- Transaction t was begun at card c.
-  abbrev pub begunAt : ControlPart Mask Placement Setting → ℕ → ℕ → Bool
+  abbrev pub begunAt : ControlPart Mask Placement Setting Serial → ℕ → ℕ → Bool
   begunAt k c t = isCard (k .home t) c
 
   -- A whole control part, field by field.
-  abbrev pub part : Bool → List Placement → Placement → Mask → Mask → (ℕ → Option ℕ) → Setting
-      → ControlPart Mask Placement Setting
-  part s o n w f h σ = record { stopped = s; older = o; newest = n; working = w; failed = f; home = h; setting = σ }
+  abbrev pub part : Bool → List Placement → Placement → Mask → Mask → (ℕ → Option ℕ) → Setting → Serial
+      → ControlPart Mask Placement Setting Serial
+  part s o n w f h σ ν =
+      record { stopped = s; older = o; newest = n; working = w; failed = f; home = h; setting = σ; serial = ν }
 
   -- One placement and its cards, none failed, none open.
-  abbrev pub started : Placement → Mask → Mask → Setting → ControlPart Mask Placement Setting
-  started p cards nobody σ = part false [] p cards nobody (λ t. none) σ
+  abbrev pub started : Placement → Mask → Mask → Setting → Serial → ControlPart Mask Placement Setting Serial
+  started p cards nobody σ ν = part false [] p cards nobody (λ t. none) σ ν
 
   -- Other homes; other working and failed cards; other placements.
-  abbrev pub withHome : ControlPart Mask Placement Setting → (ℕ → Option ℕ) → ControlPart Mask Placement Setting
-  withHome k h = part (k .stopped) (k .older) (k .newest) (k .working) (k .failed) h (k .setting)
+  abbrev pub withHome : ControlPart Mask Placement Setting Serial → (ℕ → Option ℕ) → ControlPart Mask Placement Setting Serial
+  withHome k h = part (k .stopped) (k .older) (k .newest) (k .working) (k .failed) h (k .setting) (k .serial)
 
-  abbrev pub withCards : ControlPart Mask Placement Setting → Mask → Mask → ControlPart Mask Placement Setting
-  withCards k w f = part (k .stopped) (k .older) (k .newest) w f (k .home) (k .setting)
+  abbrev pub withCards : ControlPart Mask Placement Setting Serial → Mask → Mask → ControlPart Mask Placement Setting Serial
+  withCards k w f = part (k .stopped) (k .older) (k .newest) w f (k .home) (k .setting) (k .serial)
 
-  abbrev pub withPlacements : ControlPart Mask Placement Setting → List Placement → Placement
-      → ControlPart Mask Placement Setting
-  withPlacements k o n = part (k .stopped) o n (k .working) (k .failed) (k .home) (k .setting)
+  abbrev pub withPlacements : ControlPart Mask Placement Setting Serial → List Placement → Placement
+      → ControlPart Mask Placement Setting Serial
+  withPlacements k o n = part (k .stopped) o n (k .working) (k .failed) (k .home) (k .setting) (k .serial)
 
   -- The transaction opens with its home.
-  abbrev pub opened : ControlPart Mask Placement Setting → ℕ → ℕ → ControlPart Mask Placement Setting
+  abbrev pub opened : ControlPart Mask Placement Setting Serial → ℕ → ℕ → ControlPart Mask Placement Setting Serial
   opened k t h = withHome k (λ x. cond (eqb x t) (some h) (k .home x))
 
   -- The transactions that f picks close.
-  abbrev pub closed : ControlPart Mask Placement Setting → (ℕ → Bool) → ControlPart Mask Placement Setting
+  abbrev pub closed : ControlPart Mask Placement Setting Serial → (ℕ → Bool) → ControlPart Mask Placement Setting Serial
   closed k f = withHome k (λ x. cond (f x) none (k .home x))
 
   -- The placement becomes the newest.
-  abbrev pub added : ControlPart Mask Placement Setting → Placement → ControlPart Mask Placement Setting
-  added k p = withPlacements k (active k) p
+  abbrev pub added : ControlPart Mask Placement Setting Serial → Placement → Serial
+      → ControlPart Mask Placement Setting Serial
+  added k p ν = part (k .stopped) (active k) p (k .working) (k .failed) (k .home) (k .setting) ν
 
   -- Only the newest placement remains.
-  abbrev pub onlyNewest : ControlPart Mask Placement Setting → ControlPart Mask Placement Setting
+  abbrev pub onlyNewest : ControlPart Mask Placement Setting Serial → ControlPart Mask Placement Setting Serial
   onlyNewest k = withPlacements k [] (k .newest)
 
   -- The stopped bit is set and no transaction is open.
-  abbrev pub halted : ControlPart Mask Placement Setting → ControlPart Mask Placement Setting
-  halted k = part true (k .older) (k .newest) (k .working) (k .failed) (λ t. none) (k .setting)
+  abbrev pub halted : ControlPart Mask Placement Setting Serial → ControlPart Mask Placement Setting Serial
+  halted k = part true (k .older) (k .newest) (k .working) (k .failed) (λ t. none) (k .setting) (k .serial)

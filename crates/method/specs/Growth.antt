@@ -10,13 +10,15 @@ use Rattle.method.specs.OneRecordList.{callsOf, disturb, isLast, observe
 use Rattle.method.specs.OneRecordList.{zeroed}
 use Rattle.method.specs.Parameters.{Parameters}
 use Rattle.method.specs.PlainList.{PlainList, plainNext, plainStart}
-use Rattle.method.specs.Rules.{Call, State, View, answerOf, nextState, ok, start}
+use Rattle.method.specs.Rules.{Call, State, View, answerOf, nextState, ok, stamped, start}
 
 -- ---- what a later paper changes
 pub record Growth (P : Parameters) : Type 1 where
   -- the kinds of placement, of setting, and of argument of start and place
   pub Placement : Type 0
   pub Setting : Type 0
+  pub Stamp : Type 0
+  pub Serial : Type 0
   pub StartArgument : Type 0
   pub PlaceArgument : Type 0
   -- how many copies and blocks a setting has, and which records and values are in range
@@ -35,12 +37,19 @@ pub record Growth (P : Parameters) : Type 1 where
   pub startRefusal : StartArgument → ℕ
   pub places : Placement → PlaceArgument → Placement
   pub placeInRange : PlaceArgument → Bool
-  pub placeRefusal : ControlPart (Parameters.Mask P) Placement Setting → PlaceArgument → ℕ
+  pub placeRefusal : ControlPart (Parameters.Mask P) Placement Setting Serial → PlaceArgument → ℕ
   -- the most active placements that a place call leaves
   pub placeLimit : Setting → ℕ
+  -- serials, and the stamps of cards
+  pub firstSerial : Serial
+  pub nextSerial : Serial → Serial
+  pub numbered : ControlPart (Parameters.Mask P) Placement Setting Serial → Type 0
+  pub noStamp : Stamp
+  pub stampOf : ControlPart (Parameters.Mask P) Placement Setting Serial → Stamp
   -- what a placement and a setting from before the paper are now
   pub older : Parameters.Placement P → Placement
   pub olderSetting : Parameters.Setting P → Setting
+  pub olderSerial : Parameters.Serial P → Serial
 
 -- The parameters under the later paper: all that it does not change stays.
 abbrev pub grown : (P : Parameters) → Growth P → Parameters
@@ -49,6 +58,13 @@ grown P G = record {
   Placement = G .Placement;
   Setting = G .Setting;
   Block = Parameters.Block P;
+  Stamp = G .Stamp;
+  Serial = G .Serial;
+  firstSerial = G .firstSerial;
+  nextSerial = G .nextSerial;
+  numbered = G .numbered;
+  noStamp = G .noStamp;
+  stampOf = G .stampOf;
   StartArgument = G .StartArgument;
   PlaceArgument = G .PlaceArgument;
   cards = Parameters.cards P;
@@ -90,11 +106,15 @@ module _ (P : Parameters) (G : Growth P) where
   abbrev pub grownControl : Control P → Control (grown P G)
   grownControl k =
       part (k .stopped) (map (G .older) (k .older)) (G .older (k .newest)) (k .working) (k .failed) (k .home)
-      (G .olderSetting (k .setting))
+      (G .olderSetting (k .setting)) (G .olderSerial (k .serial))
 
-  -- A state: no byte of a card table changes.
+  -- A state: no block changes, and the working cards get the newest placement's stamp.
   abbrev pub grownState : State P → State (grown P G)
-  grownState s = record { control = grownControl (s .control); block = s .block }
+  grownState s = record {
+    control = grownControl (s .control);
+    block = s .block;
+    stamp = stamped (grown P G) (grownControl (s .control)) (λ c. G .noStamp);
+  }
 
   -- A plain record list: no record changes.
   abbrev pub grownPlain : PlainList P → PlainList (grown P G)

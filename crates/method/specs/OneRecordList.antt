@@ -10,7 +10,7 @@ use Rattle.method.specs.PlainList.{PlainList, noBlocks, orRefused, plain
 use Rattle.method.specs.Rules.{Answer, Call, State, View, absent, answerOf, begin, commit, copied, delete, fail}
 use Rattle.method.specs.Rules.{fit, get, load, loaded, look, move, nextState, ok, place, placed, protected}
 use Rattle.method.specs.Rules.{refusal, refused, reply, retired, rollback, settle, start, state, stops, store}
-use Rattle.method.specs.Rules.{unplaced, unprotected, value, withdraw}
+use Rattle.method.specs.Rules.{stamped, unplaced, unprotected, value, withdraw}
 use Rattle.method.specs.Slots.{isNone, readBy}
 
 abbrev pub isZero : ℕ → Bool
@@ -18,7 +18,7 @@ isZero zero = true
 isZero (suc n) = false
 
 module _ (P : Parameters) where
-  open Parameters P using (StartArgument, has)
+  open Parameters P using (StartArgument, has, noStamp)
 
   -- ---- what is compared
   -- The answer of a get, store, delete, commit or rollback; of a fail, whether it stops the store; of the other calls
@@ -71,6 +71,7 @@ module _ (P : Parameters) where
   disturb noise s = record {
     control = s .control;
     block = λ c b. cond (has (s .control .failed) c) (noise c b) (s .block c b);
+    stamp = s .stamp;
   }
 
   -- A list of calls, each with the noise before it. Each call gets the tables as the last left them.
@@ -119,7 +120,11 @@ module _ (P : Parameters) where
 
   -- What a start leaves.
   abbrev pub zeroed : StartArgument → State P
-  zeroed a = record { control = startedBy P a; block = noBlocks P }
+  zeroed a = record {
+    control = startedBy P a;
+    block = noBlocks P;
+    stamp = stamped P (startedBy P a) (λ c. noStamp);
+  }
 
   -- DEMAND 3. After an accepted start on memory of any contents.
   unfoldable pub OneRecordList : Type 0

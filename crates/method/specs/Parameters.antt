@@ -11,7 +11,9 @@ pub record Parameters : Type 1 where
   pub Mask : Type 0
   pub Placement : Type 0
   pub Setting : Type 0
+  pub Serial : Type 0
   pub Block : Type 0
+  pub Stamp : Type 0
   pub StartArgument : Type 0
   pub PlaceArgument : Type 0
   -- ---- numbers
@@ -49,9 +51,16 @@ pub record Parameters : Type 1 where
   pub startRefusal : StartArgument → ℕ
   pub places : Placement → PlaceArgument → Placement
   pub placeInRange : PlaceArgument → Bool
-  pub placeRefusal : ControlPart Mask Placement Setting → PlaceArgument → ℕ
+  pub placeRefusal : ControlPart Mask Placement Setting Serial → PlaceArgument → ℕ
   -- the most active placements that a place call leaves
   pub placeLimit : Setting → ℕ
+  -- ---- serials: the first placement's, and the one that follows; what the serial must be beside the placements
+  pub firstSerial : Serial
+  pub nextSerial : Serial → Serial
+  pub numbered : ControlPart Mask Placement Setting Serial → Type 0
+  -- ---- stamps: what a card keeps of the placements; none, and the one that a new placement writes to every working card
+  pub noStamp : Stamp
+  pub stampOf : ControlPart Mask Placement Setting Serial → Stamp
   -- ---- blocks
   pub empty : Block
   pub fresh : Block

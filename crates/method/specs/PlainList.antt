@@ -6,7 +6,7 @@ use lib.ListN.{take}
 use mathlib.Core.Bool.{Bool, _&&_, _||_, cond, false, not, true}
 use mathlib.Core.Option.{Option, none, some}
 use Rattle.lists.specs.Tests.{allBelow, any, count}
-use Rattle.method.specs.Changes.{Control, replaced, startedBy}
+use Rattle.method.specs.Changes.{Control, addedBy, replaced, startedBy}
 use Rattle.method.specs.ControlPart.{active, added, begunAt, closed, isOpen, onlyNewest, opened, withCards}
 use Rattle.method.specs.Parameters.{Parameters}
 use Rattle.method.specs.Rules.{Answer, Call, View, begin, commit, delete, fail, fit, get, load, move, place}
@@ -93,7 +93,7 @@ module _ (P : Parameters) where
   plainAct (fit c) q =
       withControl q (withCards (q .control) (insert (q .control .working) c) (remove (q .control .failed) c))
   plainAct (withdraw c) q = withControl q (withCards (q .control) (remove (q .control .working) c) (q .control .failed))
-  plainAct (place a) q = withControl q (added (q .control) (places (q .control .newest) a))
+  plainAct (place a) q = withControl q (addedBy P (q .control) (places (q .control .newest) a))
   plainAct (fail c) q = endRecords q false (begunAt (q .control) c) (replaced P (q .control) c)
   plainAct (move c b) q = q
   plainAct settle q = withControl q (onlyNewest (q .control))

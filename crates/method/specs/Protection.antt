@@ -13,7 +13,7 @@ use Rattle.method.specs.Rules.{Answer, Call, State, View, answerOf, fail
 use Rattle.method.specs.Rules.{start, state, unprotected}
 
 module _ (P : Parameters) where
-  open Parameters P using (Mask, Placement, Setting, StartArgument, cards, copies, has, mask)
+  open Parameters P using (Mask, Placement, Setting, Serial, StartArgument, cards, copies, has, mask)
 
   -- A placement withstands the failure of any one of its working cards: with one failed member more they are still
   -- fewer than copies, and with one working member less still as many.

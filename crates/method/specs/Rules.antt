@@ -6,7 +6,7 @@ use mathlib.Core.Bool.{Bool, _&&_, _||_, cond, false, not, true}
 use mathlib.Core.List.{List, [], _∷_}
 use mathlib.Core.Option.{Option, none, some}
 use Rattle.lists.specs.Tests.{all, allBelow, any, anyBelow, concatMap, count, countNot, elem, keepIf, sumBelow}
-use Rattle.method.specs.Changes.{Control, marked, replaced, startedBy}
+use Rattle.method.specs.Changes.{Control, addedBy, marked, replaced, startedBy}
 use Rattle.method.specs.ControlPart.{active, added, begunAt, closed, halted, isOpen, onlyNewest, opened}
 use Rattle.method.specs.ControlPart.{withCards}
 use Rattle.method.specs.Parameters.{Parameters}
@@ -61,10 +61,10 @@ pub data AnswerOf (M : Type 0) : Type 0 where
   refused : ℕ → AnswerOf M
 
 module _ (P : Parameters) where
-  open Parameters P using (Mask, Placement, Setting, Block, StartArgument, PlaceArgument, cards, transactions, slots)
+  open Parameters P using (Mask, Placement, Setting, Serial, Block, Stamp, StartArgument, PlaceArgument, cards, transactions, slots)
   open Parameters P using (copies, blocks, tranInRange, recInRange, valueInRange, blockOf, placeOf, has, insert, remove)
   open Parameters P using (mask, sites, without, startRefusal, places, placeInRange, placeRefusal, empty, fresh, held)
-  open Parameters P using (slot, lockSlot, endSlots)
+  open Parameters P using (slot, lockSlot, endSlots, noStamp, stampOf)
 
   abbrev pub Call : Type 0
   Call = CallOf StartArgument PlaceArgument
@@ -79,6 +79,7 @@ module _ (P : Parameters) where
   pub record State : Type 0 where
     pub control : Control P
     pub block : View
+    pub stamp : ℕ → Stamp
 
   -- ---- what a call may read
   -- A card that does not work is not read, nor a block above the setting: such a block is as one that is not held.
@@ -218,13 +219,29 @@ module _ (P : Parameters) where
     pub answer : Answer
     pub after : Control P
     pub write : ℕ → ℕ → Option Block
+    pub stamps : ℕ → Option Stamp
 
   -- A plan that writes no block, and one that writes some.
   abbrev pub unwritten : Answer → Control P → Plan
-  unwritten a k = record { answer = a; after = k; write = λ c b. none }
+  unwritten a k = record { answer = a; after = k; write = λ c b. none; stamps = λ c. none }
 
   abbrev pub writing : Answer → Control P → (ℕ → ℕ → Option Block) → Plan
-  writing a k w = record { answer = a; after = k; write = w }
+  writing a k w = record { answer = a; after = k; write = w; stamps = λ c. none }
+
+  -- The same plan, and stamps are written.
+  abbrev pub stamping : Plan → (ℕ → Option Stamp) → Plan
+  stamping p m = record { answer = p .answer; after = p .after; write = p .write; stamps = m }
+
+  -- A new placement's stamp goes to every working card; a card's stamp is zeroed.
+  unfoldable pub stampAll : Control P → ℕ → Option Stamp
+  stampAll k c = cond (has (k .working) c) (some (stampOf k)) none
+
+  unfoldable pub clearStamp : ℕ → ℕ → Option Stamp
+  clearStamp out c = cond (eqb c out) (some noStamp) none
+
+  -- Every card's stamp after that.
+  unfoldable pub stamped : Control P → (ℕ → Stamp) → ℕ → Stamp
+  stamped k m c = updated (stampAll k c) (m c)
 
   -- get: a value, or absent.
   abbrev pub reply : Option ℕ → Answer
@@ -271,12 +288,19 @@ module _ (P : Parameters) where
   abbrev pub failAnswer : Control P → ℕ → Answer
   failAnswer k c = cond (has (mask (k .newest)) c) (placed (mask (without (k .newest) c))) unplaced
 
+  -- fail, the store goes on: the whole plan.
+  abbrev pub failPlan : Control P → View → ℕ → Plan
+  failPlan k v c =
+      stamping (writing (failAnswer k c) (replaced P k c) (dropHeld (begunAt k c) c v))
+      (λ x. cond (has (mask (k .newest)) c) (stampAll (replaced P k c) x) none)
+
   -- load: how many records are committed present in the card's held blocks.
   abbrev pub committedIn : Block → ℕ
   committedIn x = cond (held x) (count slots (λ i. isSome ((slot x i) .committed))) 0
 
   unfoldable pub act : Call → Control P → View → Plan
-  act (start a) k v = writing ok (startedBy P a) (λ c b. some empty)
+  act (start a) k v =
+      stamping (writing ok (startedBy P a) (λ c b. some empty)) (λ c. some (stamped (startedBy P a) (λ c. noStamp) c))
   act (begin t h) k v = unwritten ok (opened k t h)
   act (get t r) k v = unwritten (reply (readBy t (seenSlot k v r))) k
   act (store t r n) k v = writing ok k (storeWrites k v t r n (holders k v (blockOf r)))
@@ -284,12 +308,14 @@ module _ (P : Parameters) where
       cond (isNone (readBy t (seenSlot k v r))) (unwritten absent k) (writing ok k (lockHolders k v t r none))
   act (commit t) k v = writing ok (closed k (λ x. eqb x t)) (endHeld true (λ x. eqb x t) v)
   act (rollback t) k v = writing ok (closed k (λ x. eqb x t)) (endHeld false (λ x. eqb x t) v)
-  act (fit c) k v = writing ok (withCards k (insert (k .working) c) (remove (k .failed) c)) (clearCard c)
-  act (withdraw c) k v = writing ok (withCards k (remove (k .working) c) (k .failed)) (clearCard c)
-  act (place a) k v = unwritten ok (added k (places (k .newest) a))
+  act (fit c) k v =
+      stamping (writing ok (withCards k (insert (k .working) c) (remove (k .failed) c)) (clearCard c)) (clearStamp c)
+  act (withdraw c) k v = stamping (writing ok (withCards k (remove (k .working) c) (k .failed)) (clearCard c)) (clearStamp c)
+  act (place a) k v =
+      stamping (unwritten ok (addedBy P k (places (k .newest) a))) (stampAll (addedBy P k (places (k .newest) a)))
   act (fail c) k v = cond (stopping k c)
       (writing stops (halted (marked P k c)) (dropHeld (isOpen k) c v))
-      (writing (failAnswer k c) (replaced P k c) (dropHeld (begunAt k c) c v))
+      (failPlan k v c)
   act (move c b) k v = writing (copied (countNot (λ x. held (v x b)) (newestSites k b))) k (moveWrites k v c b)
   act settle k v = unwritten (retired (length (k .older))) (onlyNewest k)
   act state k v = unwritten (cond (isProtected k) protected unprotected) k
@@ -304,7 +330,11 @@ module _ (P : Parameters) where
   plan c k v = guarded (refusal c k v) k (act c k v)
 
   unfoldable pub apply : Plan → State → State
-  apply p s = record { control = p .after; block = λ c b. updated (p .write c b) (s .block c b) }
+  apply p s = record {
+    control = p .after;
+    block = λ c b. updated (p .write c b) (s .block c b);
+    stamp = λ c. updated (p .stamps c) (s .stamp c);
+  }
 
   unfoldable pub answerOf : Call → State → Answer
   answerOf c s = plan c (s .control) (look s) .answer

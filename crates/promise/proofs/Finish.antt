@@ -6,21 +6,22 @@ use lib.Dec.{eqb}
 use lib.ListN.{length}
 use mathlib.Core.Bool.{Bool, false, not, true}
 use mathlib.Core.Logic.{_≢_}
-use mathlib.Core.Option.{none}
+use mathlib.Core.Option.{Option, none}
 use mathlib.Core.Path.{_∙_, _≡_, ap, ap₂, refl, sym}
 use Rattle.lists.proofs.Bools.{not-not-is}
 use Rattle.image.specs.Layout.{Whole, imageSize}
 use Rattle.method.specs.PlainList.{orRefused}
-use Rattle.method.specs.Rules.{Call, Plan, row, unwritten, writing}
+use Rattle.method.specs.Rules.{Call, Plan, row, stamping, unwritten, writing}
 use Rattle.method.proofs.Refusals.{row-clear}
-use Rattle.control.specs.ControlBytes.{Part, controlByte}
+use Rattle.control.specs.ControlBytes.{Part}
 use Rattle.control_form.specs.ControlForm.{controlForm, formRefusal}
 use Rattle.control.specs.Meaning.{putControl}
 use Rattle.control_form.specs.Reading.{Reads}
 use Rattle.control.specs.declared.Control.{Control}
 use Rattle.control_form.specs.declared.Found.{Found}
 use Rattle.cabinet_rules.specs.Cabinet.{cabinet}
-use Rattle.cabinet_rules.specs.Images.{Image, Writes, after, answer, answerBy, controlIn, isStart, nextBy, planOn}
+use Rattle.cabinet_rules.specs.Delivery.{current}
+use Rattle.cabinet_rules.specs.Images.{Image, Writes, afterPlan, answer, answerBy, controlIn, isStart, nextBy, planOn}
 use Rattle.cabinet_rules.specs.Images.{refusalBy, refusalOn, unlessRefusedImage}
 use Rattle.promise.specs.Given.{Given, rowsOn}
 use Rattle.promise.specs.Promise.{Done, shown}
@@ -75,13 +76,13 @@ module _ (c : Call cabinet) (late : isStart c ≡ false) (g : Image) where
 
     -- accepted: the plan's answer, and the image after the plan
     pub by-plan : (a : AnswerValue) (p : Plan cabinet) (behind : Image) → 0 ≡ rowsOn c g → planOn c g ≡ p
-        → shown a ≡ p .answer → behind ≡ after (controlByte (p .after)) (p .write) g → Done c g a behind
+        → shown a ≡ p .answer → behind ≡ afterPlan current p g → Done c g a behind
     unfolding answerBy nextBy
     by-plan a p behind e q s l =
         let r : refusalOn c g ≡ 0 = refusal-rules ∙ sym e in
         record {
           answers = s ∙ sym (ap₂ (λ (n : ℕ) (p : Plan cabinet). orRefused cabinet n (p .answer)) r q);
-          leaves = l ∙ sym (ap₂ (λ (n : ℕ) (p : Plan cabinet). unlessRefusedImage n g (after (controlByte (p .after)) (p .write) g)) r q);
+          leaves = l ∙ sym (ap₂ (λ (n : ℕ) (p : Plan cabinet). unlessRefusedImage n g (afterPlan current p g)) r q);
         }
 
     -- accepted, blocks are written and the control part stays
@@ -90,14 +91,15 @@ module _ (c : Call cabinet) (late : isStart c ≡ false) (g : Image) where
     by-blocks a w behind e q l = by-plan a (writing cabinet (shown a) (controlIn g) w) behind e q refl (l ∙ sym (kept-control w g (form-good g clear)))
 
     -- accepted, blocks are written and then the control part
-    pub by-both : (a : AnswerValue) (k : Part) (w : Writes) (behind : Image) → 0 ≡ rowsOn c g → planOn c g ≡ writing cabinet (shown a) k w
+    pub by-both : (a : AnswerValue) (k : Part) (w : Writes) (behind : Image) {m : ℕ → Option (current .Stamp)} → 0 ≡ rowsOn c g → planOn c g ≡ stamping cabinet (writing cabinet (shown a) k w) m
         → behind ≡ putControl (laid w g) k → Done c g a behind
-    by-both a k w behind e q l = by-plan a (writing cabinet (shown a) k w) behind e q refl (l ∙ write-control w g k)
+    by-both a k w behind {m} e q l = by-plan a (stamping cabinet (writing cabinet (shown a) k w) m) behind e q refl
+        (l ∙ write-control w g k _)
 
     -- accepted, and only the control part changes
-    pub by-control : (a : AnswerValue) (k : Part) (behind : Image) → 0 ≡ rowsOn c g → planOn c g ≡ unwritten cabinet (shown a) k
+    pub by-control : (a : AnswerValue) (k : Part) (behind : Image) {m : ℕ → Option (current .Stamp)} → 0 ≡ rowsOn c g → planOn c g ≡ stamping cabinet (unwritten cabinet (shown a) k) m
         → behind ≡ putControl g k → Done c g a behind
-    by-control a k behind e q l = by-both a k (λ c b. none) behind e q (l ∙ ap (λ (i : Image). putControl i k) (laid-none (λ c b. none) g (form-long g clear) (λ c b hc hb. refl)))
+    by-control a k behind {m} e q l = by-both a k (λ c b. none) behind {m = m} e q (l ∙ ap (λ (i : Image). putControl i k) (laid-none (λ c b. none) g (form-long g clear) (λ c b hc hb. refl)))
 
     -- accepted, and nothing changes
     pub by-look : (a : AnswerValue) → 0 ≡ rowsOn c g → planOn c g ≡ unwritten cabinet (shown a) (controlIn g) → Done c g a g

@@ -15,7 +15,7 @@ use Rattle.lists.proofs.Bools.{eqb-self, tf}
 use Rattle.lists.proofs.Cases.{by-pair, lt-or-ge}
 use Rattle.lists.proofs.Segments.{getD-after, getD-before}
 use Rattle.image.specs.Layout.{Whole, blockAddress, blockAt, blockCount, blockSize, cardCount, controlBytes}
-use Rattle.image.specs.Layout.{controlSize, imageSize, putBlock}
+use Rattle.image.specs.Layout.{controlSize, endStartOf, imageSize, layout, putBlock, tailStartOf}
 use Rattle.image.proofs.Blocks.{put-same, byte-of-block, byte-of-control, control-put, length-block, put-other, whole-put}
 use Rattle.image.proofs.Parts.{part-block}
 use Rattle.slot.specs.Blocks.{BlockBytes, ofList}
@@ -26,9 +26,9 @@ use Rattle.control_form.specs.ControlForm.{controlForm}
 use Rattle.control.specs.Meaning.{putControl}
 use Rattle.control_form.proofs.Put.{length-put, put-after, put-blocks, put-in}
 use Rattle.control_form.proofs.RoundTrip.{control-back}
-use Rattle.cabinet_rules.specs.Images.{Image, Writes, after, blockIn, blockNumber, cardAt, controlIn, isBlockByte}
-use Rattle.cabinet_rules.proofs.After.{after-block, after-control, after-ext, after-tail, block-of, card-of}
-use Rattle.cabinet_rules.proofs.After.{length-after}
+use Rattle.cabinet_rules.specs.Delivery.{current}
+use Rattle.cabinet_rules.specs.Images.{Ends, Image, Writes, after, blockIn, controlIn, endIn, tailIn}
+use Rattle.cabinet_rules.proofs.After.{after-block, after-control, after-end, after-ext, after-tail, length-after}
 
 -- ---- the blocks of an image as lists and as the rules have them
 pub block-is : (g : Image) → Whole g → (c b : ℕ) → c < cardCount → b < blockCount → blockIn g c b .0 ≡ blockAt g c b
@@ -47,13 +47,9 @@ pub of-part : (g : Image) → Whole g → (c b : ℕ) → c < cardCount → b < 
     → ofList (midOf a k g) ≡ blockIn g c b
 of-part g w c b hc hb a k ea ek = ap ofList (part-block g c b a k ea ek) ∙ of-block g w c b hc hb
 
--- no byte lies behind the blocks of a table, or behind the tables
-no-tail : (n : ℕ) → controlSize ≤ n → n < imageSize → isBlockByte n ≡ true
-no-tail n l h = rw (lt-ltb (cardAt n) cardCount (omega arith), lt-ltb (blockNumber n) blockCount (omega arith))
-
--- ---- the image with the blocks w, its control bytes as found
+-- ---- the image with the blocks w, its control bytes and what lies behind blocks as found
 unfoldable pub laid : Writes → Image → Image
-laid w g = after (λ n. getD g n 0) w g
+laid w g = after (λ n. getD g n 0) (tailIn g) w (λ c. none) g
 
 -- one block more
 abbrev pub putOne : Writes → ℕ → ℕ → BlockBytes → Writes
@@ -64,101 +60,87 @@ pub put-elsewhere : (w : Writes) (c b : ℕ) (x : BlockBytes) (d e : ℕ) → (d
 put-elsewhere w c b x d e (inl n) = rw (ne-eqb d c n)
 put-elsewhere w c b x d e (inr n) = ap (λ (t : Bool). cond t (some x) (w d e)) (ap (λ (t : Bool). eqb d c && t) (ne-eqb e b n) ∙ and-false (eqb d c))
 
--- what lies outside the blocks is not written by a put
-outside : (g : Image) → Whole g → (c b : ℕ) → c < cardCount → b < blockCount → (xs : List ℕ) → length xs ≡ blockSize
-    → (n : ℕ) → controlSize ≤ n → isBlockByte n ≡ false → getD (putBlock g c b xs) n 0 ≡ getD g n 0
-unfolding putBlock
-outside g w c b hc hb xs e n l off = ⊎-elim
-    (λ (p : n < blockAddress c b). getD-before g (blockAddress c b) xs n (omega arith) p)
-    (λ (p : blockAddress c b ≤ n). ⊎-elim
-    (λ (q : n < blockAddress c b + blockSize). absurd (inside (n - blockAddress c b) (omega arith) (omega arith)))
-    (λ (q : blockAddress c b + blockSize ≤ n). getD-after g (blockAddress c b) xs n (omega arith) (omega arith))
-    (lt-or-ge n (blockAddress c b + blockSize)))
-    (lt-or-ge n (blockAddress c b))
-  where
-    inside : (j : ℕ) → j < blockSize → n ≡ blockAddress c b + j → ⊥
-    inside j h is =
-        let p : cardAt n ≡ c = ap cardAt is ∙ card-of c b j hb h in
-        let q : blockNumber n ≡ b = ap blockNumber is ∙ block-of c b j hb h in
-        tf (isBlockByte n) (rw (p, q, lt-ltb c cardCount hc, lt-ltb b blockCount hb)) off
+-- what lies behind the blocks of a table and behind the tables is not written by a put
+module _ (g : Image) (w : Whole g) (c b : ℕ) (hc : c < cardCount) (hb : b < blockCount) (xs : List ℕ) (e : length xs ≡ blockSize) where
+  put-tail : (n : ℕ) → n < layout .imageTail → tailIn (putBlock g c b xs) n ≡ tailIn g n
+  unfolding putBlock
+  put-tail n h = getD-after g (blockAddress c b) xs (tailStartOf layout + n) (omega arith) (omega arith)
+
+  put-end : (d j : ℕ) → d < cardCount → j < layout .tableTail → endIn (putBlock g c b xs) d j ≡ endIn g d j
+  unfolding putBlock
+  put-end d j hd hj = ⊎-elim
+      (λ (p : d < c). getD-before g (blockAddress c b) xs (endStartOf layout d + j) (omega arith) (omega arith))
+      (λ (p : c ≤ d). getD-after g (blockAddress c b) xs (endStartOf layout d + j) (omega arith) (omega arith))
+      (lt-or-ge d c)
 
 module _ (w : Writes) (g : Image) where
+  abbrev low : ℕ → ℕ
+  low n = getD g n 0
+
   pub whole-laid : Whole (laid w g)
   unfolding laid
-  whole-laid = length-after (λ n. getD g n 0) w g
+  whole-laid = length-after layout low (tailIn g) w (λ c. none) g
+
+  pub laid-in : (c b : ℕ) → c < cardCount → b < blockCount → blockIn (laid w g) c b ≡ updated (w c b) (blockIn g c b)
+  unfolding laid
+  laid-in = after-block layout low (tailIn g) w (λ c. none) g
 
   pub laid-block : (c b : ℕ) → c < cardCount → b < blockCount → blockAt (laid w g) c b ≡ updated (w c b) (blockIn g c b) .0
-  unfolding laid
-  laid-block c b hc hb = sym (block-is (laid w g) whole-laid c b hc hb) ∙ ap (λ (x : BlockBytes). x .0) (after-block (λ n. getD g n 0) w g c b hc hb)
+  laid-block c b hc hb = sym (block-is (laid w g) whole-laid c b hc hb) ∙ ap (λ (x : BlockBytes). x .0) (laid-in c b hc hb)
 
   pub laid-control : (n : ℕ) → n < controlSize → getD (laid w g) n 0 ≡ getD g n 0
   unfolding laid
-  laid-control n h = after-control (λ n. getD g n 0) w g n h
+  laid-control = after-control layout low (tailIn g) w (λ c. none) g
 
-  laid-tail : (n : ℕ) → controlSize ≤ n → n < imageSize → isBlockByte n ≡ false → getD (laid w g) n 0 ≡ getD g n 0
+  pub laid-tail : (n : ℕ) → n < layout .imageTail → tailIn (laid w g) n ≡ tailIn g n
   unfolding laid
-  laid-tail = after-tail (λ n. getD g n 0) w g
+  laid-tail = after-tail layout low (tailIn g) w (λ c. none) g
+
+  pub laid-end : (c j : ℕ) → c < cardCount → j < layout .tableTail → endIn (laid w g) c j ≡ endIn g c j
+  unfolding laid
+  laid-end = after-end layout low (tailIn g) w (λ c. none) g
 
   -- an image that agrees with g outside the blocks and has these blocks
   pub laid-ext : (out : Image) → Whole out → ((n : ℕ) → n < controlSize → getD out n 0 ≡ getD g n 0)
+      → ((n : ℕ) → n < layout .imageTail → tailIn out n ≡ tailIn g n)
       → ((c b : ℕ) → c < cardCount → b < blockCount → blockAt out c b ≡ updated (w c b) (blockIn g c b) .0)
-      → ((n : ℕ) → controlSize ≤ n → n < imageSize → isBlockByte n ≡ false → getD out n 0 ≡ getD g n 0) → out ≡ laid w g
+      → ((c j : ℕ) → c < cardCount → j < layout .tableTail → endIn out c j ≡ endIn g c j) → out ≡ laid w g
   unfolding laid
-  laid-ext out long low blk tail = after-ext (λ n. getD g n 0) w g out long low (λ c b hc hb. is-block out long c b hc hb (updated (w c b) (blockIn g c b)) (blk c b hc hb)) tail
-
-  -- the same by the blocks alone: they are all that lies behind the control bytes
-  pub laid-blocks : (out : Image) → Whole out → ((n : ℕ) → n < controlSize → getD out n 0 ≡ getD g n 0)
-      → ((c b : ℕ) → c < cardCount → b < blockCount → blockAt out c b ≡ updated (w c b) (blockIn g c b) .0) → out ≡ laid w g
-  laid-blocks out long low blk = laid-ext out long low blk (λ n l h off. tf (isBlockByte n) (no-tail n l h) off)
+  laid-ext out long front behind blk ends = after-ext layout low (tailIn g) w (λ c. none) g out long front behind
+      (λ c b hc hb. is-block out long c b hc hb (updated (w c b) (blockIn g c b)) (blk c b hc hb)) ends
 
   -- nothing is written
   pub laid-none : Whole g → ((c b : ℕ) → c < cardCount → b < blockCount → w c b ≡ none) → g ≡ laid w g
-  laid-none long nil = laid-ext g long (λ n h. refl) (λ c b hc hb. rw (nil c b hc hb) (sym (block-is g long c b hc hb))) (λ n l h e. refl)
+  laid-none long nil = laid-ext g long (λ n h. refl) (λ n h. refl) (λ c b hc hb. rw (nil c b hc hb) (sym (block-is g long c b hc hb))) (λ c j hc hj. refl)
 
+module _ (w : Writes) (g : Image) where
   -- the same is written
   pub laid-same : (v : Writes) → ((c b : ℕ) → c < cardCount → b < blockCount → updated (w c b) (blockIn g c b) ≡ updated (v c b) (blockIn g c b)) → laid w g ≡ laid v g
-  laid-same v e = sym (laid-ext (laid v g) (long-v) low blk tail)
-    where
-      long-v : Whole (laid v g)
-      long-v = unfold laid in length-after (λ n. getD g n 0) v g
-
-      low : (n : ℕ) → n < controlSize → getD (laid v g) n 0 ≡ getD g n 0
-      low n h = unfold laid in after-control (λ n. getD g n 0) v g n h
-
-      blk : (c b : ℕ) → c < cardCount → b < blockCount → blockAt (laid v g) c b ≡ updated (w c b) (blockIn g c b) .0
-      blk c b hc hb =
-          let there : blockIn (laid v g) c b ≡ updated (v c b) (blockIn g c b) = unfold laid in after-block (λ n. getD g n 0) v g c b hc hb in
-          sym (block-is (laid v g) long-v c b hc hb) ∙ ap (λ (x : BlockBytes). x .0) (there ∙ sym (e c b hc hb))
-
-      tail : (n : ℕ) → controlSize ≤ n → n < imageSize → isBlockByte n ≡ false → getD (laid v g) n 0 ≡ getD g n 0
-      tail n l h o = unfold laid in after-tail (λ n. getD g n 0) v g n l h o
+  laid-same v e = sym (laid-ext w g (laid v g) (whole-laid v g) (laid-control v g) (laid-tail v g)
+      (λ c b hc hb. laid-block v g c b hc hb ∙ ap (λ (x : BlockBytes). x .0) (sym (e c b hc hb))) (laid-end v g))
 
   -- a block is put
   pub laid-put : (c b : ℕ) → c < cardCount → b < blockCount → (x : BlockBytes) → putBlock (laid w g) c b (x .0) ≡ laid (putOne w c b x) g
-  laid-put c b hc hb x = put (putBlock (laid w g) c b (x .0)) refl
+  laid-put c b hc hb x = laid-ext (putOne w c b x) g (putBlock (laid w g) c b (x .0)) (whole-put (laid w g) (whole-laid w g) c hc b hb (x .0) (x .1))
+      (λ n h. sym (byte-of-control (putBlock (laid w g) c b (x .0)) n h) ∙ ap (λ (l : Image). getD l n 0) (control-put (laid w g) (whole-laid w g) c hc b hb (x .0) (x .1)) ∙ byte-of-control (laid w g) n h ∙ laid-control w g n h)
+      (λ n h. put-tail (laid w g) (whole-laid w g) c b hc hb (x .0) (x .1) n h ∙ laid-tail w g n h)
+      there
+      (λ d j hd hj. put-end (laid w g) (whole-laid w g) c b hc hb (x .0) (x .1) d j hd hj ∙ laid-end w g d j hd hj)
     where
       there : (d e : ℕ) → d < cardCount → e < blockCount → blockAt (putBlock (laid w g) c b (x .0)) d e ≡ updated (putOne w c b x d e) (blockIn g d e) .0
       there d e hd he = by-pair (blockAt (putBlock (laid w g) c b (x .0)) d e ≡ updated (putOne w c b x d e) (blockIn g d e) .0) d c e b
-          (λ p q. rw (p, q, eqb-self c, eqb-self b) (put-same (laid w g) whole-laid c hc b hb (x .0) (x .1)))
-          (λ n. put-other (laid w g) whole-laid c hc b hb (x .0) (x .1) d hd e he n ∙ laid-block d e hd he
-          ∙ ap (λ (o : Option BlockBytes). updated o (blockIn g d e) .0) (sym (put-elsewhere w c b x d e n)))
-
-      put : (out : Image) → out ≡ putBlock (laid w g) c b (x .0) → out ≡ laid (putOne w c b x) g
-      put out is = unfold laid in (after-ext (λ n. getD g n 0) (putOne w c b x) g out long
-          (λ n h. sym (byte-of-control out n h) ∙ ap (λ (l : Image). getD l n 0) (ap controlBytes is ∙ control-put (laid w g) whole-laid c hc b hb (x .0) (x .1))
-          ∙ byte-of-control (laid w g) n h ∙ laid-control n h)
-          (λ d e hd he. is-block out long d e hd he (updated (putOne w c b x d e) (blockIn g d e)) (ap (λ (l : Image). blockAt l d e) is ∙ there d e hd he))
-          (λ n l h o. ap (λ (i : Image). getD i n 0) is ∙ outside (laid w g) whole-laid c b hc hb (x .0) (x .1) n l o ∙ laid-tail n l h o))
-        where
-          long : Whole out
-          long = ap length is ∙ whole-put (laid w g) whole-laid c hc b hb (x .0) (x .1)
+          (λ p q. rw (p, q, eqb-self c, eqb-self b) (put-same (laid w g) (whole-laid w g) c hc b hb (x .0) (x .1)))
+          (λ n. put-other (laid w g) (whole-laid w g) c hc b hb (x .0) (x .1) d hd e he n ∙ laid-block w g d e hd he ∙ ap (λ (o : Option BlockBytes). updated o (blockIn g d e) .0) (sym (put-elsewhere w c b x d e n)))
 
 -- ---- the control part is written over the blocks
-pub write-control : (w : Writes) (g : Image) (k : Part) → putControl (laid w g) k ≡ after (controlByte k) w g
-write-control w g k = after-ext (controlByte k) w g (putControl (laid w g) k) long
+-- its bytes behind the tables are the ones that are there
+pub write-front : (w : Writes) (g : Image) (k : Part) → ((n : ℕ) → n < layout .imageTail → current .tail k n ≡ tailIn g n)
+    → putControl (laid w g) k ≡ after (controlByte k) (current .tail k) w (λ c. none) g
+write-front w g k keeps = after-ext layout (controlByte k) (current .tail k) w (λ c. none) g (putControl (laid w g) k) long
     (λ n h. put-in (laid w g) k fits n h)
+    (λ n h. put-after (laid w g) k fits (tailStartOf layout + n) (omega arith) ∙ laid-tail w g n h ∙ sym (keeps n h))
     (λ c b hc hb. is-block (putControl (laid w g) k) long c b hc hb (updated (w c b) (blockIn g c b)) (put-blocks (laid w g) k fits (whole-laid w g) c hc b hb ∙ laid-block w g c b hc hb))
-    (λ n l h o. put-after (laid w g) k fits n l ∙ unfold laid in (after-tail (λ n. getD g n 0) w g n l h o))
+    (λ c j hc hj. put-after (laid w g) k fits (endStartOf layout c + j) (omega arith) ∙ laid-end w g c j hc hj)
   where
     fits : controlSize ≤ length (laid w g)
     fits = omega (arith, whole-laid w g)
@@ -166,10 +148,26 @@ write-control w g k = after-ext (controlByte k) w g (putControl (laid w g) k) lo
     long : length (putControl (laid w g) k) ≡ imageSize
     long = length-put (laid w g) k fits ∙ whole-laid w g
 
+-- no stamp is written where no byte lies behind the blocks
+pub no-ends : (k : Part) (w : Writes) (e : Ends) (g : Image) → layout .tableTail ≡ 0
+    → after (controlByte k) (current .tail k) w (λ c. none) g ≡ after (controlByte k) (current .tail k) w e g
+no-ends k w e g z = after-ext layout (controlByte k) (current .tail k) w e g (after (controlByte k) (current .tail k) w (λ c. none) g)
+    (length-after layout (controlByte k) (current .tail k) w (λ c. none) g)
+    (after-control layout (controlByte k) (current .tail k) w (λ c. none) g)
+    (after-tail layout (controlByte k) (current .tail k) w (λ c. none) g)
+    (after-block layout (controlByte k) (current .tail k) w (λ c. none) g)
+    (λ c j hc hj. absurd (omega arith))
+
+-- so with neither
+pub write-control : (w : Writes) (g : Image) (k : Part) (e : Ends) → putControl (laid w g) k ≡ after (controlByte k) (current .tail k) w e g
+write-control w g k e = write-front w g k (λ n h. absurd (omega arith)) ∙ no-ends k w e g refl
+
 -- a control part that is written as it was read stays
-pub kept-control : (w : Writes) (g : Image) → controlForm g ≡ true → after (controlByte (controlIn g)) w g ≡ laid w g
+pub kept-control : (w : Writes) (g : Image) → controlForm g ≡ true → after (controlByte (controlIn g)) (current .tail (controlIn g)) w (λ c. none) g ≡ laid w g
 unfolding laid
-kept-control w g form = after-ext (λ n. getD g n 0) w g (after (controlByte (controlIn g)) w g) (length-after (controlByte (controlIn g)) w g)
-    (λ n h. after-control (controlByte (controlIn g)) w g n h ∙ control-back (λ n. getD g n 0) form n h)
-    (after-block (controlByte (controlIn g)) w g)
-    (after-tail (controlByte (controlIn g)) w g)
+kept-control w g form = after-ext layout (λ n. getD g n 0) (tailIn g) w (λ c. none) g (after (controlByte (controlIn g)) (current .tail (controlIn g)) w (λ c. none) g)
+    (length-after layout (controlByte (controlIn g)) (current .tail (controlIn g)) w (λ c. none) g)
+    (λ n h. after-control layout (controlByte (controlIn g)) (current .tail (controlIn g)) w (λ c. none) g n h ∙ control-back (λ n. getD g n 0) form n h)
+    (λ n h. absurd (omega arith))
+    (after-block layout (controlByte (controlIn g)) (current .tail (controlIn g)) w (λ c. none) g)
+    (after-end layout (controlByte (controlIn g)) (current .tail (controlIn g)) w (λ c. none) g)

@@ -19,7 +19,7 @@ use Rattle.method.proofs.Moves.{moved}
 use Rattle.cabinet_rules.specs.Cabinet.{cabinet}
 use Rattle.cabinet_rules.specs.Claims.{NoStopBy, NoisyCall, imageAfter, imageAfterBy, imageCalls, noisy}
 use Rattle.cabinet_rules.specs.Delivery.{PartOf, current}
-use Rattle.cabinet_rules.specs.Images.{Image, answer, controlIn, next, nextBy, refusalBy, stateIn, unlessRefusedImage}
+use Rattle.cabinet_rules.specs.Images.{Image, answer, controlIn, formBy, next, nextBy, refusalBy, stateIn, unlessRefusedImage}
 use Rattle.cabinet_rules.specs.MoveLists.{AreMoves, ListSettles, NeverSettles, NoShorterList, NoneIsFinal, NoneIsFinalFromEarlier}
 use Rattle.cabinet_rules.specs.MoveLists.{listAnswerOn, listRefusal, movesOn}
 use Rattle.cabinet_rules.proofs.Form.{currentLaws}
@@ -127,7 +127,7 @@ idle = fit cardCount
 
 idle-leaves : (g : Image) → next idle g ≡ g
 unfolding nextBy refusalBy refusal
-idle-leaves g = leaves (not (eqb (length g) imageSize)) (not (current .form (λ n. getD g n 0))) _
+idle-leaves g = leaves (not (eqb (length g) imageSize)) (not (formBy current g)) _
   where
     leaves : (a b : Bool) (changed : Image) → unlessRefusedImage (row 1 a (row 2 b 3)) g changed ≡ g
     leaves true b changed = refl

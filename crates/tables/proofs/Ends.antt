@@ -27,7 +27,7 @@ use Rattle.slot.proofs.Words.{slot-in-range}
 use Rattle.method.specs.Rules.{dropHeld, endHeld, look, updated}
 use Rattle.cabinet_rules.specs.Cabinet.{cabinet}
 use Rattle.cabinet_rules.specs.Images.{Image, blockIn, controlIn, stateIn}
-use Rattle.promise.proofs.Laid.{block-is, laid, laid-blocks, laid-none, laid-same, of-block}
+use Rattle.promise.proofs.Laid.{block-is, laid, laid-ext, laid-none, laid-same, of-block}
 use Rattle.promise.proofs.View.{look-is}
 use Rattle.tables.specs.Tables.{endWrites, endedOn, endedTable, setOf}
 use Rattle.tables.proofs.Sets.{in-set-of}
@@ -115,8 +115,9 @@ module _ (working : Byte) (take : Bool) (f : ℕ → Bool) where
 
     pub all-ended : upTo cardCount g ≡ laid (endWrites working take f g) g
     unfolding endWrites
-    all-ended = laid-blocks (endWrites working take f g) g out long-out control-out
+    all-ended = laid-ext (endWrites working take f g) g out long-out control-out (λ n h. absurd (omega arith))
         (λ c b hc hb. block-out c b hc hb ∙ written (hasCard working c) c b hc hb)
+        (λ c j hc hj. absurd (omega arith))
 
 -- ---- nothing is picked: nothing changes
 pub none-ended : (working : Byte) (take : Bool) (set : ℕ) (g : Image) → Whole g → set ≡ 0 → g ≡ laid (endWrites working take (inSet set) g) g

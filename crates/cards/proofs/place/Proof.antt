@@ -51,8 +51,8 @@ same-length-3 : tie.Need-same-length-3
 same-length-3 c = search needs
 
 returns-3 : tie.Need-returns-3
-returns-3 c = by-control (place (byte (c .before .before .before .before .before .before .before .before .before .before .before .before .before .args .mask))) refl (c .before .before .before .before .before .before .before .before .before .before .before .before .before .args .image .now) (sym (c .before .before .before .before .before .before .before .before .before .before .read .ensures .refusal-is) ∙ c .before .before .before .before .before .before .before .before .if1 .left) Ok (added (controlIn (c .before .before .before .before .before .before .before .before .before .before .before .before .before .args .image .now)) (fromMask (byte (c .before .before .before .before .before .before .before .before .before .before .before .before .before .args .mask)))) _ (sym (c .before .before .before .before .before .if2 .left) ∙ (c .before .before .before .before .before .before .place-refusal .ensures ∙ ap (rowsOf (place (byte (c .before .before .before .before .before .before .before .before .before .before .before .before .before .args .mask)))) (c .before .before .before .before .before .before .before .before .before .before .read .ensures .good (c .before .before .before .before .before .before .before .before .if1 .left) .means) ∙ place-rows (controlIn (c .before .before .before .before .before .before .before .before .before .before .before .before .before .args .image .now)) (look cabinet (stateIn (c .before .before .before .before .before .before .before .before .before .before .before .before .before .args .image .now))) (byte (c .before .before .before .before .before .before .before .before .before .before .before .before .before .args .mask)))) (place-plan (c .before .before .before .before .before .before .before .before .before .before .before .before .before .args .image .now) (byte (c .before .before .before .before .before .before .before .before .before .before .before .before .before .args .mask)))
-    (c .before .before .write .ensures ∙ ap (putControl (c .before .before .before .before .before .before .before .before .before .before .before .before .before .args .image .now)) (c .before .before .before .add .ensures .means ∙ ap (λ (k : Part). added k (fromMask (byte (c .before .before .before .before .before .before .before .before .before .before .before .before .before .args .mask)))) (c .before .before .before .before .before .before .before .before .before .before .read .ensures .good (c .before .before .before .before .before .before .before .before .if1 .left) .means)))
+returns-3 c = by-control (place (byte (c .before .before .before .before .before .before .before .before .before .before .before .before .before .args .mask))) refl (c .before .before .before .before .before .before .before .before .before .before .before .before .before .args .image .now) (sym (c .before .before .before .before .before .before .before .before .before .before .read .ensures .refusal-is) ∙ c .before .before .before .before .before .before .before .before .if1 .left) Ok (added (controlIn (c .before .before .before .before .before .before .before .before .before .before .before .before .before .args .image .now)) (fromMask (byte (c .before .before .before .before .before .before .before .before .before .before .before .before .before .args .mask))) tt) _ (sym (c .before .before .before .before .before .if2 .left) ∙ (c .before .before .before .before .before .before .place-refusal .ensures ∙ ap (rowsOf (place (byte (c .before .before .before .before .before .before .before .before .before .before .before .before .before .args .mask)))) (c .before .before .before .before .before .before .before .before .before .before .read .ensures .good (c .before .before .before .before .before .before .before .before .if1 .left) .means) ∙ place-rows (controlIn (c .before .before .before .before .before .before .before .before .before .before .before .before .before .args .image .now)) (look cabinet (stateIn (c .before .before .before .before .before .before .before .before .before .before .before .before .before .args .image .now))) (byte (c .before .before .before .before .before .before .before .before .before .before .before .before .before .args .mask)))) (place-plan (c .before .before .before .before .before .before .before .before .before .before .before .before .before .args .image .now) (byte (c .before .before .before .before .before .before .before .before .before .before .before .before .before .args .mask)))
+    (c .before .before .write .ensures ∙ ap (putControl (c .before .before .before .before .before .before .before .before .before .before .before .before .before .args .image .now)) (c .before .before .before .add .ensures .means ∙ ap (λ (k : Part). added k (fromMask (byte (c .before .before .before .before .before .before .before .before .before .before .before .before .before .args .mask))) tt) (c .before .before .before .before .before .before .before .before .before .before .read .ensures .good (c .before .before .before .before .before .before .before .before .if1 .left) .means)))
 
 pub place-spec : {M : Type 1} → statement M
 place-spec =

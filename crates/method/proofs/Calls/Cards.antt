@@ -11,7 +11,7 @@ use Rattle.lists.specs.Segments.{each}
 use Rattle.lists.specs.Tests.{In}
 use Rattle.lists.proofs.Bools.{and-l, and-r, never-true, nor-l, nor-r, not-is, split, tf}
 use Rattle.lists.proofs.Lists.{any-none, in-left}
-use Rattle.method.specs.Changes.{Control, startedBy}
+use Rattle.method.specs.Changes.{Control, addedBy, startedBy}
 use Rattle.method.specs.ControlPart.{active, added, withCards}
 use Rattle.method.specs.OneRecordList.{plainObserve, quiet}
 use Rattle.method.specs.Parameters.{Parameters}
@@ -133,11 +133,11 @@ module _ (P : Parameters) (L : Laws P) where
     unfolding plan refusal act plainObserve plainNext plainRefusal plainAct
     step-place a = go (refusal P (place a) k v) refl
       where
-        inv : placeRefusal k a ≡ 0 → Invariant P (added k (places (k .newest) a)) (nextView P L (added k (places (k .newest) a)) (λ c b. none) v) records
+        inv : placeRefusal k a ≡ 0 → Invariant P (addedBy P k (places (k .newest) a)) (nextView P L (addedBy P k (places (k .newest) a)) (λ c b. none) v) records
         inv e = record {
           form = form-added P L k (i .form .base) (places (k .newest) a) (place-usable k a e) (place-many k a e) (λ c h. place-works k a c e h);
-          idle = next-idle P L (added k (places (k .newest) a)) (λ c b. none) v;
-          each = λ b ok. kept P L k v records i (added k (places (k .newest) a)) (λ c b. none) records b ok ok (λ p m. in-left (active k) (places (k .newest) a ∷ []) p m) (λ p c m x y. y) (λ c x. refl) (λ c r x y z o. o) (λ n r e. n .1 r e);
+          idle = next-idle P L (addedBy P k (places (k .newest) a)) (λ c b. none) v;
+          each = λ b ok. kept P L k v records i (addedBy P k (places (k .newest) a)) (λ c b. none) records b ok ok (λ p m. in-left (active k) (places (k .newest) a ∷ []) p m) (λ p c m x y. y) (λ c x. refl) (λ c r x y z o. o) (λ n r e. n .1 r e);
         }
 
         go : (n : ℕ) → refusal P (place a) k v ≡ n → Good P L v (place a) (guarded P n k (act P (place a) k v)) quiet (unlessRefused P n (plainOf P k records) (plainAct P (place a) (plainOf P k records)))

@@ -14,12 +14,12 @@ use Rattle.lists.specs.Tests.{In, count}
 use Rattle.lists.proofs.Bools.{and-in, and-l, and-r, nor-l, nor-r, not-is, split, tf}
 use Rattle.lists.proofs.Counts.{count-mono}
 use Rattle.lists.proofs.Lists.{any-none, in-left}
-use Rattle.method.specs.Changes.{Control, marked, replaced}
+use Rattle.method.specs.Changes.{Control, addedBy, marked, replaced}
 use Rattle.method.specs.ControlPart.{active, added, begunAt, closed, halted, isOpen}
 use Rattle.method.specs.OneRecordList.{Observation, failing, isStop, plainObserve}
 use Rattle.method.specs.Parameters.{Parameters}
 use Rattle.method.specs.PlainList.{endRecords, plainAct, plainNext, plainRefusal, stopsNow, unlessRefused}
-use Rattle.method.specs.Rules.{View, act, dropHeld, fail, failAnswer, guarded, lost, placed, plan, refusal}
+use Rattle.method.specs.Rules.{View, act, dropHeld, fail, failPlan, guarded, lost, placed, plan, refusal}
 use Rattle.method.specs.Rules.{refused, row, stopping, stops, unplaced, updated, visible, writing}
 use Rattle.method.specs.Slots.{Slot, ended}
 use Rattle.method.proofs.Calls.Agreement.{Agrees, Good, idle-still, plainOf}
@@ -80,7 +80,7 @@ module _ (P : Parameters) (L : Laws P) where
           inc x e = has-without (k .newest) c x ∙ and-in (has (mask (k .newest)) x) (not (eqb x c)) (and-l (has (mask (k .newest)) x) (has (remove (k .working) c) x) e)
               (rw (differs x (and-r (has (mask (k .newest)) x) (has (remove (k .working) c) x) e)))
 
-      fail-in : Form P (added k1 (without (k .newest) c))
+      fail-in : Form P (addedBy P k1 (without (k .newest) c))
       unfolding k1
       fail-in = form-added P L k1 base1 (without (k .newest) c) (usable-without (k .setting) (k .newest) c many) many wk
         where
@@ -114,12 +114,12 @@ module _ (P : Parameters) (L : Laws P) where
             kind x n (inr e) = rw e e
 
       fail-inv : (b : Bool) → has (mask (k .newest)) c ≡ b
-          → Invariant P (cond b (added k1 (without (k .newest) c)) k1) (nextView P L (cond b (added k1 (without (k .newest) c)) k1) (dropHeld P (begunAt k c) c v) v) (λ r. ended false (begunAt k c) (records r))
+          → Invariant P (cond b (addedBy P k1 (without (k .newest) c)) k1) (nextView P L (cond b (addedBy P k1 (without (k .newest) c)) k1) (dropHeld P (begunAt k c) c v) v) (λ r. ended false (begunAt k c) (records r))
       unfolding k1
       fail-inv true e = record {
         form = fail-in;
-        idle = next-idle P L (added k1 (without (k .newest) c)) (dropHeld P (begunAt k c) c v) v;
-        each = fail-block (added k1 (without (k .newest) c)) refl refl (λ p m. in-left (active k) (without (k .newest) c ∷ []) p m);
+        idle = next-idle P L (addedBy P k1 (without (k .newest) c)) (dropHeld P (begunAt k c) c v) v;
+        each = fail-block (addedBy P k1 (without (k .newest) c)) refl refl (λ p m. in-left (active k) (without (k .newest) c ∷ []) p m);
       }
       fail-inv false e = record {
         form = fail-out e;
@@ -149,7 +149,7 @@ module _ (P : Parameters) (L : Laws P) where
         branch : has (k .working) c ≡ true → (b : Bool) → stopping P k c ≡ b
             → Good P L v (fail c) (cond b
             (writing P stops (halted (marked P k c)) (dropHeld P (isOpen k) c v))
-            (writing P (failAnswer P k c) (replaced P k c) (dropHeld P (begunAt k c) c v)))
+            (failPlan P k v c))
             (failing b) (endRecords P (plainOf P k records) false (begunAt k c) (replaced P k c))
         branch on true e = record { sight = refl; goes = λ z. tf true refl z }
         branch on false e = record { sight = quiet-fail (has (mask (k .newest)) c); goes = λ z. (refl, unfold k1 in (fail-inv c (lt-ltb c cards (has-card (k .working) c on)) on e (has (mask (k .newest)) c) refl)) }
