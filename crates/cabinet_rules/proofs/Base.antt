@@ -1,29 +1,23 @@
--- The base meets what is asked of a delivery, and A.1 follows it. Assumes nothing.
+-- The base meets what is asked of a delivery; A.1 retired it. Assumes nothing.
 use Prim.Native.Nat.{_+_, suc, ℕ}
 use borrow.Author.Tests.{eq-eqb, ltb-true}
-use lib.Dec.{eqb, ltb}
-use mathlib.Core.Bool.{Bool, _&&_, true}
+use lib.Dec.{eqb}
+use mathlib.Core.Bool.{Bool}
 use mathlib.Core.List.{List, [], _∷_, _++_, map}
 use mathlib.Core.Path.{_∙_, _≡_, ap, refl}
 use native.Mathlib.Omega.{arith}
 use Rattle.lists.proofs.Bools.{and-in}
-use Rattle.image.specs.Layout.{cardCount, valueBound}
+use Rattle.image.specs.Layout.{valueBound}
 use Rattle.mask.specs.Masks.{Byte}
 use Rattle.mask.specs.Placements.{Placement, chainedSites, olderFromMask, sitesOf}
 use Rattle.mask.proofs.SiteLaws.{site-count, site-distinct, site-member}
-use Rattle.method.specs.Changes.{marked}
-use Rattle.method.specs.ControlPart.{halted, part}
-use Rattle.method.proofs.Capacity.{ControlInv}
-use Rattle.method.proofs.Growth.{control-inv-grown, form-grown, rests-grown}
-use Rattle.method.proofs.Stopped.{Rests}
-use Rattle.method.proofs.Invariant.{Form}
+use Rattle.method.specs.ControlPart.{part}
 use Rattle.control.specs.ControlBytes.{controlByte, controlOf, marksFrom}
 use Rattle.control_form.specs.ControlForm.{formOk}
-use Rattle.cabinet_rules.specs.Cabinet.{rulesOf}
 use Rattle.cabinet_rules.specs.Delivery.{PartOf, base, masksAlone, olderPart, twoRails}
-use Rattle.cabinet_rules.specs.GoesOn.{growthOf}
-use Rattle.cabinet_rules.proofs.GoesOn.{Carries, Follows, carries-same, keeps}
-use Rattle.cabinet_rules.proofs.Lawful.{ControlLaws, DeliveryLaws, RuleLaws, Wrote, lawfulBy, mask-few, mask-members, mask-working}
+use Rattle.cabinet_rules.proofs.GoesOn.{Carries, carries-same}
+use Rattle.cabinet_rules.proofs.Lawful.{DeliveryLaws, RuleLaws, mask-few, mask-members, mask-working, no-stamps}
+use Rattle.cabinet_rules.proofs.Retired.{Retired, retired-control}
 use Rattle.cabinet_rules.proofs.TwoRails.{railLaws}
 
 -- ---- sites: those of a placement marked 0
@@ -49,12 +43,6 @@ baseRules = record {
   value-fits = λ n e. ltb-true n valueBound e;
 }
 
-pub rails-follow : Follows base twoRails olderFromMask
-rails-follow = record { same-mask = λ m. refl; same-sites = chained-is; still-usable = λ m h. h }
-
-pub rails-carry : Carries base twoRails olderFromMask (λ g. g)
-rails-carry = carries-same base twoRails olderFromMask refl (λ k n h. refl) (λ k n h. refl)
-
 -- ---- control bytes
 masks-back : (l : List Byte) → map (λ (p : Placement). p .mask) (map olderFromMask l) ≡ l
 masks-back [] = refl
@@ -72,41 +60,26 @@ byte-seven : (k : PartOf base) → controlByte (olderPart k) 7 ≡ 0
 unfolding controlByte
 byte-seven k = no-marks (k .older) (k .newest) 0
 
--- a running store of the base, as A.1 sees it
-module _ (k : PartOf base) (f : Form (rulesOf base) k) (u : ControlInv (rulesOf base) (lawfulBy base baseRules) k) where
-  form-now : Form (rulesOf twoRails) (olderPart k)
-  form-now = form-grown (rulesOf base) (lawfulBy base baseRules) (growthOf base twoRails olderFromMask) (keeps base twoRails olderFromMask rails-follow) (lawfulBy twoRails (railLaws .rules)) k f
-
-  inv-now : ControlInv (rulesOf twoRails) (lawfulBy twoRails (railLaws .rules)) (olderPart k)
-  inv-now = control-inv-grown (rulesOf base) (lawfulBy base baseRules) (growthOf base twoRails olderFromMask) (keeps base twoRails olderFromMask rails-follow) (lawfulBy twoRails (railLaws .rules)) k f u
-
-  module _ (g t : ℕ → ℕ) (w : Wrote base g t k) where
-    wrote-now : Wrote twoRails g t (olderPart k)
-    wrote-now = record { front = w .front; behind = w .behind }
-
-    base-reads : masksAlone (controlOf g) ≡ k
-    base-reads = ap masksAlone (railLaws .control .reads (olderPart k) form-now inv-now g t wrote-now) ∙ part-back k
-
-    base-formed : (formOk g && eqb (g 7) 0) ≡ true
-    base-formed = and-in (formOk g) (eqb (g 7) 0) (railLaws .control .formed (olderPart k) form-now inv-now g t wrote-now) (eq-eqb (g 7) 0 (w .front 7 (omega arith) ∙ byte-seven k))
-
--- a stopped one
-module _ (k : PartOf base) (r : Rests (rulesOf base) (lawfulBy base baseRules) k) (g t : ℕ → ℕ) (w : Wrote base g t k) where
-  rests-now : Rests (rulesOf twoRails) (lawfulBy twoRails (railLaws .rules)) (olderPart k)
-  rests-now = rests-grown (rulesOf base) (lawfulBy base baseRules) (growthOf base twoRails olderFromMask) (keeps base twoRails olderFromMask rails-follow) (lawfulBy twoRails (railLaws .rules)) k r
-
-  stopped-now : Wrote twoRails g t (olderPart k)
-  stopped-now = record { front = w .front; behind = w .behind }
-
-  rest-reads : masksAlone (controlOf g) ≡ k
-  rest-reads = ap masksAlone (railLaws .control .rest-read (olderPart k) rests-now g t stopped-now) ∙ part-back k
-
-  rest-forms : (formOk g && eqb (g 7) 0) ≡ true
-  rest-forms = and-in (formOk g) (eqb (g 7) 0) (railLaws .control .rest-formed (olderPart k) rests-now g t stopped-now) (eq-eqb (g 7) 0 (w .front 7 (omega arith) ∙ byte-seven k))
-
-pub baseControl : ControlLaws base baseRules
+-- ---- A.1 retired it
+pub base-retired : Retired base twoRails olderFromMask
 unfolding controlOf
-baseControl = record { reads = base-reads; formed = base-formed; rest-read = rest-reads; rest-formed = rest-forms }
+base-retired = record {
+  follows = record { same-mask = λ m. refl; same-sites = chained-is; still-usable = λ m h. h };
+  back = masksAlone;
+  back-older = part-back;
+  front = λ g. g;
+  behind = λ t. t;
+  wrote = λ k g t w. record { front = w .front; behind = w .behind };
+  part = λ g t. refl;
+  form = λ k g t w e. and-in (formOk g) (eqb (g 7) 0) e (eq-eqb (g 7) 0 (w .front 7 (omega arith) ∙ byte-seven k));
+}
+
+pub base-carried : Carries base twoRails olderFromMask (λ g. g)
+base-carried = carries-same base twoRails olderFromMask refl (λ k n h. refl) (λ k n h. refl) (λ g c. refl)
 
 abbrev pub baseLaws : DeliveryLaws base
-baseLaws = record { rules = baseRules; control = baseControl }
+baseLaws = record {
+  rules = baseRules;
+  control = retired-control base twoRails olderFromMask base-retired baseRules railLaws;
+  stamps = no-stamps base baseRules (λ m n. refl);
+}

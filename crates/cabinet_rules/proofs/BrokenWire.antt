@@ -2,13 +2,13 @@
 use Prim.Native.Nat.{suc, zero, ℕ}
 use borrow.Author.Tests.{le-ltb, lt-ltb, ltb-false, ltb-true}
 use lib.Dec.{eqb, ltb}
-use lib.ListN.{getD, length}
+use lib.ListN.{length}
 use mathlib.Core.Bool.{Bool, _&&_, cond, false, not, true}
 use mathlib.Core.Logic.{_≢_, _⊎_, inl, inr}
 use mathlib.Core.Path.{_∙_, _≡_, ap, ap₂, refl, sym}
 use native.Mathlib.Omega.{arith}
 use Rattle.lists.proofs.Bools.{split}
-use Rattle.image.specs.Layout.{imageSize, recordCount, valueBound}
+use Rattle.image.specs.Layout.{imageSizeOf, recordCount, valueBound}
 use Rattle.method.specs.ControlPart.{isOpen}
 use Rattle.method.specs.Parameters.{Parameters}
 use Rattle.method.specs.PlainList.{orRefused}
@@ -19,14 +19,17 @@ use Rattle.method.specs.Rules.{move, moveWrites, place, refusal, refused, rollb
 use Rattle.method.specs.Rules.{settledAt, start, state, stopping, store, trail, withdraw}
 use Rattle.method.specs.Slots.{isNone, readBy}
 use Rattle.control.specs.ControlBytes.{Part}
-use Rattle.control_form.specs.ControlForm.{controlForm, formRows}
+use Rattle.control_form.specs.ControlForm.{formRowsOf}
 use Rattle.cabinet_rules.specs.BrokenWire.{BrokenWireRefused, ElseAsBefore}
-use Rattle.cabinet_rules.specs.Cabinet.{cabinet, placeRows, rulesOf, tranOk}
-use Rattle.cabinet_rules.specs.Delivery.{anyValue, brokenWire, current, storable, twoRails}
+use Rattle.cabinet_rules.specs.Cabinet.{placeRows, rulesOf, tranOk}
+use Rattle.cabinet_rules.specs.Delivery.{anyValue, belowWire, brokenWire, storable, twoRails}
 use Rattle.cabinet_rules.specs.Images.{Image, after, answerBy, controlBy, isStart, nextBy, planBy, refusalBy, stateBy}
 use Rattle.cabinet_rules.specs.Images.{afterPlan, formBy, unlessRefusedImage}
 
--- The rules of the delivery before.
+-- The rules of A.5, and of the delivery before.
+abbrev since : Parameters
+since = rulesOf belowWire
+
 abbrev before : Parameters
 before = rulesOf twoRails
 
@@ -39,12 +42,12 @@ same-value n d = go (split (storable n))
     go (inr e) = let h = ltb-false n brokenWire e in e ∙ sym (le-ltb n valueBound (omega arith))
 
 -- ---- the rows from 3 on
-same-rows : (c : Call cabinet) → ((t r : ℕ) → c ≢ store t r brokenWire) → (k : Part) (v : View cabinet) → refusal cabinet c k v ≡ refusal before c k v
+same-rows : (c : Call since) → ((t r : ℕ) → c ≢ store t r brokenWire) → (k : Part) (v : View since) → refusal since c k v ≡ refusal before c k v
 unfolding refusal placeRows trail holders settled settledAt anyLocked
 same-rows (start m) d k v = refl
 same-rows (begin t home) d k v = refl
 same-rows (get t r) d k v = refl
-same-rows (store t r n) d k v = ap (λ (b : Bool). row 3 (not (tranOk t && ltb r recordCount && b)) (row 4 (k .stopped) (row 5 (not (isOpen k t)) (row 7 (lockedOut cabinet k v t r) 0))))
+same-rows (store t r n) d k v = ap (λ (b : Bool). row 3 (not (tranOk t && ltb r recordCount && b)) (row 4 (k .stopped) (row 5 (not (isOpen k t)) (row 7 (lockedOut since k v t r) 0))))
     (same-value n (λ e. d t r (ap (store t r) e)))
 same-rows (delete t r) d k v = refl
 same-rows (commit t) d k v = refl
@@ -59,51 +62,51 @@ same-rows state d k v = refl
 same-rows (load c) d k v = refl
 
 -- ---- what an accepted call answers and writes
-abbrev SamePlan : Plan cabinet → Plan before → Type 0
+abbrev SamePlan : Plan since → Plan before → Type 0
 SamePlan p q = (p .answer ≡ q .answer) × (p .after ≡ q .after) × (p .write ≡ q .write) × (p .stamps ≡ q .stamps)
 
-same-either : (b : Bool) (p p′ : Plan cabinet) (q q′ : Plan before) → SamePlan p q → SamePlan p′ q′ → SamePlan (cond b p p′) (cond b q q′)
+same-either : (b : Bool) (p p′ : Plan since) (q q′ : Plan before) → SamePlan p q → SamePlan p′ q′ → SamePlan (cond b p p′) (cond b q q′)
 same-either true p p′ q q′ h h′ = h
 same-either false p p′ q q′ h h′ = h′
 
-same-plan : (c : Call cabinet) (k : Part) (v : View cabinet) → SamePlan (act cabinet c k v) (act before c k v)
+same-plan : (c : Call since) (k : Part) (v : View since) → SamePlan (act since c k v) (act before c k v)
 unfolding act trail holders lostOf stopping settled settledAt isProtected lockHolders layBlock endHeld dropHeld clearCard moveWrites stampAll clearStamp stamped
 same-plan (start m) k v = (refl, refl, refl, refl)
 same-plan (begin t home) k v = (refl, refl, refl, refl)
 same-plan (get t r) k v = (refl, refl, refl, refl)
 same-plan (store t r n) k v = (refl, refl, refl, refl)
-same-plan (delete t r) k v = same-either (isNone (readBy t (seenSlot cabinet k v r))) _ _ _ _ (refl, refl, refl, refl) (refl, refl, refl, refl)
+same-plan (delete t r) k v = same-either (isNone (readBy t (seenSlot since k v r))) _ _ _ _ (refl, refl, refl, refl) (refl, refl, refl, refl)
 same-plan (commit t) k v = (refl, refl, refl, refl)
 same-plan (rollback t) k v = (refl, refl, refl, refl)
 same-plan (fit c) k v = (refl, refl, refl, refl)
 same-plan (withdraw c) k v = (refl, refl, refl, refl)
 same-plan (place m) k v = (refl, refl, refl, refl)
-same-plan (fail c) k v = same-either (stopping cabinet k c) _ _ _ _ (refl, refl, refl, refl) (refl, refl, refl, refl)
+same-plan (fail c) k v = same-either (stopping since k c) _ _ _ _ (refl, refl, refl, refl) (refl, refl, refl, refl)
 same-plan (move c b) k v = (refl, refl, refl, refl)
 same-plan settle k v = (refl, refl, refl, refl)
 same-plan state k v = (refl, refl, refl, refl)
 same-plan (load c) k v = (refl, refl, refl, refl)
 
 -- ---- on images
-same-refused : (n : ℕ) (a : Answer cabinet) → orRefused cabinet n a ≡ orRefused before n a
+same-refused : (n : ℕ) (a : Answer since) → orRefused since n a ≡ orRefused before n a
 same-refused zero a = refl
 same-refused (suc n) a = refl
 
-module _ (c : Call cabinet) (d : (t r : ℕ) → c ≢ store t r brokenWire) (g : Image) where
-  same-refusal : refusalBy current c g ≡ refusalBy twoRails c g
+module _ (c : Call since) (d : (t r : ℕ) → c ≢ store t r brokenWire) (g : Image) where
+  same-refusal : refusalBy belowWire c g ≡ refusalBy twoRails c g
   unfolding refusalBy stateBy look
-  same-refusal = ap (λ (n : ℕ). formRows (isStart c) (formBy current g) g n) (same-rows c d (controlBy current g) (look cabinet (stateBy current g)))
+  same-refusal = ap (λ (n : ℕ). formRowsOf (imageSizeOf (belowWire .layout)) (isStart c) (formBy belowWire g) g n) (same-rows c d (controlBy belowWire g) (look since (stateBy belowWire g)))
 
-  same-planned : SamePlan (planBy current c g) (planBy twoRails c g)
+  same-planned : SamePlan (planBy belowWire c g) (planBy twoRails c g)
   unfolding stateBy look
-  same-planned = same-plan c (controlBy current g) (look cabinet (stateBy current g))
+  same-planned = same-plan c (controlBy belowWire g) (look since (stateBy belowWire g))
 
 pub else-as-before : ElseAsBefore
 unfolding ElseAsBefore answerBy nextBy
 else-as-before c d g =
     let p = same-planned c d g in (
-      ap₂ (orRefused cabinet) (same-refusal c d g) (p .0) ∙ same-refused (refusalBy twoRails c g) (planBy twoRails c g .answer),
-      ap₂ (λ (n : ℕ) (x : Image). unlessRefusedImage n g x) (same-refusal c d g) (λ i. afterPlan current (record { answer = p .0 i; after = p .1 i; write = p .2 i; stamps = p .3 i }) g),
+      ap₂ (orRefused since) (same-refusal c d g) (p .0) ∙ same-refused (refusalBy twoRails c g) (planBy twoRails c g .answer),
+      ap₂ (λ (n : ℕ) (x : Image). unlessRefusedImage n g x) (same-refusal c d g) (λ i. afterPlan belowWire (record { answer = p .0 i; after = p .1 i; write = p .2 i; stamps = p .3 i }) g),
     )
 
 -- ---- a store of 65,535
@@ -111,16 +114,16 @@ never : (b : Bool) → not (b && false) ≡ true
 never true = refl
 never false = refl
 
-wire-rows : (t r : ℕ) (g : Image) → refusalBy current (store t r brokenWire) g ≡ formRows false (controlForm g) g 3
+wire-rows : (t r : ℕ) (g : Image) → refusalBy belowWire (store t r brokenWire) g ≡ formRowsOf (imageSizeOf (belowWire .layout)) false (formBy belowWire g) g 3
 unfolding refusalBy refusal
 wire-rows t r g = rw (never (tranOk t && ltb r recordCount))
 
-always-refused : (a b : Bool) (x : Answer cabinet) (g y : Image)
-    → (orRefused cabinet (row 1 a (row 2 b 3)) x ≡ refused (row 1 a (row 2 b 3))) × (unlessRefusedImage (row 1 a (row 2 b 3)) g y ≡ g)
+always-refused : (a b : Bool) (x : Answer since) (g y : Image)
+    → (orRefused since (row 1 a (row 2 b 3)) x ≡ refused (row 1 a (row 2 b 3))) × (unlessRefusedImage (row 1 a (row 2 b 3)) g y ≡ g)
 always-refused true b x g y = (refl, refl)
 always-refused false true x g y = (refl, refl)
 always-refused false false x g y = (refl, refl)
 
 pub broken-wire-refused : BrokenWireRefused
 unfolding BrokenWireRefused answerBy nextBy
-broken-wire-refused t r g = rw (wire-rows t r g) (always-refused (not (eqb (length g) imageSize)) (not (controlForm g)) _ g _)
+broken-wire-refused t r g = rw (wire-rows t r g) (always-refused (not (eqb (length g) (imageSizeOf (belowWire .layout)))) (not (formBy belowWire g)) _ g _)

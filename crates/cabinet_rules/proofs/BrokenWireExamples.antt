@@ -12,43 +12,50 @@ use Rattle.slot.specs.Blocks.{endSlots, endedByte, isHeld, lockSlot, putSlot, w
 use Rattle.slot.specs.Words.{slotOf, wordOf}
 use Rattle.method.specs.Growth.{plainAfter, rulesAfter}
 use Rattle.method.specs.OneRecordList.{Observation, client, plainObserve, quiet, runPlain, settleAccepted}
+use Rattle.method.specs.Parameters.{Parameters}
 use Rattle.method.specs.PlainList.{plainAct, plainNext, plainRefusal}
 use Rattle.method.specs.Rules.{Call, absent, act, answerOf, anyLocked, apply, begin, clearCard, commit, delete, endHeld, fit}
 use Rattle.method.specs.Rules.{get, holders, layBlock, lockHolders, look, move, moveWrites, nextState, ok, place, plan}
 use Rattle.method.specs.Rules.{refusal, refused, rollback, settle, settled, settledAt, store, trail, value}
-use Rattle.cabinet_rules.specs.Cabinet.{cabinet, placeRows, startRow}
-use Rattle.cabinet_rules.specs.Claims.{NoStopBy, NoisyCallBy, imageCalls, runImage}
-use Rattle.cabinet_rules.specs.Delivery.{base, brokenWire, current, twoRails}
-use Rattle.cabinet_rules.specs.GoesOn.{Earlier, GoesOnFromEarlier, Store, StoreBy, calledStore, startedStore, takenOver}
+use Rattle.cabinet_rules.specs.Cabinet.{placeRows, rulesOf, startRow}
+use Rattle.cabinet_rules.specs.Claims.{NoStopBy, NoisyCallBy, imageCallsBy, runImageBy}
+use Rattle.cabinet_rules.specs.Delivery.{base, belowWire, brokenWire, twoRails}
+use Rattle.cabinet_rules.specs.GoesOn.{BeforeWire, StoreBy, calledStore, startedStore, takenOver}
 use Rattle.cabinet_rules.specs.Images.{Image, answerBy, refusalBy}
-use Rattle.cabinet_rules.proofs.Earlier.{goes-on-from-earlier}
-use Rattle.cabinet_rules.proofs.Examples.{answers}
+use Rattle.cabinet_rules.proofs.Earlier.{wire-sound}
+use Rattle.cabinet_rules.proofs.Examples.{answersBy}
+use Rattle.cabinet_rules.proofs.Form.{wireLaws}
+use Rattle.cabinet_rules.proofs.OneRecordList.{run-image}
+
+-- The rules of A.5.
+abbrev rules : Parameters
+rules = rulesOf belowWire
 
 -- Calls by any delivery, with no noise before them.
-abbrev plainly : List (Call cabinet) → List (NoisyCallBy current)
+abbrev plainly : List (Call rules) → List (NoisyCallBy belowWire)
 plainly = map (λ c. (λ n. 0, c))
 
--- What calls of the delivery in force show on the image of a store that earlier ones left: what the plain record list says.
-module _ (s : Store) (e : Earlier s) where
-  shown : List (Call cabinet) → List (Observation cabinet)
-  shown l = runImage (plainly l) (s .image)
+-- What calls by A.5 show on the image of a store that earlier deliveries left: what the plain record list says.
+module _ (s : StoreBy belowWire) (e : BeforeWire s) where
+  shown : List (Call rules) → List (Observation rules)
+  shown l = runImageBy belowWire (plainly l) (s .image)
 
-  said : List (Call cabinet) → List (Observation cabinet)
-  said l = runPlain cabinet l (s .rules) (s .plain)
+  said : List (Call rules) → List (Observation rules)
+  said l = runPlain rules l (s .rules) (s .plain)
 
-  shown-said : (l : List (Call cabinet)) → shown l ≡ said l
-  unfolding shown said GoesOnFromEarlier
-  shown-said l = goes-on-from-earlier s e (plainly l) ∙ ap (λ (x : List (Call cabinet)). runPlain cabinet x (s .rules) (s .plain)) (calls-alone l)
+  shown-said : (l : List (Call rules)) → shown l ≡ said l
+  unfolding shown said
+  shown-said l = run-image belowWire wireLaws (plainly l) (s .image) (s .rules) (s .plain) (wire-sound s e) ∙ ap (λ (x : List (Call rules)). runPlain rules x (s .rules) (s .plain)) (calls-alone l)
     where
-      calls-alone : (l : List (Call cabinet)) → imageCalls (plainly l) ≡ l
+      calls-alone : (l : List (Call rules)) → imageCallsBy belowWire (plainly l) ≡ l
       calls-alone [] = refl
-      calls-alone (c ∷ l) = ap (λ (x : List (Call cabinet)). c ∷ x) (calls-alone l)
+      calls-alone (c ∷ l) = ap (λ (x : List (Call rules)). c ∷ x) (calls-alone l)
 
 -- Record 9, in block 1, gets 65,535, and record 17, in block 2, gets it pending by transaction 2.
-abbrev committedCalls : List (Call cabinet)
+abbrev committedCalls : List (Call rules)
 committedCalls = begin 1 0 ∷ store 1 9 brokenWire ∷ commit 1 ∷ []
 
-abbrev pendingCalls : List (Call cabinet)
+abbrev pendingCalls : List (Call rules)
 pendingCalls = begin 2 0 ∷ store 2 17 brokenWire ∷ []
 
 -- On memory of any contents that has an image's length.
@@ -57,10 +64,10 @@ module _ (before : Image) (long : length before ≡ imageSize) where
   abbrev wasRails : StoreBy twoRails
   wasRails = calledStore twoRails (plainly (committedCalls ++ pendingCalls)) (startedStore twoRails (byte 0xCC) before)
 
-  abbrev left : Store
-  left = takenOver twoRails current (λ p. p) (λ g. g) wasRails
+  abbrev left : StoreBy belowWire
+  left = takenOver twoRails belowWire (λ p. p) (λ g. g) wasRails
 
-  left-earlier : Earlier left
+  left-earlier : BeforeWire left
   unfolding NoStopBy answerBy refusalBy refusal act startRow size members hasCard
   left-earlier = record {
     was = wasRails;
@@ -111,9 +118,9 @@ module _ (before : Image) (long : length before ≡ imageSize) where
   refused-now = shown-said left left-earlier (store 2 17 brokenWire ∷ store 2 17 65534 ∷ get 2 17 ∷ store 3 17 brokenWire ∷ begin 3 0 ∷ store 3 17 brokenWire ∷ store 3 17 7 ∷ []) ∙ refl
 
   -- the answers of the moves, which the plain record list does not have: one copy, two, none, and one placement retired
-  move-answers : answers (commit 2 ∷ fit 2 ∷ place (byte 0x2C) ∷ move 1 1 ∷ move 4 2 ∷ move 0 2 ∷ settle ∷ begin 3 2 ∷ get 3 9 ∷ get 3 17 ∷ []) (left .rules)
+  move-answers : answersBy belowWire (commit 2 ∷ fit 2 ∷ place (byte 0x2C) ∷ move 1 1 ∷ move 4 2 ∷ move 0 2 ∷ settle ∷ begin 3 2 ∷ get 3 9 ∷ get 3 17 ∷ []) (left .rules)
       ≡ (0 ∷ []) ∷ (0 ∷ []) ∷ (0 ∷ []) ∷ (6 ∷ 1 ∷ []) ∷ (6 ∷ 2 ∷ []) ∷ (6 ∷ 0 ∷ []) ∷ (7 ∷ 1 ∷ []) ∷ (0 ∷ []) ∷ (1 ∷ brokenWire ∷ []) ∷ (1 ∷ brokenWire ∷ []) ∷ []
-  unfolding rulesAfter answers answerOf nextState apply plan refusal act look trail holders settled settledAt lockHolders layBlock endHeld clearCard moveWrites anyLocked hasCard withCard withoutCard isWithin memberAt membersAfter acrossRails railSites sitesOf startRow placeRows isHeld wordAt slotOf wordOf putSlot lockSlot endedByte endSlots tabulate members size
+  unfolding rulesAfter answersBy answerOf nextState apply plan refusal act look trail holders settled settledAt lockHolders layBlock endHeld clearCard moveWrites anyLocked hasCard withCard withoutCard isWithin memberAt membersAfter acrossRails railSites sitesOf startRow placeRows isHeld wordAt slotOf wordOf putSlot lockSlot endedByte endSlots tabulate members size
   move-answers = refl
 
   -- ---- the base made the first of these calls, and A.1 to A.4 the others
@@ -123,10 +130,10 @@ module _ (before : Image) (long : length before ≡ imageSize) where
   abbrev wasBoth : StoreBy twoRails
   wasBoth = calledStore twoRails (plainly pendingCalls) (takenOver base twoRails olderFromMask (λ g. g) wasBase)
 
-  abbrev leftByBoth : Store
-  leftByBoth = takenOver twoRails current (λ p. p) (λ g. g) wasBoth
+  abbrev leftByBoth : StoreBy belowWire
+  leftByBoth = takenOver twoRails belowWire (λ p. p) (λ g. g) wasBoth
 
-  both-earlier : Earlier leftByBoth
+  both-earlier : BeforeWire leftByBoth
   unfolding NoStopBy answerBy refusalBy refusal act startRow size members hasCard
   both-earlier = record {
     was = wasBoth;

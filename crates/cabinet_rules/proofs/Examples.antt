@@ -15,7 +15,8 @@ use Rattle.method.specs.Rules.{copied, delete, dropHeld, endHeld, fail, get, ho
 use Rattle.method.specs.Rules.{lockHolders, look, lostOf, move, moveWrites, nextState, ok, place, placed, plan}
 use Rattle.method.specs.Rules.{protected, refusal, refused, retired, settle, settled, settledAt, start, stopping, stops}
 use Rattle.method.specs.Rules.{store, trail, unplaced, unprotected, value}
-use Rattle.cabinet_rules.specs.Cabinet.{cabinet, placeRows, startRow}
+use Rattle.cabinet_rules.specs.Cabinet.{cabinet, placeRows, rulesOf, startRow}
+use Rattle.cabinet_rules.specs.Delivery.{Delivery, current}
 
 -- An answer as numbers: its kind, then its number.
 abbrev pub answerNumbers : Answer cabinet → List ℕ
@@ -37,9 +38,12 @@ unfoldable pub afterAll : List (Call cabinet) → State cabinet → State cabine
 afterAll [] s = s
 afterAll (c ∷ l) s = afterAll l (nextState cabinet c s)
 
-unfoldable pub answers : List (Call cabinet) → State cabinet → List (List ℕ)
-answers [] s = []
-answers (c ∷ l) s = answerNumbers (answerOf cabinet c s) ∷ answers l (nextState cabinet c s)
+unfoldable pub answersBy : (D : Delivery) → List (Call (rulesOf D)) → State (rulesOf D) → List (List ℕ)
+answersBy D [] s = []
+answersBy D (c ∷ l) s = answerNumbers (answerOf (rulesOf D) c s) ∷ answersBy D l (nextState (rulesOf D) c s)
+
+abbrev pub answers : List (Call cabinet) → State cabinet → List (List ℕ)
+answers = answersBy current
 
 -- Before the first start: nothing is there.
 abbrev pub nothing : State cabinet
@@ -52,7 +56,7 @@ lastOf (x ∷ (y ∷ l)) = lastOf (y ∷ l)
 
 -- The last answer of a start with a mask and the calls after it.
 unfoldable pub final : ℕ → List (Call cabinet) → List ℕ
-unfolding answers
+unfolding answersBy
 final m l = lastOf (answers (start (byte m) ∷ l) nothing)
 
 -- The five bytes of slot i in block b of card c after them.
@@ -100,12 +104,12 @@ marked-examples :
     ∷ (9 ∷ 0 ∷ [])
     ∷ (10 ∷ 7 ∷ 0 ∷ [])
     ∷ []
-unfolding final slotBytes afterAll answers answerOf nextState apply plan refusal act look trail holders lostOf stopping settled settledAt isProtected lockHolders layBlock endHeld dropHeld clearCard moveWrites anyLocked hasCard withCard withoutCard isWithin memberAt chainedSites membersAfter acrossRails railSites sitesOf startRow placeRows isHeld wordAt slotOf wordOf putSlot lockSlot endedByte endSlots tabulate members size
+unfolding final slotBytes afterAll answersBy answerOf nextState apply plan refusal act look trail holders lostOf stopping settled settledAt isProtected lockHolders layBlock endHeld dropHeld clearCard moveWrites anyLocked hasCard withCard withoutCard isWithin memberAt chainedSites membersAfter acrossRails railSites sitesOf startRow placeRows isHeld wordAt slotOf wordOf putSlot lockSlot endedByte endSlots tabulate members size
 marked-examples = refl
 
 -- The ten answers of document 01's listing.
 listing :
     answers (start (byte 0xE0) ∷ begin 1 0 ∷ store 1 9 4660 ∷ commit 1 ∷ fail 1 ∷ move 2 1 ∷ settle ∷ begin 1 0 ∷ get 1 9 ∷ fail 2 ∷ []) nothing
     ≡ (0 ∷ []) ∷ (0 ∷ []) ∷ (0 ∷ []) ∷ (0 ∷ []) ∷ (3 ∷ 0xA0 ∷ []) ∷ (6 ∷ 1 ∷ []) ∷ (7 ∷ 1 ∷ []) ∷ (0 ∷ []) ∷ (1 ∷ 4660 ∷ []) ∷ (5 ∷ []) ∷ []
-unfolding answers answerOf nextState apply plan refusal act look trail holders lostOf stopping settled settledAt isProtected lockHolders layBlock endHeld dropHeld clearCard moveWrites anyLocked hasCard withCard withoutCard isWithin memberAt chainedSites membersAfter acrossRails railSites sitesOf startRow placeRows isHeld wordAt slotOf wordOf putSlot lockSlot endedByte endSlots tabulate members size
+unfolding answersBy answerOf nextState apply plan refusal act look trail holders lostOf stopping settled settledAt isProtected lockHolders layBlock endHeld dropHeld clearCard moveWrites anyLocked hasCard withCard withoutCard isWithin memberAt chainedSites membersAfter acrossRails railSites sitesOf startRow placeRows isHeld wordAt slotOf wordOf putSlot lockSlot endedByte endSlots tabulate members size
 listing = refl

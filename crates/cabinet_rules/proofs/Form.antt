@@ -4,33 +4,31 @@ use borrow.Author.Tests.{eq-eqb, le-leb, le-ltb, leb-false, leb-true, lt-leb, lt
 use denote.Steps.{opens}
 use lib.Dec.{eqb, leb, ltb}
 use lib.ListN.{length}
-use mathlib.Core.Bool.{Bool, _&&_, _||_, false, not, true}
+use mathlib.Core.Bool.{_&&_, _||_, false, not, true}
 use mathlib.Core.List.{List, [], _∷_, reverse}
 use mathlib.Core.Logic.{_⊎_, inl, inr}
 use mathlib.Core.Option.{Option, none, some}
-use mathlib.Core.Path.{_∙_, _≡_, ap, refl, sym}
+use mathlib.Core.Path.{_∙_, _≡_, refl, sym}
 use native.Mathlib.Omega.{arith}
 use Rattle.lists.specs.Tests.{In, anyBelow, count}
-use Rattle.lists.proofs.Bools.{and-in, and-l, and-r, imp, is-not, nand, not-is, or-l, or-r, split, tf}
+use Rattle.lists.proofs.Bools.{and-in, imp, is-not, nand, or-l, or-r, split, tf}
 use Rattle.lists.proofs.Counts.{all-below, any-below}
 use Rattle.lists.proofs.Lists.{all-in}
 use Rattle.image.specs.Layout.{cardCount, controlSize, copyCount, tranBound}
 use Rattle.mask.specs.Masks.{Byte, areApart, common, hasCard, isOneMore, isWithin, isWithinEither, size, withCard}
-use Rattle.mask.specs.Masks.{withoutCard}
 use Rattle.mask.specs.Placements.{Placement}
-use Rattle.mask.proofs.Masks.{has-card, has-with, has-without, same-number}
-use Rattle.method.specs.Changes.{marked}
-use Rattle.method.specs.ControlPart.{active, halted, isOpen, part}
+use Rattle.mask.proofs.Masks.{has-card, has-with, same-number}
+use Rattle.method.specs.ControlPart.{active, isOpen, part}
 use Rattle.method.specs.Rules.{lost, lostOf}
-use Rattle.method.proofs.Capacity.{Chain, ControlInv, bounded, chain-map}
+use Rattle.method.proofs.Capacity.{Chain, ControlInv, bounded}
 use Rattle.method.proofs.Invariant.{Form}
 use Rattle.method.proofs.Stopped.{Rests}
 use Rattle.control.specs.ControlBytes.{Part, controlByte, countIn}
 use Rattle.control_form.specs.ControlForm.{countOk, formOk, fourthOk, homeOk, isSafe, membersOk, partOk, zeroFieldsOk}
 use Rattle.control_form.proofs.RoundTrip.{read-control, read-count}
 use Rattle.cabinet_rules.specs.Cabinet.{cabinet, mostPlaced, tranOk}
-use Rattle.cabinet_rules.specs.Delivery.{current}
-use Rattle.cabinet_rules.proofs.Lawful.{ControlLaws, DeliveryLaws, lawful, ruleLaws}
+use Rattle.cabinet_rules.specs.Delivery.{belowWire, current}
+use Rattle.cabinet_rules.proofs.Lawful.{ControlLaws, DeliveryLaws, lawful, no-stamps, ruleLaws}
 
 -- ---- the stop rule and the clause of the control form on it
 -- a placement is safe exactly where it is not lost
@@ -138,8 +136,8 @@ module _ (k : Part) (shut : (t : ℕ) → k .home t ≡ none) where
   none-homes : (t h : ℕ) → k .home t ≡ some h → h < cardCount
   none-homes t h e = let z : _≡_ {A = Option ℕ} none (some h) = sym (shut t) ∙ e in let y : _≡_ {A = ℕ} 0 1 = cc in absurd (omega arith)
 
--- ---- the delivery in force
-pub controlLaws : ControlLaws current ruleLaws
+-- ---- A.5, the delivery in force
+pub controlLaws : ControlLaws belowWire ruleLaws
 controlLaws = record {
   reads = λ k f u g t w. read-control k (few-older k f u) (u .opens) (homes k u) g (w .front);
   formed = λ k f u g t w. written-form k (few-older k f u) (u .opens) (homes k u) (running-ok k f u) g (w .front);
@@ -150,5 +148,12 @@ controlLaws = record {
     homes : (k : Part) → ControlInv cabinet lawful k → (t h : ℕ) → k .home t ≡ some h → h < cardCount
     homes k u t h e = has-card (k .working) h (u .homes t h e)
 
+abbrev pub wireLaws : DeliveryLaws belowWire
+wireLaws = record {
+  rules = ruleLaws;
+  control = controlLaws;
+  stamps = no-stamps belowWire ruleLaws (λ m n. refl);
+}
+
 abbrev pub currentLaws : DeliveryLaws current
-currentLaws = record { rules = ruleLaws; control = controlLaws }
+currentLaws = wireLaws

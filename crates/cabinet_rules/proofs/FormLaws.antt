@@ -7,7 +7,7 @@ use lib.ListN.{getD, length}
 use mathlib.Core.Bool.{Bool, _&&_, _||_, cond, false, not, true}
 use mathlib.Core.List.{List, [], _∷_, reverse}
 use mathlib.Core.Logic.{_⊎_, inl, inr}
-use mathlib.Core.Option.{none, some}
+use mathlib.Core.Option.{Option, none, some}
 use mathlib.Core.Path.{_∙_, _≡_, ap, refl, sym}
 use native.Mathlib.Omega.{arith}
 use Rattle.lists.specs.Tests.{In, elem}
@@ -24,6 +24,7 @@ use Rattle.method.specs.Rules.{lost}
 use Rattle.method.specs.Slots.{isSome}
 use Rattle.method.proofs.Capacity.{Chain, ControlInv, OneMore}
 use Rattle.method.proofs.Invariant.{Form}
+use Rattle.method.proofs.Stopped.{Rests}
 use Rattle.control.specs.ControlBytes.{controlOf, countIn, homeIn, placementAt}
 use Rattle.control_form.specs.ControlForm.{controlForm, fourthOk, homeOk, isSafe, membersOk}
 use Rattle.control_form.proofs.RoundTrip.{Clauses, form-count, form-part, part-clauses}
@@ -119,6 +120,13 @@ module _ (g : Image) (form : controlForm g ≡ true) where
       (sym (safe-is (controlIn g .working) (controlIn g .failed) p)
       ∙ all-out (isSafe (controlIn g .working) (controlIn g .failed)) (active (controlIn g)) p (rw running at (clauses .safe)) m)
 
+  known-works : (p : Placement) (c : ℕ) → In p (active (controlIn g)) → hasCard (p .mask) c ≡ true → hasCard (controlIn g .failed) c ≡ false → hasCard (controlIn g .working) c ≡ true
+  known-works p c m h d = rest (hasCard (controlIn g .working) c) (hasCard (controlIn g .failed) c) (known-member p c m h) d
+    where
+      rest : (w d : Bool) → (w || d) ≡ true → d ≡ false → w ≡ true
+      rest true d e n = refl
+      rest false d e n = tf d e n
+
   -- ---- a store that runs
   -- its control part has the form that the theorem asks for
   pub running-form : controlIn g .stopped ≡ false → Form cabinet (controlIn g)
@@ -126,16 +134,12 @@ module _ (g : Image) (form : controlForm g ≡ true) where
     base = record {
       running = running;
       apart = works-not-failed;
-      known = λ p c m h d. rest (hasCard (controlIn g .working) c) (hasCard (controlIn g .failed) c) (known-member p c m h) d;
+      known = known-works;
       sound = usable-active;
       safe = not-lost running;
     };
     newWorks = newest-member-works running;
   }
-    where
-      rest : (w d : Bool) → (w || d) ≡ true → d ≡ false → w ≡ true
-      rest true d e n = refl
-      rest false d e n = tf d e n
 
   -- an open transaction has its number in range
   open-in-range : (t : ℕ) → isOpen (controlIn g) t ≡ true → tranOk t ≡ true
@@ -166,3 +170,24 @@ module _ (g : Image) (form : controlForm g ≡ true) where
   running-inv =
       let f = few-steps (controlIn g .failed) (controlIn g .newest) (controlIn g .older) few-older (clauses .fourth) in
       record { homes = home-works; opens = open-in-range; room = record { steps = f .0; chain = f .1; few = f .2 }; numbers = tt }
+
+  -- ---- a store that has stopped
+  pub resting : controlIn g .stopped ≡ true → Rests cabinet lawful (controlIn g)
+  unfolding homeOk
+  resting stopped = record {
+    stays = stopped;
+    shut = λ t. shut t (controlIn g .home t) refl;
+    apart = works-not-failed;
+    known = known-works;
+    sound = usable-active;
+    room = running-inv .room;
+    numbers = tt;
+    bound = omega (arith, few-older);
+  }
+    where
+      shut : (t : ℕ) (o : Option ℕ) → controlIn g .home t ≡ o → controlIn g .home t ≡ none
+      shut t none e = e
+      shut t (some h) e =
+          let in-range : t < tranBound = ltb-true t tranBound (and-r (ltb 0 t) (ltb t tranBound) (open-in-range t (ap isSome e))) in
+          let home : homeOk (controlIn g .stopped) (controlIn g .working) (controlIn g .home t) ≡ true = clauses .home t in-range in
+          tf (homeOk (controlIn g .stopped) (controlIn g .working) (controlIn g .home t)) home (rw (e, stopped))

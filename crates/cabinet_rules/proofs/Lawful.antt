@@ -6,7 +6,7 @@ use lib.ListN.{length, length-append, take}
 use mathlib.Core.Bool.{Bool, _||_, cond, false, not, true}
 use mathlib.Core.List.{[], _++_, _∷_}
 use mathlib.Core.Option.{Option, none, some}
-use mathlib.Core.Path.{_∙_, _≡_, ap, refl, sym}
+use mathlib.Core.Path.{_∙_, _≡_, ap, refl}
 use native.Mathlib.Omega.{arith}
 use Rattle.lists.specs.Tests.{distinct, elem}
 use Rattle.lists.proofs.Bools.{and-r, imp-out, nor-l, nor-r, not-not-is}
@@ -21,18 +21,18 @@ use Rattle.slot.specs.Blocks.{BlockBytes, endSlots, freshBlock, lockSlot, slotA
 use Rattle.slot.specs.Words.{entryOf, freedSlot, lockedSlot, slotOf, stateOf}
 use Rattle.slot.specs.declared.Slot.{Slot as Fields}
 use Rattle.slot.proofs.Blocks.{held-empty, held-end, held-fresh, held-lock, slot-end, slot-fresh, slot-lock}
-use Rattle.method.specs.Changes.{marked}
-use Rattle.method.specs.ControlPart.{ControlPart, active, halted}
+use Rattle.method.specs.ControlPart.{ControlPart, active}
 use Rattle.method.specs.Rules.{row}
 use Rattle.method.specs.Slots.{Slot, blank, ended, freed, locked}
 use Rattle.method.proofs.Capacity.{ControlInv}
 use Rattle.method.proofs.Invariant.{Form}
 use Rattle.method.proofs.Laws.{Laws}
+use Rattle.method.proofs.Legal.{Legal}
 use Rattle.method.proofs.Refusals.{row-clear}
 use Rattle.method.proofs.Stopped.{Rests}
 use Rattle.cabinet_rules.specs.Cabinet.{cabinet, mostPlaced, placeRows, rulesOf, slotSeen, startRow, tranOk}
 use Rattle.control.specs.ControlBytes.{Serial, Setting}
-use Rattle.cabinet_rules.specs.Delivery.{Delivery, PartOf, againByRails, brokenWire, current, railed, storable}
+use Rattle.cabinet_rules.specs.Delivery.{Delivery, PartOf, againByRails, belowWire, brokenWire, current, railed, storable}
 
 -- ---- slots, as the rules see them
 -- what the rules see of a slot's fields
@@ -184,9 +184,23 @@ pub record ControlLaws (D : Delivery) (S : RuleLaws D) : Type 0 where
   pub rest-read : (k : PartOf D) → Rests (rulesOf D) (lawfulBy D S) k → (g t : ℕ → ℕ) → Wrote D g t k → D .part g t ≡ k
   pub rest-formed : (k : PartOf D) → Rests (rulesOf D) (lawfulBy D S) k → (g t : ℕ → ℕ) → Wrote D g t k → D .form g t ≡ true
 
+-- The bytes behind a card's blocks, as far as they go: those written of a stamp show it.
+abbrev pub ShowsStamp : (D : Delivery) → D .Stamp → Type 0
+ShowsStamp D m = (e : ℕ → ℕ) → ((j : ℕ) → j < D .layout .tableTail → e j ≡ D .stampBytes m j) → D .stampIn e ≡ m
+
+pub record StampLaws (D : Delivery) (S : RuleLaws D) : Type 0 where
+  pub same-stamp : (e d : ℕ → ℕ) → ((j : ℕ) → j < D .layout .tableTail → e j ≡ d j) → D .stampIn e ≡ D .stampIn d
+  pub none-shown : ShowsStamp D (D .noStamp)
+  pub stamp-shown : (k : PartOf D) → Legal (rulesOf D) (lawfulBy D S) k → ShowsStamp D (D .stampOf k)
+
+-- a delivery that has no stamps
+pub no-stamps : (D : Delivery) (S : RuleLaws D) → ((m n : D .Stamp) → m ≡ n) → StampLaws D S
+no-stamps D S one = record { same-stamp = λ e d h. one _ _; none-shown = λ e h. one _ _; stamp-shown = λ k l e h. one _ _ }
+
 pub record DeliveryLaws (D : Delivery) : Type 0 where
   pub rules : RuleLaws D
   pub control : ControlLaws D rules
+  pub stamps : StampLaws D rules
 
 -- ---- since A.1, whatever values store takes that a slot has room for
 pub railedRules : (values : ℕ → Bool) → ((n : ℕ) → values n ≡ true → n < valueBound) → RuleLaws (railed values)
@@ -203,8 +217,8 @@ railedRules values fits = record {
   value-fits = fits;
 }
 
--- ---- the delivery in force
-pub ruleLaws : RuleLaws current
+-- ---- A.5, the delivery in force
+pub ruleLaws : RuleLaws belowWire
 ruleLaws = railedRules storable (λ n e. let h : n < brokenWire = ltb-true n brokenWire e in omega arith)
 
 abbrev pub lawful : Laws cabinet

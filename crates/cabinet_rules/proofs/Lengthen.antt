@@ -1,16 +1,14 @@
 -- A converter: the image that a later delivery goes on with, of any two deliveries, and that it carries the store over. Assumes nothing.
-use Prim.Native.Nat.{_<_, ℕ}
 use mathlib.Core.List.{[]}
 use mathlib.Core.Option.{some}
-use mathlib.Core.Path.{_∙_, _≡_, ap, refl, sym}
-use Rattle.image.specs.Layout.{blockCount, cardCount, controlSize}
+use mathlib.Core.Path.{_∙_, ap}
 use Rattle.method.specs.Growth.{grownControl}
 use Rattle.method.specs.Rules.{stamped}
 use Rattle.cabinet_rules.specs.Cabinet.{rulesOf}
 use Rattle.cabinet_rules.specs.Delivery.{Delivery, PartOf}
 use Rattle.cabinet_rules.specs.GoesOn.{growthOf}
-use Rattle.cabinet_rules.specs.Images.{Ends, Image, Writes, afterBy, blockBy, controlBy}
-use Rattle.cabinet_rules.proofs.After.{after-block, after-control, after-tail, length-after}
+use Rattle.cabinet_rules.specs.Images.{Ends, Image, Writes, afterBy, blockBy, controlBy, endBy}
+use Rattle.cabinet_rules.proofs.After.{after-block, after-control, after-end, after-tail, length-after}
 use Rattle.cabinet_rules.proofs.GoesOn.{Carries}
 
 module _ (E D : Delivery) (older : E .Placement → D .Placement) where
@@ -41,4 +39,5 @@ module _ (E D : Delivery) (older : E .Placement → D .Placement) where
           ∙ ap (λ (x : PartOf E). D .tail (partNow x) n) r;
     };
     blocks = λ g c b hc hb. after-block (D .layout) (D .bytes (partNow (controlBy E g))) (D .tail (partNow (controlBy E g))) (allBlocks g) (allStamps (partNow (controlBy E g))) [] c b hc hb;
+    stamps = λ g shown c hc. shown c (endBy (D .layout) (lengthened g) c) (λ j h. after-end (D .layout) (D .bytes (partNow (controlBy E g))) (D .tail (partNow (controlBy E g))) (allBlocks g) (allStamps (partNow (controlBy E g))) [] c j hc h);
   }

@@ -6,11 +6,14 @@ pub mod Lawful
 pub mod After
 pub mod Form
 pub mod FormLaws
+pub mod Noisy
+pub mod Transport
 pub mod Shows
 pub mod Sound
 pub mod OneRecordList
 pub mod FormStays
 pub mod GoesOn
+pub mod Retired
 pub mod TwoRails
 pub mod Base
 pub mod Earlier

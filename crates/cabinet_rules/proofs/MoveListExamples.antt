@@ -19,7 +19,7 @@ use Rattle.control_form.specs.ControlForm.{countOk, formOk, fourthOk, homeOk, i
 use Rattle.cabinet_rules.specs.Cabinet.{cabinet, placeRows, startRow}
 use Rattle.cabinet_rules.specs.Images.{Image}
 use Rattle.cabinet_rules.specs.MoveLists.{listAnswerOn}
-use Rattle.cabinet_rules.proofs.Examples.{afterAll, answers, final, nothing}
+use Rattle.cabinet_rules.proofs.Examples.{afterAll, answersBy, final, nothing}
 
 -- An answer as numbers: its kind, then its number; and the cards and blocks of a list.
 abbrev answerNumbers : ListAnswer → List ℕ
@@ -78,5 +78,5 @@ move-list-examples :
     ∷ (0 ∷ 0 ∷ [])
     ∷ (15 ∷ 4 ∷ [])
     ∷ []
-unfolding moves answered final answers afterAll answerOf nextState apply plan refusal act look trail holders lostOf stopping settled settledAt isProtected lockHolders layBlock endHeld dropHeld clearCard moveWrites anyLocked hasCard withCard withoutCard isWithin memberAt chainedSites membersAfter acrossRails railSites sitesOf startRow placeRows isHeld wordAt slotOf wordOf putSlot lockSlot endedByte endSlots tabulate members size isOrigin movesOf moveList anyMoveLocked listAnswer listAnswerOn formOk partOk countOk zeroFieldsOk areApart membersOk isWithinEither fourthOk isOneMore isSafe common homeOk controlOf controlByte
+unfolding moves answered final answersBy afterAll answerOf nextState apply plan refusal act look trail holders lostOf stopping settled settledAt isProtected lockHolders layBlock endHeld dropHeld clearCard moveWrites anyLocked hasCard withCard withoutCard isWithin memberAt chainedSites membersAfter acrossRails railSites sitesOf startRow placeRows isHeld wordAt slotOf wordOf putSlot lockSlot endedByte endSlots tabulate members size isOrigin movesOf moveList anyMoveLocked listAnswer listAnswerOn formOk partOk countOk zeroFieldsOk areApart membersOk isWithinEither fourthOk isOneMore isSafe common homeOk controlOf controlByte
 move-list-examples = refl

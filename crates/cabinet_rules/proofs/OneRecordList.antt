@@ -1,38 +1,24 @@
 -- Demand 3 on images, the proof: from any image that is sound, and from an accepted start. Assumes nothing.
-use mathlib.Core.Bool.{Bool, cond, false, true}
-use mathlib.Core.List.{List, [], _∷_}
-use mathlib.Core.Path.{_≡_, ap, refl}
-use Rattle.method.specs.OneRecordList.{Observation, isLast, plainObserve, runPlain, settleAccepted, zeroed}
-use Rattle.method.specs.Parameters.{Parameters}
-use Rattle.method.specs.PlainList.{PlainList, plainNext, plainStart}
-use Rattle.method.specs.Rules.{State, nextState, start}
+use mathlib.Core.List.{List}
+use mathlib.Core.Path.{_∙_, _≡_, ap}
+use Rattle.method.specs.OneRecordList.{runPlain, zeroed}
+use Rattle.method.specs.PlainList.{PlainList, plainStart}
+use Rattle.method.specs.Rules.{Call, State, start}
+use Rattle.method.proofs.Run.{run-same}
 use Rattle.cabinet_rules.specs.Cabinet.{cabinet, rulesOf}
-use Rattle.cabinet_rules.specs.Claims.{NoisyCallBy, OneRecordListOnImages, imageCallsBy, noisyBy, runImageBy}
+use Rattle.cabinet_rules.specs.Claims.{NoisyCallBy, OneRecordListOnImages, imageCallsBy, noisedBy, runImageBy}
 use Rattle.cabinet_rules.specs.Delivery.{Delivery, current}
-use Rattle.cabinet_rules.specs.Images.{Image, next, nextBy}
+use Rattle.cabinet_rules.specs.Images.{Image, next, stateBy}
 use Rattle.cabinet_rules.proofs.Form.{currentLaws}
-use Rattle.cabinet_rules.proofs.Lawful.{DeliveryLaws}
-use Rattle.cabinet_rules.proofs.Sound.{Sound, Steps, noise-sound, start-sound, step-sound}
+use Rattle.cabinet_rules.proofs.Lawful.{DeliveryLaws, lawfulBy}
+use Rattle.cabinet_rules.proofs.Sound.{Sound, start-sound}
+use Rattle.cabinet_rules.proofs.Transport.{calls-alone, run-rules}
 
-module _ (D : Delivery) (W : DeliveryLaws D) where
-  abbrev P : Parameters
-  P = rulesOf D
-
-  pub run-image : (l : List (NoisyCallBy D)) (g : Image) (z : State P) (q : PlainList P) → Sound D W g z q → runImageBy D l g ≡ runPlain P (imageCallsBy D l) z q
-  unfolding runImageBy runPlain
-  run-image [] g z q s = refl
-  run-image (e ∷ l) g z q s = go (step-sound D W (noisyBy D (e .0) g) z q (noise-sound D W (e .0) g z q s) (e .1)) (run-image l)
-    where
-      go : Steps D W (noisyBy D (e .0) g) z q (e .1) → ((g : Image) (z : State P) (q : PlainList P) → Sound D W g z q → runImageBy D l g ≡ runPlain P (imageCallsBy D l) z q)
-          → runImageBy D (e ∷ l) g ≡ runPlain P (imageCallsBy D (e ∷ l)) z q
-      go h ih = rw (h .shows) (last (isLast P (plainObserve P (e .1) q)) refl)
-        where
-          last : (o : Bool) → isLast P (plainObserve P (e .1) q) ≡ o
-              → _≡_ {A = List (Observation P)} (plainObserve P (e .1) q ∷ cond o [] (runImageBy D l (nextBy D (e .1) (noisyBy D (e .0) g))))
-              (plainObserve P (e .1) q ∷ cond o [] (runPlain P (imageCallsBy D l) (nextState P (e .1) z) (plainNext P (settleAccepted P z) (e .1) q)))
-          last true p = refl
-          last false p = ap (λ (t : List (Observation P)). plainObserve P (e .1) q ∷ t)
-              (ih (nextBy D (e .1) (noisyBy D (e .0) g)) (nextState P (e .1) z) (plainNext P (settleAccepted P z) (e .1) q) (h .goes-on p))
+pub run-image : (D : Delivery) (W : DeliveryLaws D) (l : List (NoisyCallBy D)) (g : Image) (z : State (rulesOf D)) (q : PlainList (rulesOf D)) → Sound D W g z q
+    → runImageBy D l g ≡ runPlain (rulesOf D) (imageCallsBy D l) z q
+run-image D W l g z q s =
+    run-rules D W l g (s .seen) ∙ run-same (rulesOf D) (lawfulBy D (W .rules)) (noisedBy D l) (stateBy D g) z q (s .ready)
+    ∙ ap (λ (t : List (Call (rulesOf D))). runPlain (rulesOf D) t z q) (calls-alone D W l)
 
 -- DEMAND 3
 pub one-record-list-on-images : OneRecordListOnImages

@@ -7,7 +7,7 @@ use Rattle.slot.specs.Blocks.{isHeld}
 use Rattle.method.specs.Rules.{act, answerOf, apply, clearCard, dropHeld, fail, fit, isProtected, look, lostOf, nextState}
 use Rattle.method.specs.Rules.{place, plan, refusal, settle, settled, settledAt, state, stopping}
 use Rattle.cabinet_rules.specs.Cabinet.{placeRows, startRow}
-use Rattle.cabinet_rules.proofs.Examples.{answers, final}
+use Rattle.cabinet_rules.proofs.Examples.{answersBy, final}
 
 -- Two cards; three; two, and a third outside the placement; four, and a plain load move onto three of them, and onto two; four of which
 -- one failed, before and after settle; three of which one failed, after settle. 8 is protected, 9 unprotected.
@@ -30,5 +30,5 @@ protection-examples :
     ∷ (8 ∷ [])
     ∷ (9 ∷ [])
     ∷ []
-unfolding final answers answerOf nextState apply plan refusal act look lostOf stopping settled settledAt isProtected clearCard dropHeld hasCard withCard withoutCard isWithin size startRow placeRows isHeld tabulate
+unfolding final answersBy answerOf nextState apply plan refusal act look lostOf stopping settled settledAt isProtected clearCard dropHeld hasCard withCard withoutCard isWithin size startRow placeRows isHeld tabulate
 protection-examples = refl

@@ -16,7 +16,7 @@ use Rattle.control.specs.ControlBytes.{controlByte}
 use Rattle.cabinet_rules.specs.Cabinet.{cabinet, placeRows, rulesOf, startRow}
 use Rattle.cabinet_rules.specs.Delivery.{base, current}
 use Rattle.cabinet_rules.specs.GoesOn.{growthOf}
-use Rattle.cabinet_rules.proofs.Examples.{answers}
+use Rattle.cabinet_rules.proofs.Examples.{answers, answersBy}
 
 -- An older store: the base's start with cards 0, 1, 4 and 5, and record 0, in block 0, stored as 4660 and committed.
 older : State cabinet
@@ -45,5 +45,5 @@ rail-examples :
     ∷ (0x80 ∷ [])
     ∷ (0 ∷ []) ∷ (15 ∷ 9 ∷ []) ∷ (6 ∷ 1 ∷ []) ∷ (15 ∷ 13 ∷ []) ∷ (6 ∷ 0 ∷ []) ∷ (7 ∷ 1 ∷ []) ∷ (0 ∷ []) ∷ (1 ∷ 4660 ∷ [])
     ∷ []
-unfolding older marks rulesAfter controlByte answers answerOf nextState apply plan refusal act look trail holders lostOf stopping settled settledAt isProtected lockHolders layBlock endHeld dropHeld clearCard moveWrites anyLocked hasCard withCard withoutCard isWithin memberAt chainedSites membersAfter acrossRails railSites sitesOf startRow placeRows isHeld wordAt slotOf wordOf putSlot lockSlot endedByte endSlots tabulate members size
+unfolding older marks rulesAfter controlByte answersBy answerOf nextState apply plan refusal act look trail holders lostOf stopping settled settledAt isProtected lockHolders layBlock endHeld dropHeld clearCard moveWrites anyLocked hasCard withCard withoutCard isWithin memberAt chainedSites membersAfter acrossRails railSites sitesOf startRow placeRows isHeld wordAt slotOf wordOf putSlot lockSlot endedByte endSlots tabulate members size
 rail-examples = refl

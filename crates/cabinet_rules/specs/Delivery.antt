@@ -1,4 +1,4 @@
--- What the deliveries of this cabinet differ in; the base, A.1 to A.4, and the delivery in force. Assumes nothing.
+-- What the deliveries of this cabinet differ in; the base, A.1 to A.4, A.5, and which of them is in force. Assumes nothing.
 use Prim.Native.Nat.{_≤_, ℕ}
 use lib.Dec.{eqb, ltb}
 use mathlib.Core.Bool.{Bool, _&&_, true}
@@ -125,7 +125,7 @@ railed values = record {
 abbrev pub twoRails : Delivery
 twoRails = railed anyValue
 
--- ---- the delivery in force: A.5
+-- ---- A.5
 -- New feeder drives read this value as a broken wire.
 abbrev pub brokenWire : ℕ
 brokenWire = 65535
@@ -134,5 +134,9 @@ brokenWire = 65535
 abbrev pub storable : ℕ → Bool
 storable n = ltb n brokenWire
 
+abbrev pub belowWire : Delivery
+belowWire = railed storable
+
+-- ---- the delivery in force
 abbrev pub current : Delivery
-current = railed storable
+current = belowWire

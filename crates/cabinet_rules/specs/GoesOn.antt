@@ -14,7 +14,7 @@ use Rattle.control_form.specs.ControlForm.{formRefusal}
 use Rattle.cabinet_rules.specs.Cabinet.{cabinet, rulesOf}
 use Rattle.cabinet_rules.specs.Claims.{NoStopBy, NoisyCall, NoisyCallBy, imageAfter, imageAfterBy, imageCalls}
 use Rattle.cabinet_rules.specs.Claims.{imageCallsBy, runImage}
-use Rattle.cabinet_rules.specs.Delivery.{Delivery, base, current, twoRails}
+use Rattle.cabinet_rules.specs.Delivery.{Delivery, base, belowWire, current, twoRails}
 use Rattle.cabinet_rules.specs.Images.{Image, answerBy, nextBy}
 
 -- ---- a store by a delivery
@@ -124,12 +124,16 @@ LeftByBase = LeftBy base (λ s. ⊥)
 abbrev pub LeftByRails : StoreBy twoRails → Type 0
 LeftByRails = LeftBy twoRails (TakenOver base twoRails olderFromMask (λ g. g) LeftByBase)
 
+-- Those that A.5 has from the earlier ones. A placement is what it was.
+abbrev pub BeforeWire : StoreBy belowWire → Type 0
+BeforeWire = TakenOver twoRails belowWire (λ p. p) (λ g. g) LeftByRails
+
 -- Those that the delivery in force has from the earlier ones.
 abbrev pub Store : Type 0
 Store = StoreBy current
 
 abbrev pub Earlier : Store → Type 0
-Earlier = TakenOver twoRails current (λ p. p) (λ g. g) LeftByRails
+Earlier = BeforeWire
 
 -- The images that the earlier ones left, of running and of stopped stores.
 abbrev pub EarlierImage : Image → Type 0

@@ -2,13 +2,13 @@
 use Prim.Native.Nat.{_%_, _+_, _-_, _/_, suc, zero, ℕ}
 use lib.Dec.{ltb}
 use lib.ListN.{getD}
-use mathlib.Core.Bool.{Bool, cond, false, true}
+use mathlib.Core.Bool.{Bool, _&&_, cond, false, true}
 use mathlib.Core.List.{List}
 use mathlib.Core.Option.{Option, none, some}
 use Rattle.lists.specs.Tabulate.{tabulate}
-use Rattle.image.specs.Layout.{Layout, blockAddressOf, blockSize, blocksSize, controlSize, endStartOf, imageSizeOf, layout}
-use Rattle.image.specs.Layout.{tableSizeOf, tailStartOf}
-use Rattle.slot.specs.Blocks.{BlockBytes, blockOfBytes, byteIn}
+use Rattle.image.specs.Layout.{Layout, blockAddressOf, blockCount, blockSize, blocksSize, cardCount, controlSize, endStartOf}
+use Rattle.image.specs.Layout.{imageSizeOf, layout, tableSizeOf, tailStartOf}
+use Rattle.slot.specs.Blocks.{BlockBytes, blockOfBytes, byteIn, emptyBlock}
 use Rattle.method.specs.PlainList.{orRefused}
 use Rattle.method.specs.Rules.{Answer, Call, CallOf, Plan, State, act, begin, commit, delete, fail, fit, get, load}
 use Rattle.method.specs.Rules.{look, move, place, refusal, rollback, settle, start, state, store, updated, withdraw}
@@ -101,6 +101,10 @@ isStart state = false
 isStart (load c) = false
 
 -- ---- by a delivery
+-- There is such a card with such a block; what is not there is as if empty.
+abbrev pub isThere : ℕ → ℕ → Bool
+isThere c b = ltb c cardCount && ltb b blockCount
+
 module _ (D : Delivery) where
   -- The control part that an image shows, its control form, and the whole state.
   abbrev pub controlBy : Image → PartOf D
@@ -112,8 +116,8 @@ module _ (D : Delivery) where
   unfoldable pub stateBy : Image → State (rulesOf D)
   stateBy g = record {
     control = controlBy g;
-    block = blockBy (D .layout) g;
-    stamp = λ c. D .stampIn (endBy (D .layout) g c);
+    block = λ c b. cond (isThere c b) (blockBy (D .layout) g c b) emptyBlock;
+    stamp = λ c. cond (ltb c cardCount) (D .stampIn (endBy (D .layout) g c)) (D .noStamp);
   }
 
   -- The whole refusal table: rows 1 and 2, then the rows from 3 on.

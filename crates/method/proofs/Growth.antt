@@ -23,6 +23,7 @@ use Rattle.method.proofs.Capacity.{Capacity, Chain, ControlInv, bounded
 use Rattle.method.proofs.Stopped.{Rests}
 use Rattle.method.proofs.Invariant.{Blank, BlockInv, Cover, Form, Invariant}
 use Rattle.method.proofs.Laws.{Laws}
+use Rattle.method.proofs.Legal.{Legal, is-resting, is-running}
 use Rattle.method.proofs.Reached.{Reached, ready-reached}
 use Rattle.method.proofs.Run.{Beside, Ready, run-same}
 
@@ -104,6 +105,11 @@ module _ (P : Parameters) (L : Laws P) (G : Growth P) (E : Keeps P G) (M : Laws 
       numbers = still-numbered k (r .bound) (r .numbers);
       bound = omega (arith, r .bound, enough-room (k .setting), same-copies (k .setting), length-map (k .older) (G .older));
     }
+
+    -- ---- either
+    pub legal-grown : Legal P L k → Legal (grown P G) M (grownControl P G k)
+    legal-grown (is-running f u) = is-running (form-grown f) (control-inv-grown f u)
+    legal-grown (is-resting r) = is-resting (rests-grown r)
 
     -- ---- the tables
     same-visible : (c b : ℕ) → visible (grown P G) (grownControl P G k) c b ≡ visible P k c b

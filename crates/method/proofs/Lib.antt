@@ -9,6 +9,7 @@ pub mod MoveEffect
 pub mod Calls
 pub mod Capacity
 pub mod Stopped
+pub mod Legal
 pub mod Sight
 pub mod Run
 pub mod Reached

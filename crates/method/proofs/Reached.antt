@@ -3,10 +3,10 @@
 use mathlib.Core.List.{List, [], _∷_}
 use mathlib.Core.Path.{_∙_, _≡_, ap, sym}
 use Rattle.method.specs.Growth.{NoStop, plainAfter, rulesAfter, stateAfter}
-use Rattle.method.specs.OneRecordList.{callsOf, disturb, isLast, settleAccepted, zeroed}
+use Rattle.method.specs.OneRecordList.{Noise, callsOf, disturb, isLast, settleAccepted, zeroed}
 use Rattle.method.specs.Parameters.{Parameters}
 use Rattle.method.specs.PlainList.{PlainList, plainNext, plainStart}
-use Rattle.method.specs.Rules.{Call, State, View, answerOf, nextState, ok, start}
+use Rattle.method.specs.Rules.{Call, State, answerOf, nextState, ok, start}
 use Rattle.method.proofs.Laws.{Laws}
 use Rattle.method.proofs.Run.{Ready, accepted-start, next-start, ready-noise, ready-start, ready-step}
 
@@ -17,13 +17,13 @@ module _ (P : Parameters) where
     pub argument : StartArgument
     pub before : State P
     pub begins : answerOf P (start argument) before ≡ ok
-    pub since : List (View P × Call P)
+    pub since : List (Noise P × Call P)
     pub running : NoStop P since (nextState P (start argument) before)
     pub is : stateAfter P since (nextState P (start argument) before) ≡ s
 
 module _ (P : Parameters) (L : Laws P) where
   -- a list of calls that does not stop the store leaves it ready
-  pub ready-after : (l : List (View P × Call P)) (s z : State P) (q : PlainList P) → Ready P L s z q → NoStop P l s
+  pub ready-after : (l : List (Noise P × Call P)) (s z : State P) (q : PlainList P) → Ready P L s z q → NoStop P l s
       → Ready P L (stateAfter P l s) (rulesAfter P (callsOf P l) z) (plainAfter P (callsOf P l) z q)
   unfolding stateAfter NoStop rulesAfter plainAfter
   ready-after [] s z q r h = r

@@ -6,18 +6,17 @@ use mathlib.Core.Option.{some}
 use mathlib.Core.Path.{_∙_, _≡_, ap, ap₂, refl, subst}
 use native.Mathlib.Omega.{arith}
 use Rattle.method.specs.Changes.{Control, startedBy}
-use Rattle.method.specs.OneRecordList.{Observation, OneRecordList, callsOf, disturb, isLast, isZero, observe}
+use Rattle.method.specs.OneRecordList.{Noise, Observation, OneRecordList, callsOf, disturb, isLast, isZero, observe}
 use Rattle.method.specs.OneRecordList.{plainObserve, runPlain, runStore, settleAccepted, zeroed}
 use Rattle.method.specs.Parameters.{Parameters}
 use Rattle.method.specs.PlainList.{PlainList, noBlocks, plainNext, plainStart}
 use Rattle.method.specs.Rules.{Call, Plan, State, View, act, answerOf, apply, guarded, look, nextState, ok, plan}
 use Rattle.method.specs.Rules.{refusal, settle, start}
-use Rattle.method.specs.Slots.{Slot}
 use Rattle.method.proofs.Calls.Agreement.{Agrees, accepted}
 use Rattle.method.proofs.Calls.Cards.{start-inv}
 use Rattle.method.proofs.Calls.Every.{step-any}
 use Rattle.method.proofs.Capacity.{ControlInv, control-kept, full-start}
-use Rattle.method.proofs.Invariant.{Invariant}
+use Rattle.method.proofs.Invariant.{Form, Invariant}
 use Rattle.method.proofs.Keeping.{nextView}
 use Rattle.method.proofs.Laws.{Laws}
 use Rattle.method.proofs.Sight.{look-disturb, look-next, plan-sight}
@@ -41,11 +40,11 @@ module _ (P : Parameters) (L : Laws P) where
         ∙ ap₂ (λ (p : Plan P) (y : View P). nextView P L (p .after) (p .write) y) (beside-plan s k v b c) (b .same-look);
   }
 
-  beside-disturb : (g : View P) (s : State P) (k : Control P) (v : View P) (records : ℕ → Slot) → Invariant P k v records → Beside s k v → Beside (disturb P g s) k v
+  pub beside-disturb : (g : Noise P) (s : State P) (k : Control P) (v : View P) → Form P k → Beside s k v → Beside (disturb P g s) k v
   unfolding disturb
-  beside-disturb g s k v records i b = record {
+  beside-disturb g s k v f b = record {
     same-control = b .same-control;
-    same-look = look-disturb P L g s (rw (b .same-control) (i .form .base .apart)) ∙ b .same-look;
+    same-look = look-disturb P L g s (rw (b .same-control) (f .base .apart)) ∙ b .same-look;
   }
 
   pub beside-answer : (s : State P) (k : Control P) (v : View P) → Beside s k v → (c : Call P) → answerOf P c s ≡ plan P c k v .answer
@@ -64,8 +63,8 @@ module _ (P : Parameters) (L : Laws P) where
     pub shows : observe P c (answerOf P c s) ≡ plainObserve P c q
     pub goes-on : isLast P (plainObserve P c q) ≡ false → Ready (nextState P c s) (nextState P c z) (plainNext P (settleAccepted P z) c q)
 
-  pub ready-noise : (g : View P) (s z : State P) (q : PlainList P) → Ready s z q → Ready (disturb P g s) z q
-  ready-noise g s z q r = record { sees = r .sees; inv = r .inv; full = r .full; store-beside = beside-disturb g s (q .control) (r .sees) (q .records) (r .inv) (r .store-beside); rules-beside = r .rules-beside }
+  pub ready-noise : (g : Noise P) (s z : State P) (q : PlainList P) → Ready s z q → Ready (disturb P g s) z q
+  ready-noise g s z q r = record { sees = r .sees; inv = r .inv; full = r .full; store-beside = beside-disturb g s (q .control) (r .sees) (r .inv .form) (r .store-beside); rules-beside = r .rules-beside }
 
   pub ready-step : (s z : State P) (q : PlainList P) → Ready s z q → (c : Call P) → Steps s z q c
   unfolding settleAccepted
@@ -103,7 +102,7 @@ module _ (P : Parameters) (L : Laws P) where
             rules-beside = move-to (nextState P c z) (beside-next z k v (r .rules-beside) c) (h .0);
           }
 
-  pub run-same : (l : List (View P × Call P)) (s z : State P) (q : PlainList P) → Ready s z q → runStore P l s ≡ runPlain P (callsOf P l) z q
+  pub run-same : (l : List (Noise P × Call P)) (s z : State P) (q : PlainList P) → Ready s z q → runStore P l s ≡ runPlain P (callsOf P l) z q
   unfolding runStore runPlain
   run-same [] s z q r = refl
   run-same (e ∷ l) s z q r = go (ready-step (disturb P (e .0) s) z q (ready-noise (e .0) s z q r) (e .1)) (run-same l)

@@ -9,7 +9,7 @@ use native.Mathlib.Omega.{arith}
 use Rattle.lists.proofs.Bools.{and-in, and-l, and-r, not-not-is, split}
 use Rattle.method.specs.Changes.{Control, addedBy, marked, replaced}
 use Rattle.method.specs.ControlPart.{added, begunAt, closed, halted, isOpen, withCards}
-use Rattle.method.specs.OneRecordList.{disturb}
+use Rattle.method.specs.OneRecordList.{Noise, disturb}
 use Rattle.method.specs.Parameters.{Parameters}
 use Rattle.method.specs.Rules.{Call, Plan, State, View, absent, act, apply, begin, clearCard, commit, delete}
 use Rattle.method.specs.Rules.{dropHeld, fail, failPlan, fit, get, guarded, load, lockHolders, look, move, ok}
@@ -28,12 +28,12 @@ module _ (P : Parameters) (L : Laws P) where
   open Laws L using (has-insert, has-remove)
 
   -- ---- noise: what the rules see of a state
-  pub look-disturb : (g : View P) (s : State P) → ((c : ℕ) → has (s .control .working) c ≡ true → has (s .control .failed) c ≡ false) → look P (disturb P g s) ≡ look P s
+  pub look-disturb : (g : Noise P) (s : State P) → ((c : ℕ) → has (s .control .working) c ≡ true → has (s .control .failed) c ≡ false) → look P (disturb P g s) ≡ look P s
   unfolding look disturb
   look-disturb g s apart = fun-ext (λ c. fun-ext (λ b. go c b (split (visible P (s .control) c b))))
     where
       go : (c b : ℕ) → (visible P (s .control) c b ≡ true) ⊎ (visible P (s .control) c b ≡ false)
-          → cond (visible P (s .control) c b) (cond (has (s .control .failed) c) (g c b) (s .block c b)) empty ≡ cond (visible P (s .control) c b) (s .block c b) empty
+          → cond (visible P (s .control) c b) (cond (has (s .control .failed) c) (g .block c b) (s .block c b)) empty ≡ cond (visible P (s .control) c b) (s .block c b) empty
       go c b (inl e) = rw (e, apart c (and-l (has (s .control .working) c) (ltb b (blocks (s .control .setting))) e))
       go c b (inr e) = rw e
 

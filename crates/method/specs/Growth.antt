@@ -6,11 +6,11 @@ use mathlib.Core.List.{List, [], _∷_, map}
 use mathlib.Core.Path.{_≡_}
 use Rattle.method.specs.Changes.{Control}
 use Rattle.method.specs.ControlPart.{ControlPart, part}
-use Rattle.method.specs.OneRecordList.{callsOf, disturb, isLast, observe, runPlain, runStore, settleAccepted}
-use Rattle.method.specs.OneRecordList.{zeroed}
+use Rattle.method.specs.OneRecordList.{Noise, callsOf, disturb, isLast, observe, runPlain, runStore}
+use Rattle.method.specs.OneRecordList.{settleAccepted, zeroed}
 use Rattle.method.specs.Parameters.{Parameters}
 use Rattle.method.specs.PlainList.{PlainList, plainNext, plainStart}
-use Rattle.method.specs.Rules.{Call, State, View, answerOf, nextState, ok, stamped, start}
+use Rattle.method.specs.Rules.{Call, State, answerOf, nextState, ok, stamped, start}
 
 -- ---- what a later paper changes
 pub record Growth (P : Parameters) : Type 1 where
@@ -123,12 +123,12 @@ module _ (P : Parameters) (G : Growth P) where
 -- ---- what a list of calls leaves
 module _ (P : Parameters) where
   -- The state after a list of calls, each with the noise before it.
-  unfoldable pub stateAfter : List (View P × Call P) → State P → State P
+  unfoldable pub stateAfter : List (Noise P × Call P) → State P → State P
   stateAfter [] s = s
   stateAfter (e ∷ l) s = stateAfter l (nextState P (e .1) (disturb P (e .0) s))
 
   -- None of these calls stopped the store.
-  unfoldable pub NoStop : List (View P × Call P) → State P → Type 0
+  unfoldable pub NoStop : List (Noise P × Call P) → State P → Type 0
   NoStop [] s = Unit {0}
   NoStop (e ∷ l) s =
       (isLast P (observe P (e .1) (answerOf P (e .1) (disturb P (e .0) s))) ≡ false)
@@ -149,8 +149,8 @@ module _ (P : Parameters) where
 -- that was fed all of them.
 unfoldable pub GoesOn : (P : Parameters) → Growth P → Type 0
 GoesOn P G = (a : Parameters.StartArgument P) (before : State P) → answerOf P (start a) before ≡ ok
-    → (l : List (View P × Call P)) → NoStop P l (nextState P (start a) before)
-    → (m : List (View (grown P G) × Call (grown P G)))
+    → (l : List (Noise P × Call P)) → NoStop P l (nextState P (start a) before)
+    → (m : List (Noise (grown P G) × Call (grown P G)))
     → runStore (grown P G) m (grownState P G (stateAfter P l (nextState P (start a) before)))
     ≡ runPlain (grown P G) (callsOf (grown P G) m) (grownState P G (rulesAfter P (callsOf P l) (zeroed P a)))
     (grownPlain P G (plainAfter P (callsOf P l) (zeroed P a) (plainStart P a)))

@@ -18,7 +18,7 @@ isZero zero = true
 isZero (suc n) = false
 
 module _ (P : Parameters) where
-  open Parameters P using (StartArgument, has, noStamp)
+  open Parameters P using (StartArgument, Stamp, has, noStamp)
 
   -- ---- what is compared
   -- The answer of a get, store, delete, commit or rollback; of a fail, whether it stops the store; of the other calls
@@ -66,16 +66,20 @@ module _ (P : Parameters) where
   observe state x = quiet
   observe (load c) x = quiet
 
-  -- Before each call the tables of failed cards hold any bytes: what noise says.
-  unfoldable pub disturb : View P → State P → State P
+  -- Before each call the tables of failed cards hold any bytes: what noise says, of blocks and of stamps.
+  pub record Noise : Type 0 where
+    pub block : View P
+    pub stamp : ℕ → Stamp
+
+  unfoldable pub disturb : Noise → State P → State P
   disturb noise s = record {
     control = s .control;
-    block = λ c b. cond (has (s .control .failed) c) (noise c b) (s .block c b);
-    stamp = s .stamp;
+    block = λ c b. cond (has (s .control .failed) c) (noise .block c b) (s .block c b);
+    stamp = λ c. cond (has (s .control .failed) c) (noise .stamp c) (s .stamp c);
   }
 
   -- A list of calls, each with the noise before it. Each call gets the tables as the last left them.
-  unfoldable pub runStore : List (View P × Call P) → State P → List Observation
+  unfoldable pub runStore : List (Noise × Call P) → State P → List Observation
   runStore [] s = []
   runStore (e ∷ l) s =
       observe (e .1) (answerOf P (e .1) (disturb (e .0) s))
@@ -114,7 +118,7 @@ module _ (P : Parameters) where
       plainObserve c q
       ∷ cond (isLast (plainObserve c q)) [] (runPlain l (nextState P c z) (plainNext P (settleAccepted z) c q))
 
-  abbrev pub callsOf : List (View P × Call P) → List (Call P)
+  abbrev pub callsOf : List (Noise × Call P) → List (Call P)
   callsOf [] = []
   callsOf (e ∷ l) = e .1 ∷ callsOf l
 
@@ -129,5 +133,5 @@ module _ (P : Parameters) where
   -- DEMAND 3. After an accepted start on memory of any contents.
   unfoldable pub OneRecordList : Type 0
   OneRecordList = (a : StartArgument) (before : State P) → answerOf P (start a) before ≡ ok
-      → (l : List (View P × Call P))
+      → (l : List (Noise × Call P))
       → runStore l (nextState P (start a) before) ≡ runPlain (callsOf l) (zeroed a) (plainStart P a)

@@ -6,10 +6,10 @@ use mathlib.Core.List.{List}
 use mathlib.Core.Path.{_≡_}
 use Rattle.lists.specs.Tests.{allBelow, count}
 use Rattle.method.specs.Growth.{NoStop, plainAfter, stateAfter}
-use Rattle.method.specs.OneRecordList.{callsOf, disturb, isStop, zeroed}
+use Rattle.method.specs.OneRecordList.{Noise, callsOf, disturb, isStop, zeroed}
 use Rattle.method.specs.Parameters.{Parameters}
 use Rattle.method.specs.PlainList.{PlainList, plainProtected, plainStart}
-use Rattle.method.specs.Rules.{Answer, Call, State, View, answerOf, fail, isProtected, nextState, ok, protected}
+use Rattle.method.specs.Rules.{Answer, Call, State, answerOf, fail, isProtected, nextState, ok, protected}
 use Rattle.method.specs.Rules.{start, state, unprotected}
 
 module _ (P : Parameters) where
@@ -42,7 +42,7 @@ module _ (P : Parameters) where
   -- the plain record list that was fed the same calls.
   unfoldable pub ProtectedByPlainList : Type 0
   ProtectedByPlainList = (a : StartArgument) (before : State P) → answerOf P (start a) before ≡ ok
-      → (l : List (View P × Call P)) → NoStop P l (nextState P (start a) before)
-      → (noise : View P)
+      → (l : List (Noise P × Call P)) → NoStop P l (nextState P (start a) before)
+      → (noise : Noise P)
       → answerOf P state (disturb P noise (stateAfter P l (nextState P (start a) before)))
       ≡ protection (plainProtected P (plainAfter P (callsOf P l) (zeroed P a) (plainStart P a)))

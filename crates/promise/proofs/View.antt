@@ -5,8 +5,9 @@ use mathlib.Core.Bool.{Bool, _&&_, cond, false, true}
 use mathlib.Core.Logic.{_⊎_, inl, inr}
 use mathlib.Core.Path.{_∙_, _≡_, ap, refl}
 use Rattle.lists.proofs.Bools.{split}
-use Rattle.image.specs.Layout.{blockCount}
+use Rattle.image.specs.Layout.{blockCount, cardCount}
 use Rattle.mask.specs.Masks.{hasCard}
+use Rattle.mask.proofs.Masks.{has-card}
 use Rattle.slot.specs.Blocks.{emptyBlock, isHeld}
 use Rattle.slot.proofs.Blocks.{held-empty}
 use Rattle.method.specs.Rules.{look}
@@ -19,7 +20,7 @@ module _ (g : Image) where
   -- ---- the tables: blocks of working cards
   pub look-on : (c b : ℕ) → hasCard (controlIn g .working) c ≡ true → b < blockCount → look cabinet (stateIn g) c b ≡ blockIn g c b
   unfolding look stateBy
-  look-on c b on h = rw (on, lt-ltb b blockCount h)
+  look-on c b on h = rw (on, lt-ltb b blockCount h, lt-ltb c cardCount (has-card (controlIn g .working) c on))
 
   pub look-off : (c b : ℕ) → hasCard (controlIn g .working) c ≡ false → look cabinet (stateIn g) c b ≡ emptyBlock
   unfolding look stateBy
