@@ -12,7 +12,7 @@ use Rattle.image.specs.Layout.{imageSizeOf, recordCount, valueBound}
 use Rattle.method.specs.ControlPart.{isOpen}
 use Rattle.method.specs.Parameters.{Parameters}
 use Rattle.method.specs.PlainList.{orRefused}
-use Rattle.method.specs.Rules.{Answer, Call, Plan, View, act, anyLocked, begin, clearCard, commit, delete, dropHeld, endHeld}
+use Rattle.method.specs.Rules.{isStart, Answer, Call, Plan, View, act, anyLocked, begin, clearCard, commit, delete, dropHeld, endHeld}
 use Rattle.method.specs.Rules.{fail, fit, get, holders, isProtected, layBlock, load, lockHolders, lockedOut, look, lostOf}
 use Rattle.method.specs.Rules.{clearStamp, stampAll, stamped}
 use Rattle.method.specs.Rules.{move, moveWrites, place, refusal, refused, rollback, row, seenSlot, settle, settled}
@@ -23,7 +23,7 @@ use Rattle.control_form.specs.ControlForm.{formRowsOf}
 use Rattle.cabinet_rules.specs.BrokenWire.{BrokenWireRefused, ElseAsBefore}
 use Rattle.cabinet_rules.specs.Cabinet.{placeRows, rulesOf, tranOk}
 use Rattle.cabinet_rules.specs.Delivery.{anyValue, belowWire, brokenWire, storable, twoRails}
-use Rattle.cabinet_rules.specs.Images.{Image, after, answerBy, controlBy, isStart, nextBy, planBy, refusalBy, stateBy}
+use Rattle.cabinet_rules.specs.Images.{Image, after, answerBy, controlBy, nextBy, planBy, refusalBy, stateBy}
 use Rattle.cabinet_rules.specs.Images.{afterPlan, formBy, unlessRefusedImage}
 
 -- The rules of A.5, and of the delivery before.

@@ -10,7 +10,7 @@ use Rattle.lists.proofs.Bools.{not-not-is, split}
 use native.Mathlib.Omega.{arith}
 use Rattle.image.specs.Layout.{imageSize}
 use Rattle.slot.specs.Blocks.{emptyBlock}
-use Rattle.method.specs.Rules.{Call, answerOf, begin, commit, delete, fail, fit, get, load, look, move, nextState, place, rollback, row}
+use Rattle.method.specs.Rules.{isStart, Call, answerOf, begin, commit, delete, fail, fit, get, load, look, move, nextState, place, rollback, row}
 use Rattle.method.specs.Rules.{settle, start, state, store, visible, withdraw}
 use Rattle.method.proofs.Refusals.{row-clear}
 use Rattle.method.proofs.Legal.{Legal, is-resting, is-running}
@@ -20,7 +20,7 @@ use Rattle.control_form.proofs.RoundTrip.{control-back}
 use Rattle.cabinet_rules.specs.Cabinet.{cabinet}
 use Rattle.cabinet_rules.specs.Claims.{CallsByTheRules, RunsByTheRules}
 use Rattle.cabinet_rules.specs.Delivery.{current}
-use Rattle.cabinet_rules.specs.Images.{Image, answer, controlIn, isStart, next, stateBy, stateIn}
+use Rattle.cabinet_rules.specs.Images.{Image, answer, controlIn, next, stateBy, stateIn}
 use Rattle.cabinet_rules.proofs.Form.{currentLaws}
 use Rattle.cabinet_rules.proofs.FormLaws.{resting, running-form, running-inv}
 use Rattle.cabinet_rules.proofs.Lawful.{lawful}

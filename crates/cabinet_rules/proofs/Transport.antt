@@ -23,7 +23,7 @@ use Rattle.method.specs.Growth.{stateAfter}
 use Rattle.method.specs.OneRecordList.{Observation, callsOf, disturb, isLast, observe, runStore}
 use Rattle.method.specs.Parameters.{Parameters}
 use Rattle.method.specs.PlainList.{orRefused}
-use Rattle.method.specs.Rules.{Answer, Call, Plan, State, act, answerOf, apply, guarded, look, nextState, ok, plan, refusal, row, start, updated}
+use Rattle.method.specs.Rules.{isStart, Answer, Call, Plan, State, act, answerOf, apply, guarded, look, nextState, ok, plan, refusal, row, start, updated}
 use Rattle.method.specs.Rules.{visible}
 use Rattle.method.proofs.Laws.{Laws}
 use Rattle.method.proofs.Refusals.{row-clear}
@@ -31,7 +31,7 @@ use Rattle.method.proofs.Legal.{Legal, Written, is-resting, is-running, legal-n
 use Rattle.cabinet_rules.specs.Cabinet.{rulesOf, startRow}
 use Rattle.cabinet_rules.specs.Claims.{NoisyCallBy, imageAfterBy, imageCallsBy, noiseBy, noisedBy, noisyBy, noisyByte, runImageBy}
 use Rattle.cabinet_rules.specs.Delivery.{Delivery, PartOf}
-use Rattle.cabinet_rules.specs.Images.{Image, afterPlan, answerBy, blockBy, controlBy, endBy, endOf, formBy, isStart, isThere}
+use Rattle.cabinet_rules.specs.Images.{Image, afterPlan, answerBy, blockBy, controlBy, endBy, endOf, formBy, isThere}
 use Rattle.cabinet_rules.specs.Images.{nextBy, planBy, refusalBy, stateBy, tailBy}
 use Rattle.cabinet_rules.proofs.After.{after-end, card-of, in-tables}
 use Rattle.cabinet_rules.proofs.Lawful.{DeliveryLaws, ShowsStamp, lawfulBy}

@@ -12,11 +12,11 @@ use Rattle.slot.specs.Blocks.{blockOfBytes, emptyBlock}
 use Rattle.method.specs.Growth.{stateAfter}
 use Rattle.method.specs.OneRecordList.{Noise, Observation, isLast, observe, runPlain, runStore, zeroed}
 use Rattle.method.specs.PlainList.{plainStart}
-use Rattle.method.specs.Rules.{Call, answerOf, nextState, ok, start}
+use Rattle.method.specs.Rules.{isStart, Call, answerOf, nextState, ok, start}
 use Rattle.control_form.specs.ControlForm.{controlForm, formRefusal, formRows}
 use Rattle.cabinet_rules.specs.Cabinet.{cabinet, rulesOf}
 use Rattle.cabinet_rules.specs.Delivery.{Delivery, current}
-use Rattle.cabinet_rules.specs.Images.{Image, answer, answerBy, cardBy, controlBy, isStart, isThere, next, nextBy}
+use Rattle.cabinet_rules.specs.Images.{Image, answer, answerBy, cardBy, controlBy, isThere, next, nextBy}
 use Rattle.cabinet_rules.specs.Images.{stateIn}
 
 -- ---- a list of calls by a delivery, each with the noise before it

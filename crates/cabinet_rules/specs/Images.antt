@@ -11,7 +11,7 @@ use Rattle.image.specs.Layout.{imageSizeOf, layout, tableSizeOf, tailStartOf}
 use Rattle.slot.specs.Blocks.{BlockBytes, blockOfBytes, byteIn, emptyBlock}
 use Rattle.method.specs.PlainList.{orRefused}
 use Rattle.method.specs.Rules.{Answer, Call, CallOf, Plan, State, act, begin, commit, delete, fail, fit, get, load}
-use Rattle.method.specs.Rules.{look, move, place, refusal, rollback, settle, start, state, store, updated, withdraw}
+use Rattle.method.specs.Rules.{isStart, look, move, place, refusal, rollback, settle, start, state, store, updated, withdraw}
 use Rattle.control.specs.ControlBytes.{Part}
 use Rattle.control_form.specs.ControlForm.{formRowsOf}
 use Rattle.cabinet_rules.specs.Cabinet.{cabinet, rulesOf}
@@ -80,25 +80,6 @@ after = afterBy layout
 abbrev pub unlessRefusedImage : ℕ → Image → Image → Image
 unlessRefusedImage zero found changed = changed
 unlessRefusedImage (suc n) found changed = found
-
--- ---- start
--- It examines only the length: older contents are not examined.
-abbrev pub isStart : {S A : Type 0} → CallOf S A → Bool
-isStart (start m) = true
-isStart (begin t h) = false
-isStart (get t r) = false
-isStart (store t r n) = false
-isStart (delete t r) = false
-isStart (commit t) = false
-isStart (rollback t) = false
-isStart (fit c) = false
-isStart (withdraw c) = false
-isStart (place m) = false
-isStart (fail c) = false
-isStart (move c b) = false
-isStart settle = false
-isStart state = false
-isStart (load c) = false
 
 -- ---- by a delivery
 -- There is such a card with such a block; what is not there is as if empty.

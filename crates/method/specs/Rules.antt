@@ -45,6 +45,24 @@ pub data CallOf (S A : Type 0) : Type 0 where
   state : CallOf S A
   load : ℕ → CallOf S A
 
+-- Start is the one call that examines nothing of older contents.
+abbrev pub isStart : {S A : Type 0} → CallOf S A → Bool
+isStart (start m) = true
+isStart (begin t h) = false
+isStart (get t r) = false
+isStart (store t r n) = false
+isStart (delete t r) = false
+isStart (commit t) = false
+isStart (rollback t) = false
+isStart (fit c) = false
+isStart (withdraw c) = false
+isStart (place m) = false
+isStart (fail c) = false
+isStart (move c b) = false
+isStart settle = false
+isStart state = false
+isStart (load c) = false
+
 -- The answers. A set of cards is an M.
 pub data AnswerOf (M : Type 0) : Type 0 where
   ok : AnswerOf M
@@ -149,69 +167,47 @@ module _ (P : Parameters) where
   isProtected k = allBelow cards (λ c. not (has (k .working) c && stopping k c))
 
   -- ---- the refusal table from 3 on: the lowest number that applies, 0 where none does
-  -- start gives only 9 (and 1); every other call is refused 4 when stopped.
+  -- Row 3: a number is out of range.
+  abbrev pub outOfRange : Call → Control P → Bool
+  outOfRange (start a) k = false
+  outOfRange (begin t h) k = not (tranInRange t && ltb h cards)
+  outOfRange (get t r) k = not (tranInRange t && recInRange (k .setting) r)
+  outOfRange (store t r n) k = not (tranInRange t && recInRange (k .setting) r && valueInRange n)
+  outOfRange (delete t r) k = not (tranInRange t && recInRange (k .setting) r)
+  outOfRange (commit t) k = not (tranInRange t)
+  outOfRange (rollback t) k = not (tranInRange t)
+  outOfRange (fit c) k = not (ltb c cards)
+  outOfRange (withdraw c) k = not (ltb c cards)
+  outOfRange (place a) k = not (placeInRange a)
+  outOfRange (fail c) k = not (ltb c cards)
+  outOfRange (move c b) k = not (ltb c cards && ltb b (blocks (k .setting)))
+  outOfRange settle k = false
+  outOfRange state k = false
+  outOfRange (load c) k = not (ltb c cards)
+
+  -- The rows from 5 on.
+  abbrev pub laterRows : Call → Control P → View → ℕ
+  laterRows (start a) k v = startRefusal a
+  laterRows (begin t h) k v = row 6 (isOpen k t) (row 8 (not (has (mask (k .newest)) h)) 0)
+  laterRows (get t r) k v = row 5 (not (isOpen k t)) (row 7 (lockedOut k v t r) 0)
+  laterRows (store t r n) k v = row 5 (not (isOpen k t)) (row 7 (lockedOut k v t r) 0)
+  laterRows (delete t r) k v = row 5 (not (isOpen k t)) (row 7 (lockedOut k v t r) 0)
+  laterRows (commit t) k v = row 5 (not (isOpen k t)) 0
+  laterRows (rollback t) k v = row 5 (not (isOpen k t)) 0
+  laterRows (fit c) k v = row 8 (has (k .working) c || inActive k c) 0
+  laterRows (withdraw c) k v =
+      row 8 (not (has (k .working) c) || inActive k c) (row 14 (anyBelow transactions (begunAt k c)) 0)
+  laterRows (place a) k v = placeRefusal k a
+  laterRows (fail c) k v = row 8 (not (has (k .working) c)) 0
+  laterRows (move c b) k v =
+      row 8 (not (has (k .working) c)) (row 11 (not (held (v c b))) (row 12 (anyLocked (v c b)) 0))
+  laterRows settle k v = row 13 (not (settled k v)) 0
+  laterRows state k v = 0
+  laterRows (load c) k v = row 8 (not (has (k .working) c)) 0
+
+  -- A stopped store refuses every call but start with 4.
   unfoldable pub refusal : Call → Control P → View → ℕ
-  refusal (start a) k v = startRefusal a
-  refusal (begin t h) k v =
-      row 3 (not (tranInRange t && ltb h cards)) (
-      row 4 (k .stopped) (
-      row 6 (isOpen k t) (
-      row 8 (not (has (mask (k .newest)) h)) 0)))
-  refusal (get t r) k v =
-      row 3 (not (tranInRange t && recInRange (k .setting) r)) (
-      row 4 (k .stopped) (
-      row 5 (not (isOpen k t)) (
-      row 7 (lockedOut k v t r) 0)))
-  refusal (store t r n) k v =
-      row 3 (not (tranInRange t && recInRange (k .setting) r && valueInRange n)) (
-      row 4 (k .stopped) (
-      row 5 (not (isOpen k t)) (
-      row 7 (lockedOut k v t r) 0)))
-  refusal (delete t r) k v =
-      row 3 (not (tranInRange t && recInRange (k .setting) r)) (
-      row 4 (k .stopped) (
-      row 5 (not (isOpen k t)) (
-      row 7 (lockedOut k v t r) 0)))
-  refusal (commit t) k v =
-      row 3 (not (tranInRange t)) (
-      row 4 (k .stopped) (
-      row 5 (not (isOpen k t)) 0))
-  refusal (rollback t) k v =
-      row 3 (not (tranInRange t)) (
-      row 4 (k .stopped) (
-      row 5 (not (isOpen k t)) 0))
-  refusal (fit c) k v =
-      row 3 (not (ltb c cards)) (
-      row 4 (k .stopped) (
-      row 8 (has (k .working) c || inActive k c) 0))
-  refusal (withdraw c) k v =
-      row 3 (not (ltb c cards)) (
-      row 4 (k .stopped) (
-      row 8 (not (has (k .working) c) || inActive k c) (
-      row 14 (anyBelow transactions (begunAt k c)) 0)))
-  refusal (place a) k v =
-      row 3 (not (placeInRange a)) (
-      row 4 (k .stopped) (
-      placeRefusal k a))
-  refusal (fail c) k v =
-      row 3 (not (ltb c cards)) (
-      row 4 (k .stopped) (
-      row 8 (not (has (k .working) c)) 0))
-  refusal (move c b) k v =
-      row 3 (not (ltb c cards && ltb b (blocks (k .setting)))) (
-      row 4 (k .stopped) (
-      row 8 (not (has (k .working) c)) (
-      row 11 (not (held (v c b))) (
-      row 12 (anyLocked (v c b)) 0))))
-  refusal settle k v =
-      row 4 (k .stopped) (
-      row 13 (not (settled k v)) 0)
-  refusal state k v =
-      row 4 (k .stopped) 0
-  refusal (load c) k v =
-      row 3 (not (ltb c cards)) (
-      row 4 (k .stopped) (
-      row 8 (not (has (k .working) c)) 0))
+  refusal c k v = row 3 (outOfRange c k) (row 4 (not (isStart c) && k .stopped) (laterRows c k v))
 
   -- ---- what an accepted call answers and leaves
   -- The answer, the control part after it, and for each card and block what is written there, if anything.

@@ -11,7 +11,7 @@ use mathlib.Core.Path.{_∙_, _≡_, ap, ap₂, refl, sym}
 use Rattle.lists.proofs.Bools.{not-not-is}
 use Rattle.image.specs.Layout.{Whole, imageSize}
 use Rattle.method.specs.PlainList.{orRefused}
-use Rattle.method.specs.Rules.{Call, Plan, row, stamping, unwritten, writing}
+use Rattle.method.specs.Rules.{isStart, Call, Plan, row, stamping, unwritten, writing}
 use Rattle.method.proofs.Refusals.{row-clear}
 use Rattle.control.specs.ControlBytes.{Part}
 use Rattle.control_form.specs.ControlForm.{controlForm, formRefusal}
@@ -21,7 +21,7 @@ use Rattle.control.specs.declared.Control.{Control}
 use Rattle.control_form.specs.declared.Found.{Found}
 use Rattle.cabinet_rules.specs.Cabinet.{cabinet}
 use Rattle.cabinet_rules.specs.Delivery.{current}
-use Rattle.cabinet_rules.specs.Images.{Image, Writes, afterPlan, answer, answerBy, controlIn, isStart, nextBy, planOn}
+use Rattle.cabinet_rules.specs.Images.{Image, Writes, afterPlan, answer, answerBy, controlIn, nextBy, planOn}
 use Rattle.cabinet_rules.specs.Images.{refusalBy, refusalOn, unlessRefusedImage}
 use Rattle.promise.specs.Given.{Given, rowsOn}
 use Rattle.promise.specs.Promise.{Done, shown}

@@ -7,11 +7,10 @@ use mathlib.Core.Path.{_≡_, refl, sym}
 use Rattle.lists.proofs.Bools.{and-l, and-r, not-not-is}
 use Rattle.image.specs.Layout.{cardCount, tranBound}
 use Rattle.method.specs.ControlPart.{closed, opened}
-use Rattle.method.specs.Rules.{View, act, begin, endHeld, ok, refusal, unwritten, writing}
+use Rattle.method.specs.Rules.{isStart, View, act, begin, endHeld, ok, refusal, unwritten, writing}
 use Rattle.method.proofs.Refusals.{row-clear}
 use Rattle.control.specs.ControlBytes.{Part}
 use Rattle.cabinet_rules.specs.Cabinet.{cabinet, tranOk}
-use Rattle.cabinet_rules.specs.Images.{isStart}
 use Rattle.promise.specs.Rows.{tranRows}
 use Rattle.promise.proofs.SharedRows.{tran-range}
 use Rattle.transactions.specs.Transactions.{beginRows, endCall}
