@@ -5,14 +5,14 @@ use borrow.Author.Tests.{le-ltb, lt-ltb, ltb-false, ltb-true}
 use lib.Dec.{ltb}
 use lib.ListN.{getD, length}
 use lib.Seq.{ext-getD}
-use mathlib.Core.Bool.{Bool, cond, false, true}
+use mathlib.Core.Bool.{false, true}
 use mathlib.Core.Logic.{_⊎_, inl, inr}
 use mathlib.Core.Path.{_∙_, _≡_, ap, ap₂, sym}
 use native.Mathlib.Nat.{div-add-mod', div-eq-of-lt, div-lt-iff-lt-mul, le-div-iff-mul-le, mod-lt, mul-add-div-right, mod-eq-sub-div-mul}
 use native.Mathlib.Omega.{arith}
 use Rattle.lists.proofs.Bools.{split}
 use Rattle.lists.proofs.Tabulate.{at-tabulate, length-tabulate}
-use Rattle.image.specs.Layout.{Layout, blockAddressOf, blockCount, blockSize, blockStart, blocksSize, cardCount, controlSize, endStartOf}
+use Rattle.image.specs.Layout.{Layout, blockAddressOf, blockCount, blockSize, blockStart, blocksSize, cardCount, controlSize}
 use Rattle.image.specs.Layout.{imageSizeOf, tableSizeOf, tableStartOf, tailStartOf}
 use Rattle.slot.specs.Blocks.{BlockBytes, byteIn}
 use Rattle.slot.proofs.Blocks.{block-ext, byte-in}

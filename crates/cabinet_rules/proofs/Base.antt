@@ -1,23 +1,20 @@
--- The base meets what is asked of a delivery; A.1 retired it. Assumes nothing.
+-- The base meets what is asked of a delivery; A.1 retired it, and its memory is written over that of A.1. Assumes nothing.
 use Prim.Native.Nat.{_+_, suc, ℕ}
-use borrow.Author.Tests.{eq-eqb, ltb-true}
+use borrow.Author.Tests.{eqb-true, ltb-true}
 use lib.Dec.{eqb}
-use mathlib.Core.Bool.{Bool}
+use mathlib.Core.Bool.{Bool, cond, false, true}
 use mathlib.Core.List.{List, [], _∷_, _++_, map}
-use mathlib.Core.Path.{_∙_, _≡_, ap, refl}
-use native.Mathlib.Omega.{arith}
-use Rattle.lists.proofs.Bools.{and-in}
+use mathlib.Core.Path.{_≡_, ap, refl, sym}
 use Rattle.image.specs.Layout.{valueBound}
 use Rattle.mask.specs.Masks.{Byte}
-use Rattle.mask.specs.Placements.{Placement, chainedSites, olderFromMask, sitesOf}
+use Rattle.mask.specs.Placements.{chainedSites, olderFromMask, sitesOf}
 use Rattle.mask.proofs.SiteLaws.{site-count, site-distinct, site-member}
-use Rattle.method.specs.ControlPart.{part}
-use Rattle.control.specs.ControlBytes.{controlByte, controlOf, marksFrom}
-use Rattle.control_form.specs.ControlForm.{formOk}
-use Rattle.cabinet_rules.specs.Delivery.{PartOf, base, masksAlone, olderPart, twoRails}
+use Rattle.control.specs.ControlBytes.{controlByte, marksFrom}
+use Rattle.cabinet_rules.specs.Delivery.{PartOf, base, beforeMarks, partBy, twoRails}
+use Rattle.cabinet_rules.specs.GoesOn.{fromBase}
 use Rattle.cabinet_rules.proofs.GoesOn.{Carries, carries-same}
-use Rattle.cabinet_rules.proofs.Lawful.{DeliveryLaws, RuleLaws, mask-few, mask-members, mask-working, no-stamps}
-use Rattle.cabinet_rules.proofs.Retired.{Retired, retired-control}
+use Rattle.cabinet_rules.proofs.Lawful.{DeliveryLaws, RuleLaws, mask-few, mask-members, mask-working, no-stamps, not-numbered}
+use Rattle.cabinet_rules.proofs.Retired.{Retired, retired-control, retired-over}
 use Rattle.cabinet_rules.proofs.TwoRails.{railLaws}
 
 -- ---- sites: those of a placement marked 0
@@ -41,45 +38,44 @@ baseRules = record {
   place-working = λ k m c e h. mask-working again k m e c h;
   place-few = mask-few again;
   value-fits = λ n e. ltb-true n valueBound e;
+  numbers = not-numbered base (λ k. tt);
 }
 
--- ---- control bytes
-masks-back : (l : List Byte) → map (λ (p : Placement). p .mask) (map olderFromMask l) ≡ l
-masks-back [] = refl
-masks-back (m ∷ l) = ap (λ (t : List Byte). m ∷ t) (masks-back l)
-
-part-back : (k : PartOf base) → masksAlone (olderPart k) ≡ k
-part-back k = ap (λ (l : List Byte). part (k .stopped) l (k .newest) (k .working) (k .failed) (k .home) (k .setting) (k .serial)) (masks-back (k .older))
-
--- placements marked 0 leave byte 7 zero
+-- ---- control bytes: written over those of A.1
+-- placements marked 0 leave the marks zero
 no-marks : (l : List Byte) (m : Byte) (i : ℕ) → marksFrom i (map olderFromMask l ++ (olderFromMask m ∷ [])) ≡ 0
 no-marks [] m i = refl
 no-marks (x ∷ l) m i = ap (λ (n : ℕ). 0 + n) (no-marks l m (suc i))
 
-byte-seven : (k : PartOf base) → controlByte (olderPart k) 7 ≡ 0
+marks-zero : (k : PartOf base) (n : ℕ) → eqb n 7 ≡ true → 0 ≡ controlByte (partBy olderFromMask (λ ν. ν) k) n
 unfolding controlByte
-byte-seven k = no-marks (k .older) (k .newest) 0
+marks-zero k n e = rw (eqb-true n 7 e) (sym (no-marks (k .older) (k .newest) 0))
 
--- ---- A.1 retired it
-pub base-retired : Retired base twoRails olderFromMask
-unfolding controlOf
-base-retired = record {
-  follows = record { same-mask = λ m. refl; same-sites = chained-is; still-usable = λ m h. h };
-  back = masksAlone;
-  back-older = part-back;
-  front = λ g. g;
-  behind = λ t. t;
-  wrote = λ k g t w. record { front = w .front; behind = w .behind };
-  part = λ g t. refl;
-  form = λ k g t w e. and-in (formOk g) (eqb (g 7) 0) e (eq-eqb (g 7) 0 (w .front 7 (omega arith) ∙ byte-seven k));
-}
+-- A.1 writes of an older control part what the base wrote
+same-bytes : (k : PartOf base) (n : ℕ) → (a : Bool) → eqb n 7 ≡ a
+    → cond a 0 (controlByte (partBy olderFromMask (λ ν. ν) k) n) ≡ controlByte (partBy olderFromMask (λ ν. ν) k) n
+same-bytes k n true e = marks-zero k n e
+same-bytes k n false e = refl
 
-pub base-carried : Carries base twoRails olderFromMask (λ g. g)
-base-carried = carries-same base twoRails olderFromMask refl (λ k n h. refl) (λ k n h. refl) (λ g c. refl)
+pub base-retired : Retired base twoRails fromBase
+base-retired = retired-over base twoRails fromBase beforeMarks (record {
+  follows = record { same-mask = λ m. refl; same-sites = chained-is; still-usable = λ m h. h; still-numbered = λ k h n. tt };
+  bytes-are = λ k n. refl;
+  part-is = λ g t. refl;
+  form-is = λ g t. refl;
+  told = λ k. refl;
+  back-placement = λ m. refl;
+  back-serial = λ ν. refl;
+  fills = marks-zero;
+  no-tail = λ k n. refl;
+})
+
+pub base-carried : Carries base twoRails fromBase railLaws
+base-carried = carries-same base twoRails fromBase railLaws (λ g. refl) refl (λ k n h. same-bytes k n (eqb n 7) refl) (λ k n h. refl) (λ g c h. refl) (λ g c h. refl)
 
 abbrev pub baseLaws : DeliveryLaws base
 baseLaws = record {
   rules = baseRules;
-  control = retired-control base twoRails olderFromMask base-retired baseRules railLaws;
+  control = retired-control base twoRails fromBase base-retired baseRules railLaws;
   stamps = no-stamps base baseRules (λ m n. refl);
 }

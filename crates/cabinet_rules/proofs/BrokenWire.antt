@@ -95,7 +95,7 @@ same-refused (suc n) a = refl
 module _ (c : Call since) (d : (t r : ℕ) → c ≢ store t r brokenWire) (g : Image) where
   same-refusal : refusalBy belowWire c g ≡ refusalBy twoRails c g
   unfolding refusalBy stateBy look
-  same-refusal = ap (λ (n : ℕ). formRowsOf (imageSizeOf (belowWire .layout)) (isStart c) (formBy belowWire g) g n) (same-rows c d (controlBy belowWire g) (look since (stateBy belowWire g)))
+  same-refusal = ap (λ (n : ℕ). formRowsOf (imageSizeOf (belowWire .memory .layout)) (isStart c) (formBy belowWire g) g n) (same-rows c d (controlBy belowWire g) (look since (stateBy belowWire g)))
 
   same-planned : SamePlan (planBy belowWire c g) (planBy twoRails c g)
   unfolding stateBy look
@@ -114,7 +114,7 @@ never : (b : Bool) → not (b && false) ≡ true
 never true = refl
 never false = refl
 
-wire-rows : (t r : ℕ) (g : Image) → refusalBy belowWire (store t r brokenWire) g ≡ formRowsOf (imageSizeOf (belowWire .layout)) false (formBy belowWire g) g 3
+wire-rows : (t r : ℕ) (g : Image) → refusalBy belowWire (store t r brokenWire) g ≡ formRowsOf (imageSizeOf (belowWire .memory .layout)) false (formBy belowWire g) g 3
 unfolding refusalBy refusal
 wire-rows t r g = rw (never (tranOk t && ltb r recordCount))
 
@@ -126,4 +126,4 @@ always-refused false false x g y = (refl, refl)
 
 pub broken-wire-refused : BrokenWireRefused
 unfolding BrokenWireRefused answerBy nextBy
-broken-wire-refused t r g = rw (wire-rows t r g) (always-refused (not (eqb (length g) (imageSizeOf (belowWire .layout)))) (not (formBy belowWire g)) _ g _)
+broken-wire-refused t r g = rw (wire-rows t r g) (always-refused (not (eqb (length g) (imageSizeOf (belowWire .memory .layout)))) (not (formBy belowWire g)) _ g _)

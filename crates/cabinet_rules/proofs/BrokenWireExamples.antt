@@ -7,7 +7,7 @@ use borrow.Author.Tests.{eq-eqb}
 use Rattle.lists.specs.Tabulate.{tabulate}
 use Rattle.image.specs.Layout.{imageSize}
 use Rattle.mask.specs.Masks.{byte, hasCard, isWithin, members, size, withCard, withoutCard}
-use Rattle.mask.specs.Placements.{acrossRails, memberAt, membersAfter, olderFromMask, railSites, sitesOf}
+use Rattle.mask.specs.Placements.{acrossRails, memberAt, membersAfter, railSites, sitesOf}
 use Rattle.slot.specs.Blocks.{endSlots, endedByte, isHeld, lockSlot, putSlot, wordAt}
 use Rattle.slot.specs.Words.{slotOf, wordOf}
 use Rattle.method.specs.Growth.{plainAfter, rulesAfter}
@@ -20,7 +20,7 @@ use Rattle.method.specs.Rules.{refusal, refused, rollback, settle, settled, set
 use Rattle.cabinet_rules.specs.Cabinet.{placeRows, rulesOf, startRow}
 use Rattle.cabinet_rules.specs.Claims.{NoStopBy, NoisyCallBy, imageCallsBy, runImageBy}
 use Rattle.cabinet_rules.specs.Delivery.{base, belowWire, brokenWire, twoRails}
-use Rattle.cabinet_rules.specs.GoesOn.{BeforeWire, StoreBy, calledStore, startedStore, takenOver}
+use Rattle.cabinet_rules.specs.GoesOn.{BeforeWire, StoreBy, calledStore, startedStore, takenOver, fromBase, fromRails}
 use Rattle.cabinet_rules.specs.Images.{Image, answerBy, refusalBy}
 use Rattle.cabinet_rules.proofs.Earlier.{wire-sound}
 use Rattle.cabinet_rules.proofs.Examples.{answersBy}
@@ -65,7 +65,7 @@ module _ (before : Image) (long : length before ≡ imageSize) where
   wasRails = calledStore twoRails (plainly (committedCalls ++ pendingCalls)) (startedStore twoRails (byte 0xCC) before)
 
   abbrev left : StoreBy belowWire
-  left = takenOver twoRails belowWire (λ p. p) (λ g. g) wasRails
+  left = takenOver twoRails belowWire fromRails wasRails
 
   left-earlier : BeforeWire left
   unfolding NoStopBy answerBy refusalBy refusal act startRow size members hasCard
@@ -128,17 +128,17 @@ module _ (before : Image) (long : length before ≡ imageSize) where
   wasBase = calledStore base (plainly committedCalls) (startedStore base (byte 0xCC) before)
 
   abbrev wasBoth : StoreBy twoRails
-  wasBoth = calledStore twoRails (plainly pendingCalls) (takenOver base twoRails olderFromMask (λ g. g) wasBase)
+  wasBoth = calledStore twoRails (plainly pendingCalls) (takenOver base twoRails fromBase wasBase)
 
   abbrev leftByBoth : StoreBy belowWire
-  leftByBoth = takenOver twoRails belowWire (λ p. p) (λ g. g) wasBoth
+  leftByBoth = takenOver twoRails belowWire fromRails wasBoth
 
   both-earlier : BeforeWire leftByBoth
   unfolding NoStopBy answerBy refusalBy refusal act startRow size members hasCard
   both-earlier = record {
     was = wasBoth;
     left = record {
-      first = takenOver base twoRails olderFromMask (λ g. g) wasBase;
+      first = takenOver base twoRails fromBase wasBase;
       begins = inr (record {
         was = wasBase;
         left = record {

@@ -1,8 +1,7 @@
 -- Demand 3 from the stores that the earlier deliveries left, in their order. Assumes nothing.
-use Rattle.mask.specs.Placements.{olderFromMask}
 use Rattle.cabinet_rules.specs.Delivery.{base, belowWire, current, twoRails}
 use Rattle.cabinet_rules.specs.GoesOn.{BeforeWire, Earlier, EarlierImage, FormStaysFromEarlier, GoesOnFromEarlier, ImageLeftBy, LeftByBase}
-use Rattle.cabinet_rules.specs.GoesOn.{LeftByRails, Store, StoreBy, TakenOver}
+use Rattle.cabinet_rules.specs.GoesOn.{LeftByRails, Store, StoreBy, TakenOver, fromBase, fromRails}
 use Rattle.cabinet_rules.specs.Images.{Image}
 use Rattle.cabinet_rules.proofs.Base.{base-carried, base-retired, baseLaws}
 use Rattle.cabinet_rules.proofs.Form.{currentLaws, wireLaws}
@@ -17,11 +16,11 @@ base-sound : (s : StoreBy base) → LeftByBase s → SoundStore base baseLaws s
 base-sound = left-sound base baseLaws (λ s. ⊥) (λ s e. absurd e)
 
 rails-sound : (s : StoreBy twoRails) → LeftByRails s → SoundStore twoRails railLaws s
-rails-sound = left-sound twoRails railLaws (TakenOver base twoRails olderFromMask (λ g. g) LeftByBase)
-    (taken-sound base twoRails olderFromMask (base-retired .follows) (λ g. g) base-carried baseLaws railLaws LeftByBase base-sound)
+rails-sound = left-sound twoRails railLaws (TakenOver base twoRails fromBase LeftByBase)
+    (taken-sound base twoRails fromBase (base-retired .follows) baseLaws railLaws base-carried LeftByBase base-sound)
 
 pub wire-sound : (s : StoreBy belowWire) → BeforeWire s → SoundStore belowWire wireLaws s
-wire-sound = taken-sound twoRails belowWire (λ p. p) (rails-retired .follows) (λ g. g) rails-carried railLaws wireLaws LeftByRails rails-sound
+wire-sound = taken-sound twoRails belowWire fromRails (rails-retired .follows) railLaws wireLaws rails-carried LeftByRails rails-sound
 
 pub earlier-sound : (s : Store) → Earlier s → SoundStore current currentLaws s
 earlier-sound = wire-sound
@@ -32,7 +31,7 @@ base-legible = left-legible base baseLaws (λ g. ⊥) (λ g e. absurd e)
 
 rails-legible : (g : Image) → EarlierImage g → Legible twoRails railLaws g
 rails-legible = left-legible twoRails railLaws (ImageLeftBy base (λ g. ⊥))
-    (λ g e. legible-grown base twoRails olderFromMask (base-retired .follows) (λ g. g) base-carried baseLaws railLaws g (base-legible g e))
+    (λ g e. legible-grown base twoRails fromBase (base-retired .follows) baseLaws railLaws base-carried g (base-legible g e))
 
 -- DEMAND 3, going on
 pub goes-on-from-earlier : GoesOnFromEarlier
@@ -41,4 +40,5 @@ goes-on-from-earlier s e l = run-image current currentLaws l (s .image) (s .rule
 
 pub form-stays-from-earlier : FormStaysFromEarlier
 unfolding FormStaysFromEarlier
-form-stays-from-earlier g e l = form-kept l g (legible-grown twoRails belowWire (λ p. p) (rails-retired .follows) (λ g. g) rails-carried railLaws wireLaws g (rails-legible g e))
+form-stays-from-earlier g e l = form-kept l g
+    (legible-grown twoRails belowWire fromRails (rails-retired .follows) railLaws wireLaws rails-carried g (rails-legible g e))

@@ -21,7 +21,8 @@ use Rattle.slot.specs.Blocks.{BlockBytes, endSlots, freshBlock, lockSlot, slotA
 use Rattle.slot.specs.Words.{entryOf, freedSlot, lockedSlot, slotOf, stateOf}
 use Rattle.slot.specs.declared.Slot.{Slot as Fields}
 use Rattle.slot.proofs.Blocks.{held-empty, held-end, held-fresh, held-lock, slot-end, slot-fresh, slot-lock}
-use Rattle.method.specs.ControlPart.{ControlPart, active}
+use Rattle.method.specs.Changes.{addedBy, startedBy}
+use Rattle.method.specs.ControlPart.{ControlPart, active, onlyNewest}
 use Rattle.method.specs.Rules.{row}
 use Rattle.method.specs.Slots.{Slot, blank, ended, freed, locked}
 use Rattle.method.proofs.Capacity.{ControlInv}
@@ -31,7 +32,7 @@ use Rattle.method.proofs.Legal.{Legal}
 use Rattle.method.proofs.Refusals.{row-clear}
 use Rattle.method.proofs.Stopped.{Rests}
 use Rattle.cabinet_rules.specs.Cabinet.{cabinet, mostPlaced, placeRows, rulesOf, slotSeen, startRow, tranOk}
-use Rattle.control.specs.ControlBytes.{Serial, Setting}
+use Rattle.control.specs.ControlBytes.{Setting}
 use Rattle.cabinet_rules.specs.Delivery.{Delivery, PartOf, againByRails, belowWire, brokenWire, current, railed, storable}
 
 -- ---- slots, as the rules see them
@@ -85,6 +86,25 @@ unfolding startRow
 start-members m e = ltb-false (size m) leastMembers (row-clear (ltb (size m) leastMembers) 8 e .0)
 
 -- ---- what is asked of a delivery
+-- Serials fit the placements after a start, and calls keep this.
+pub record NumberLaws (D : Delivery) : Type 0 where
+  pub numbered-start : (m : Byte) → startRow m ≡ 0 → D .numbered (startedBy (rulesOf D) m)
+  pub numbered-same : (j k : PartOf D) → j .older ≡ k .older → j .newest ≡ k .newest → j .serial ≡ k .serial → D .numbered j → D .numbered k
+  pub numbered-place : (k : PartOf D) (a : D .PlaceArgument) → D .placeRefusal k a ≡ 0 → D .numbered k → D .numbered (addedBy (rulesOf D) k (D .places (k .newest) a))
+  pub numbered-fail : (k : PartOf D) (c : ℕ) → hasCard (D .mask (k .newest)) c ≡ true → D .numbered k
+      → D .numbered (addedBy (rulesOf D) k (D .fromMask (withoutCard (D .mask (k .newest)) c)))
+  pub numbered-settle : (k : PartOf D) → D .numbered k → D .numbered (onlyNewest k)
+
+-- A delivery that asks nothing of serials.
+pub not-numbered : (D : Delivery) → ((k : PartOf D) → D .numbered k) → NumberLaws D
+not-numbered D any = record {
+  numbered-start = λ m e. any (startedBy (rulesOf D) m);
+  numbered-same = λ j k o n s h. any k;
+  numbered-place = λ k a e h. any (addedBy (rulesOf D) k (D .places (k .newest) a));
+  numbered-fail = λ k c e h. any (addedBy (rulesOf D) k (D .fromMask (withoutCard (D .mask (k .newest)) c)));
+  numbered-settle = λ k h. any (onlyNewest k);
+}
+
 -- Sites are two different members, what start and fail make of a mask has its cards and is usable where they are two, an accepted argument of
 -- place gives a usable placement of working cards while there is room, and a slot has room for a value in range.
 pub record RuleLaws (D : Delivery) : Type 0 where
@@ -98,9 +118,10 @@ pub record RuleLaws (D : Delivery) : Type 0 where
   pub place-working : (k : PartOf D) (a : D .PlaceArgument) (c : ℕ) → D .placeRefusal k a ≡ 0 → hasCard (D .mask (D .places (k .newest) a)) c ≡ true → hasCard (k .working) c ≡ true
   pub place-few : (k : PartOf D) (a : D .PlaceArgument) → D .placeRefusal k a ≡ 0 → suc (suc (length (k .older))) ≤ mostPlaced
   pub value-fits : (n : ℕ) → D .valueInRange n ≡ true → n < valueBound
+  pub numbers : NumberLaws D
 
 -- An accepted mask of place.
-module _ {A : Type 0} (isAgain : A → Byte → Bool) (k : ControlPart Byte A Setting Serial) (m : Byte) (e : placeRows isAgain k m ≡ 0) where
+module _ {A S : Type 0} (isAgain : A → Byte → Bool) (k : ControlPart Byte A Setting S) (m : Byte) (e : placeRows isAgain k m ≡ 0) where
   bad : Bool
   bad = not (isWithin m (k .working)) || isAgain (k .newest) m
 
@@ -156,11 +177,11 @@ module _ (D : Delivery) (S : RuleLaws D) where
     place-many = S .place-members;
     place-works = S .place-working;
     limit-some = λ σ. omega arith;
-    numbered-start = λ a e. tt;
-    numbered-same = λ j k o n s h. tt;
-    numbered-place = λ k a e h. tt;
-    numbered-fail = λ k c e h. tt;
-    numbered-settle = λ k h. tt;
+    numbered-start = S .numbers .numbered-start;
+    numbered-same = S .numbers .numbered-same;
+    numbered-place = S .numbers .numbered-place;
+    numbered-fail = S .numbers .numbered-fail;
+    numbered-settle = S .numbers .numbered-settle;
     place-room = S .place-few;
     held-empty = held-empty;
     held-fresh = held-fresh;
@@ -174,27 +195,27 @@ module _ (D : Delivery) (S : RuleLaws D) where
 
 -- These control bytes, in front and behind the tables, are those that are written of k.
 pub record Wrote (D : Delivery) (head tail : ℕ → ℕ) (k : PartOf D) : Type 0 where
-  pub front : (n : ℕ) → n < controlSize → head n ≡ D .bytes k n
-  pub behind : (n : ℕ) → n < D .layout .imageTail → tail n ≡ D .tail k n
+  pub front : (n : ℕ) → n < controlSize → head n ≡ D .memory .bytes k n
+  pub behind : (n : ℕ) → n < D .memory .layout .imageTail → tail n ≡ D .memory .tail k n
 
 -- Control bytes: those written from the control part of a running store, and of a stopped one, show it and have the form.
 pub record ControlLaws (D : Delivery) (S : RuleLaws D) : Type 0 where
-  pub reads : (k : PartOf D) → Form (rulesOf D) k → ControlInv (rulesOf D) (lawfulBy D S) k → (g t : ℕ → ℕ) → Wrote D g t k → D .part g t ≡ k
-  pub formed : (k : PartOf D) → Form (rulesOf D) k → ControlInv (rulesOf D) (lawfulBy D S) k → (g t : ℕ → ℕ) → Wrote D g t k → D .form g t ≡ true
-  pub rest-read : (k : PartOf D) → Rests (rulesOf D) (lawfulBy D S) k → (g t : ℕ → ℕ) → Wrote D g t k → D .part g t ≡ k
-  pub rest-formed : (k : PartOf D) → Rests (rulesOf D) (lawfulBy D S) k → (g t : ℕ → ℕ) → Wrote D g t k → D .form g t ≡ true
+  pub reads : (k : PartOf D) → Form (rulesOf D) k → ControlInv (rulesOf D) (lawfulBy D S) k → (g t : ℕ → ℕ) → Wrote D g t k → D .memory .part g t ≡ k
+  pub formed : (k : PartOf D) → Form (rulesOf D) k → ControlInv (rulesOf D) (lawfulBy D S) k → (g t : ℕ → ℕ) → Wrote D g t k → D .memory .form g t ≡ true
+  pub rest-read : (k : PartOf D) → Rests (rulesOf D) (lawfulBy D S) k → (g t : ℕ → ℕ) → Wrote D g t k → D .memory .part g t ≡ k
+  pub rest-formed : (k : PartOf D) → Rests (rulesOf D) (lawfulBy D S) k → (g t : ℕ → ℕ) → Wrote D g t k → D .memory .form g t ≡ true
 
 -- The bytes behind a card's blocks, as far as they go: those written of a stamp show it.
-abbrev pub ShowsStamp : (D : Delivery) → D .Stamp → Type 0
-ShowsStamp D m = (e : ℕ → ℕ) → ((j : ℕ) → j < D .layout .tableTail → e j ≡ D .stampBytes m j) → D .stampIn e ≡ m
+abbrev pub ShowsStamp : (D : Delivery) → D .memory .Stamp → Type 0
+ShowsStamp D m = (e : ℕ → ℕ) → ((j : ℕ) → j < D .memory .layout .tableTail → e j ≡ D .memory .stampBytes m j) → D .memory .stampIn e ≡ m
 
 pub record StampLaws (D : Delivery) (S : RuleLaws D) : Type 0 where
-  pub same-stamp : (e d : ℕ → ℕ) → ((j : ℕ) → j < D .layout .tableTail → e j ≡ d j) → D .stampIn e ≡ D .stampIn d
-  pub none-shown : ShowsStamp D (D .noStamp)
-  pub stamp-shown : (k : PartOf D) → Legal (rulesOf D) (lawfulBy D S) k → ShowsStamp D (D .stampOf k)
+  pub same-stamp : (e d : ℕ → ℕ) → ((j : ℕ) → j < D .memory .layout .tableTail → e j ≡ d j) → D .memory .stampIn e ≡ D .memory .stampIn d
+  pub none-shown : ShowsStamp D (D .memory .noStamp)
+  pub stamp-shown : (k : PartOf D) → Legal (rulesOf D) (lawfulBy D S) k → ShowsStamp D (D .memory .stampOf k)
 
 -- a delivery that has no stamps
-pub no-stamps : (D : Delivery) (S : RuleLaws D) → ((m n : D .Stamp) → m ≡ n) → StampLaws D S
+pub no-stamps : (D : Delivery) (S : RuleLaws D) → ((m n : D .memory .Stamp) → m ≡ n) → StampLaws D S
 no-stamps D S one = record { same-stamp = λ e d h. one _ _; none-shown = λ e h. one _ _; stamp-shown = λ k l e h. one _ _ }
 
 pub record DeliveryLaws (D : Delivery) : Type 0 where
@@ -215,6 +236,7 @@ railedRules values fits = record {
   place-working = λ k m c e h. mask-working againByRails k m e c h;
   place-few = mask-few againByRails;
   value-fits = fits;
+  numbers = not-numbered (railed values) (λ k. tt);
 }
 
 -- ---- A.5, the delivery in force

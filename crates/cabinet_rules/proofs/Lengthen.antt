@@ -1,43 +1,76 @@
 -- A converter: the image that a later delivery goes on with, of any two deliveries, and that it carries the store over. Assumes nothing.
+use Prim.Native.Nat.{_<_, ℕ}
+use lib.Dec.{ltb}
+use lib.ListN.{getD, length}
+use mathlib.Core.Bool.{false}
 use mathlib.Core.List.{[]}
 use mathlib.Core.Option.{some}
-use mathlib.Core.Path.{_∙_, ap}
-use Rattle.method.specs.Growth.{grownControl}
-use Rattle.method.specs.Rules.{stamped}
+use mathlib.Core.Path.{_∙_, _≡_, ap, subst, sym}
+use Rattle.image.specs.Layout.{blockCount, cardCount, controlSize, imageSizeOf}
+use Rattle.method.proofs.Legal.{Legal}
 use Rattle.cabinet_rules.specs.Cabinet.{rulesOf}
 use Rattle.cabinet_rules.specs.Delivery.{Delivery, PartOf}
-use Rattle.cabinet_rules.specs.GoesOn.{growthOf}
-use Rattle.cabinet_rules.specs.Images.{Ends, Image, Writes, afterBy, blockBy, controlBy, endBy}
+use Rattle.cabinet_rules.specs.GoesOn.{Succession}
+use Rattle.cabinet_rules.specs.Images.{Ends, Image, Writes, afterBy, blockBy, controlBy, endBy, tailBy}
 use Rattle.cabinet_rules.proofs.After.{after-block, after-control, after-end, after-tail, length-after}
-use Rattle.cabinet_rules.proofs.GoesOn.{Carries}
+use Rattle.cabinet_rules.proofs.GoesOn.{Carries, partNow, stampNow}
+use Rattle.cabinet_rules.proofs.Lawful.{DeliveryLaws, ShowsStamp, lawfulBy}
+use Rattle.cabinet_rules.proofs.Noisy.{WroteIn}
 
-module _ (E D : Delivery) (older : E .Placement → D .Placement) where
-  -- What E's control part is by D.
-  abbrev pub partNow : PartOf E → PartOf D
-  partNow k = grownControl (rulesOf E) (growthOf E D older) k
-
+module _ (E D : Delivery) (S : Succession E D) where
   abbrev allBlocks : Image → Writes
-  allBlocks g c b = some (blockBy (E .layout) g c b)
+  allBlocks g c b = some (blockBy (E .memory .layout) g c b)
 
-  -- The working cards bear the newest placement's stamp; the others none.
-  abbrev allStamps : PartOf D → Ends
-  allStamps k c = some (D .stampBytes (stamped (rulesOf D) k (λ x. D .noStamp) c))
+  abbrev allStamps : Image → Ends
+  allStamps g c = some (D .memory .stampBytes (stampNow E D S g c))
 
-  -- The image of the new length: the control part as it is now, every block as it was, added bytes zero unless named.
+  -- The image of the later length: the control part as it is by D, every block as it was, the stamps as they are by D.
   unfoldable pub lengthened : Image → Image
   lengthened g =
-      afterBy (D .layout) (D .bytes (partNow (controlBy E g))) (D .tail (partNow (controlBy E g))) (allBlocks g) (allStamps (partNow (controlBy E g))) []
+      afterBy (D .memory .layout) (D .memory .bytes (partNow E D S (controlBy E g))) (D .memory .tail (partNow E D S (controlBy E g))) (allBlocks g)
+      (allStamps g) []
 
-  pub lengthened-carries : Carries E D older lengthened
-  unfolding lengthened
-  lengthened-carries = record {
-    long = λ g l. length-after (D .layout) (D .bytes (partNow (controlBy E g))) (D .tail (partNow (controlBy E g))) (allBlocks g) (allStamps (partNow (controlBy E g))) [];
-    wrote = λ g k l r w. record {
-      front = λ n h. after-control (D .layout) (D .bytes (partNow (controlBy E g))) (D .tail (partNow (controlBy E g))) (allBlocks g) (allStamps (partNow (controlBy E g))) [] n h
-          ∙ ap (λ (x : PartOf E). D .bytes (partNow x) n) r;
-      behind = λ n h. after-tail (D .layout) (D .bytes (partNow (controlBy E g))) (D .tail (partNow (controlBy E g))) (allBlocks g) (allStamps (partNow (controlBy E g))) [] n h
-          ∙ ap (λ (x : PartOf E). D .tail (partNow x) n) r;
-    };
-    blocks = λ g c b hc hb. after-block (D .layout) (D .bytes (partNow (controlBy E g))) (D .tail (partNow (controlBy E g))) (allBlocks g) (allStamps (partNow (controlBy E g))) [] c b hc hb;
-    stamps = λ g shown c hc. shown c (endBy (D .layout) (lengthened g) c) (λ j h. after-end (D .layout) (D .bytes (partNow (controlBy E g))) (D .tail (partNow (controlBy E g))) (allBlocks g) (allStamps (partNow (controlBy E g))) [] c j hc h);
-  }
+  -- It carries the store over, where the stamps can be shown.
+  module _ (W : DeliveryLaws D) (is : (g : Image) → S .carry g ≡ lengthened g)
+      (shown : (g : Image) → Legal (rulesOf D) (lawfulBy D (W .rules)) (partNow E D S (controlBy E g)) → (c : ℕ) → ShowsStamp D (stampNow E D S g c))
+      (outside : (g : Image) (c : ℕ) → ltb c cardCount ≡ false → stampNow E D S g c ≡ D .memory .noStamp) where
+    module _ (g : Image) where
+      abbrev head : ℕ → ℕ
+      head = D .memory .bytes (partNow E D S (controlBy E g))
+
+      abbrev tail : ℕ → ℕ
+      tail = D .memory .tail (partNow E D S (controlBy E g))
+
+      long : length (lengthened g) ≡ imageSizeOf (D .memory .layout)
+      unfolding lengthened
+      long = length-after (D .memory .layout) head tail (allBlocks g) (allStamps g) []
+
+      front : (n : ℕ) → n < controlSize → getD (lengthened g) n 0 ≡ head n
+      unfolding lengthened
+      front = after-control (D .memory .layout) head tail (allBlocks g) (allStamps g) []
+
+      behind : (n : ℕ) → n < D .memory .layout .imageTail → tailBy (D .memory .layout) (lengthened g) n ≡ tail n
+      unfolding lengthened
+      behind = after-tail (D .memory .layout) head tail (allBlocks g) (allStamps g) []
+
+      blocks : (c b : ℕ) → c < cardCount → b < blockCount → blockBy (D .memory .layout) (lengthened g) c b ≡ blockBy (E .memory .layout) g c b
+      unfolding lengthened
+      blocks = after-block (D .memory .layout) head tail (allBlocks g) (allStamps g) []
+
+      ends : (c j : ℕ) → c < cardCount → j < D .memory .layout .tableTail
+          → endBy (D .memory .layout) (lengthened g) c j ≡ D .memory .stampBytes (stampNow E D S g c) j
+      unfolding lengthened
+      ends = after-end (D .memory .layout) head tail (allBlocks g) (allStamps g) []
+
+    pub lengthened-carries : Carries E D S W
+    lengthened-carries = record {
+      long = λ g l. ap length (is g) ∙ long g;
+      wrote = λ g k l r w. subst (λ (x : Image). WroteIn D x (partNow E D S k)) (sym (is g)) (record {
+        front = λ n h. front g n h ∙ ap (λ (x : PartOf E). D .memory .bytes (partNow E D S x) n) r;
+        behind = λ n h. behind g n h ∙ ap (λ (x : PartOf E). D .memory .tail (partNow E D S x) n) r;
+      });
+      blocks = λ g c b hc hb. ap (λ (x : Image). blockBy (D .memory .layout) x c b) (is g) ∙ blocks g c b hc hb;
+      stamps = λ g good c hc. ap (λ (x : Image). D .memory .stampIn (endBy (D .memory .layout) x c)) (is g)
+          ∙ shown g good c (endBy (D .memory .layout) (lengthened g) c) (λ j h. ends g c j hc h);
+      outside = outside;
+    }

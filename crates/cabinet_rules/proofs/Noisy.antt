@@ -22,12 +22,12 @@ use Rattle.cabinet_rules.proofs.Lawful.{Wrote}
 
 -- The control bytes of the image are those that are written of k.
 abbrev pub WroteIn : (D : Delivery) → Image → PartOf D → Type 0
-WroteIn D g k = Wrote D (λ n. getD g n 0) (tailBy (D .layout) g) k
+WroteIn D g k = Wrote D (λ n. getD g n 0) (tailBy (D .memory .layout) g) k
 
 -- ---- noise on failed cards is not seen
 module _ (D : Delivery) where
   abbrev Y : Layout
-  Y = D .layout
+  Y = D .memory .layout
 
   pub length-noisy : (noise : ℕ → ℕ) (g : Image) → length (noisyBy D noise g) ≡ length g
   unfolding noisyBy
@@ -80,13 +80,13 @@ module _ (D : Delivery) where
   -- ---- the image after a plan: its length, its control bytes, its blocks
   module _ (p : Plan (rulesOf D)) (g : Image) where
     pub plan-long : length (afterPlan D p g) ≡ imageSizeOf Y
-    plan-long = length-after Y (D .bytes (p .after)) (D .tail (p .after)) (p .write) (λ c. endOf D (p .stamps c)) g
+    plan-long = length-after Y (D .memory .bytes (p .after)) (D .memory .tail (p .after)) (p .write) (λ c. endOf D (p .stamps c)) g
 
     pub plan-wrote : WroteIn D (afterPlan D p g) (p .after)
     plan-wrote = record {
-      front = after-control Y (D .bytes (p .after)) (D .tail (p .after)) (p .write) (λ c. endOf D (p .stamps c)) g;
-      behind = after-tail Y (D .bytes (p .after)) (D .tail (p .after)) (p .write) (λ c. endOf D (p .stamps c)) g;
+      front = after-control Y (D .memory .bytes (p .after)) (D .memory .tail (p .after)) (p .write) (λ c. endOf D (p .stamps c)) g;
+      behind = after-tail Y (D .memory .bytes (p .after)) (D .memory .tail (p .after)) (p .write) (λ c. endOf D (p .stamps c)) g;
     }
 
     pub plan-block : (c b : ℕ) → c < cardCount → b < blockCount → blockBy Y (afterPlan D p g) c b ≡ updated (p .write c b) (blockBy Y g c b)
-    plan-block = after-block Y (D .bytes (p .after)) (D .tail (p .after)) (p .write) (λ c. endOf D (p .stamps c)) g
+    plan-block = after-block Y (D .memory .bytes (p .after)) (D .memory .tail (p .after)) (p .write) (λ c. endOf D (p .stamps c)) g

@@ -4,7 +4,7 @@ use mathlib.Core.List.{List, [], _∷_}
 use mathlib.Core.Path.{_≡_, refl}
 use Rattle.lists.specs.Tabulate.{tabulate}
 use Rattle.mask.specs.Masks.{byte, hasCard, isWithin, members, noCards, size, withCard, withoutCard}
-use Rattle.mask.specs.Placements.{acrossRails, chainedSites, memberAt, membersAfter, olderFromMask, railSites, sitesOf}
+use Rattle.mask.specs.Placements.{acrossRails, chainedSites, memberAt, membersAfter, railSites, sitesOf}
 use Rattle.slot.specs.Blocks.{endSlots, endedByte, isHeld, lockSlot, putSlot, wordAt}
 use Rattle.slot.specs.Words.{slotOf, wordOf}
 use Rattle.method.specs.Growth.{grownState, rulesAfter}
@@ -14,15 +14,15 @@ use Rattle.method.specs.Rules.{fail, get, holders, isProtected, layBlock, lockH
 use Rattle.method.specs.Rules.{nextState, place, plan, refusal, settle, settled, settledAt, start, stopping, store, trail}
 use Rattle.control.specs.ControlBytes.{controlByte}
 use Rattle.cabinet_rules.specs.Cabinet.{cabinet, placeRows, rulesOf, startRow}
-use Rattle.cabinet_rules.specs.Delivery.{base, current}
-use Rattle.cabinet_rules.specs.GoesOn.{growthOf}
+use Rattle.cabinet_rules.specs.Delivery.{base, belowWire, twoRails}
+use Rattle.cabinet_rules.specs.GoesOn.{fromBase, fromRails, growthOf}
 use Rattle.cabinet_rules.proofs.Examples.{answers, answersBy}
 
 -- An older store: the base's start with cards 0, 1, 4 and 5, and record 0, in block 0, stored as 4660 and committed.
 older : State cabinet
 unfolding rulesAfter
-older = grownState (rulesOf base) (growthOf base current olderFromMask)
-    (rulesAfter (rulesOf base) (start (byte 0xCC) ∷ begin 1 0 ∷ store 1 0 4660 ∷ commit 1 ∷ []) (zeroed (rulesOf base) noCards))
+older = grownState (rulesOf twoRails) (growthOf twoRails belowWire fromRails) (grownState (rulesOf base) (growthOf base twoRails fromBase)
+    (rulesAfter (rulesOf base) (start (byte 0xCC) ∷ begin 1 0 ∷ store 1 0 4660 ∷ commit 1 ∷ []) (zeroed (rulesOf base) noCards)))
 
 -- Byte 7 after calls.
 marks : List (Call cabinet) → State cabinet → ℕ

@@ -45,7 +45,7 @@ module _ (D : Delivery) (W : DeliveryLaws D) where
   L = lawfulBy D (W .rules)
 
   abbrev Y : Layout
-  Y = D .layout
+  Y = D .memory .layout
 
   -- An image of the right length whose control bytes are those of the control part of a store that runs or has stopped.
   pub record Legible (g : Image) : Type 0 where
@@ -101,7 +101,7 @@ module _ (D : Delivery) (W : DeliveryLaws D) where
     block-noise b hb false off = block-noisy D noise g c b long hc hb off
 
     stamp-noise : (d : Bool) → hasCard (controlBy D g .failed) c ≡ d
-        → D .stampIn (endBy Y G c) ≡ cond d (D .stampIn (λ j. noise (endStartOf Y c + j))) (D .stampIn (endBy Y g c))
+        → D .memory .stampIn (endBy Y G c) ≡ cond d (D .memory .stampIn (λ j. noise (endStartOf Y c + j))) (D .memory .stampIn (endBy Y g c))
     stamp-noise true on = W .stamps .same-stamp (endBy Y G c) (λ j. noise (endStartOf Y c + j)) (λ j l.
         ap (λ (n : ℕ). getD G n 0) (flat (tableStartOf Y c) j) ∙ table-noise (blocksSize + j) (omega arith) on ∙ sym (ap noise (flat (tableStartOf Y c) j)))
       where
@@ -130,8 +130,8 @@ module _ (D : Delivery) (W : DeliveryLaws D) where
       blk c b (inr e) = rw e (either (hasCard (controlBy D g .failed) c) emptyBlock)
 
       stm : (c : ℕ) → (ltb c cardCount ≡ true) ⊎ (ltb c cardCount ≡ false)
-          → cond (ltb c cardCount) (D .stampIn (endBy Y (noisyBy D noise g) c)) (D .noStamp)
-          ≡ cond (hasCard (controlBy D g .failed) c) (D .stampIn (λ j. noise (endStartOf Y c + j))) (cond (ltb c cardCount) (D .stampIn (endBy Y g c)) (D .noStamp))
+          → cond (ltb c cardCount) (D .memory .stampIn (endBy Y (noisyBy D noise g) c)) (D .memory .noStamp)
+          ≡ cond (hasCard (controlBy D g .failed) c) (D .memory .stampIn (λ j. noise (endStartOf Y c + j))) (cond (ltb c cardCount) (D .memory .stampIn (endBy Y g c)) (D .memory .noStamp))
       stm c (inl e) = rw e (stamp-noise noise g (s .long) c (ltb-true c cardCount e) (hasCard (controlBy D g .failed) c) refl)
       stm c (inr e) = rw (e, never-true (hasCard (controlBy D g .failed) c) (λ h. tf (ltb c cardCount) (lt-ltb c cardCount (has-card (controlBy D g .failed) c h)) e))
 
@@ -159,19 +159,19 @@ module _ (D : Delivery) (W : DeliveryLaws D) where
 
   -- the state after a plan that leaves a legal control part and writes nothing outside the tables
   module _ (p : Plan P) (g : Image) (good : Legal P L (p .after)) (blocks : (c b : ℕ) → isThere c b ≡ false → updated (p .write c b) emptyBlock ≡ emptyBlock)
-      (shown : (c : ℕ) → Written P L (ShowsStamp D) (p .stamps c)) (stamps : (c : ℕ) → ltb c cardCount ≡ false → updated (p .stamps c) (D .noStamp) ≡ D .noStamp) where
+      (shown : (c : ℕ) → Written P L (ShowsStamp D) (p .stamps c)) (stamps : (c : ℕ) → ltb c cardCount ≡ false → updated (p .stamps c) (D .memory .noStamp) ≡ D .memory .noStamp) where
     abbrev O : Image
     O = afterPlan D p g
 
-    end-after : (c : ℕ) → c < cardCount → (o : Option (D .Stamp)) → p .stamps c ≡ o → Written P L (ShowsStamp D) o → D .stampIn (endBy Y O c) ≡ updated o (D .stampIn (endBy Y g c))
-    end-after c hc none e w = W .stamps .same-stamp (endBy Y O c) (endBy Y g c) (λ j h. at j h ∙ ap (λ (x : Option (D .Stamp)). updated (endOf D x) (endBy Y g c) j) e)
+    end-after : (c : ℕ) → c < cardCount → (o : Option (D .memory .Stamp)) → p .stamps c ≡ o → Written P L (ShowsStamp D) o → D .memory .stampIn (endBy Y O c) ≡ updated o (D .memory .stampIn (endBy Y g c))
+    end-after c hc none e w = W .stamps .same-stamp (endBy Y O c) (endBy Y g c) (λ j h. at j h ∙ ap (λ (x : Option (D .memory .Stamp)). updated (endOf D x) (endBy Y g c) j) e)
       where
         at : (j : ℕ) → j < Y .tableTail → endBy Y O c j ≡ updated (endOf D (p .stamps c)) (endBy Y g c) j
-        at j h = after-end Y (D .bytes (p .after)) (D .tail (p .after)) (p .write) (λ c. endOf D (p .stamps c)) g c j hc h
-    end-after c hc (some m) e w = w (endBy Y O c) (λ j h. at j h ∙ ap (λ (x : Option (D .Stamp)). updated (endOf D x) (endBy Y g c) j) e)
+        at j h = after-end Y (D .memory .bytes (p .after)) (D .memory .tail (p .after)) (p .write) (λ c. endOf D (p .stamps c)) g c j hc h
+    end-after c hc (some m) e w = w (endBy Y O c) (λ j h. at j h ∙ ap (λ (x : Option (D .memory .Stamp)). updated (endOf D x) (endBy Y g c) j) e)
       where
         at : (j : ℕ) → j < Y .tableTail → endBy Y O c j ≡ updated (endOf D (p .stamps c)) (endBy Y g c) j
-        at j h = after-end Y (D .bytes (p .after)) (D .tail (p .after)) (p .write) (λ c. endOf D (p .stamps c)) g c j hc h
+        at j h = after-end Y (D .memory .bytes (p .after)) (D .memory .tail (p .after)) (p .write) (λ c. endOf D (p .stamps c)) g c j hc h
 
     state-plan : stateBy D O ≡ apply P p (stateBy D g)
     unfolding stateBy apply
@@ -183,7 +183,7 @@ module _ (D : Delivery) (W : DeliveryLaws D) where
         blk c b (inr e) = rw e (sym (blocks c b e))
 
         stm : (c : ℕ) → (ltb c cardCount ≡ true) ⊎ (ltb c cardCount ≡ false)
-            → cond (ltb c cardCount) (D .stampIn (endBy Y O c)) (D .noStamp) ≡ updated (p .stamps c) (cond (ltb c cardCount) (D .stampIn (endBy Y g c)) (D .noStamp))
+            → cond (ltb c cardCount) (D .memory .stampIn (endBy Y O c)) (D .memory .noStamp) ≡ updated (p .stamps c) (cond (ltb c cardCount) (D .memory .stampIn (endBy Y g c)) (D .memory .noStamp))
         stm c (inl e) = rw e (end-after c (ltb-true c cardCount e) (p .stamps c) refl (shown c))
         stm c (inr e) = rw e (sym (stamps c e))
 

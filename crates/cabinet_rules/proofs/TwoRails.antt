@@ -10,7 +10,7 @@ use Rattle.method.specs.Growth.{grownControl}
 use Rattle.control.specs.ControlBytes.{Part, controlByte}
 use Rattle.cabinet_rules.specs.Cabinet.{rulesOf}
 use Rattle.cabinet_rules.specs.Delivery.{anyValue, belowWire, twoRails}
-use Rattle.cabinet_rules.specs.GoesOn.{growthOf}
+use Rattle.cabinet_rules.specs.GoesOn.{fromRails, growthOf}
 use Rattle.cabinet_rules.proofs.Form.{wireLaws}
 use Rattle.cabinet_rules.proofs.GoesOn.{Carries, carries-same}
 use Rattle.cabinet_rules.proofs.Lawful.{DeliveryLaws, RuleLaws, no-stamps, railedRules}
@@ -24,30 +24,30 @@ same-list : (l : List Placement) → map (λ (p : Placement). p) l ≡ l
 same-list [] = refl
 same-list (p ∷ l) = ap (λ (t : List Placement). p ∷ t) (same-list l)
 
-same-part : (k : Part) → grownControl (rulesOf twoRails) (growthOf twoRails belowWire (λ p. p)) k ≡ k
+same-part : (k : Part) → grownControl (rulesOf twoRails) (growthOf twoRails belowWire fromRails) k ≡ k
 same-part k = ap (λ (l : List Placement). part (k .stopped) l (k .newest) (k .working) (k .failed) (k .home) (k .setting) (k .serial)) (same-list (k .older))
 
-same-byte : (k : Part) (n : ℕ) → controlByte k n ≡ controlByte (grownControl (rulesOf twoRails) (growthOf twoRails belowWire (λ p. p)) k) n
+same-byte : (k : Part) (n : ℕ) → controlByte k n ≡ controlByte (grownControl (rulesOf twoRails) (growthOf twoRails belowWire fromRails) k) n
 same-byte k n = ap (λ (x : Part). controlByte x n) (sym (same-part k))
 
-pub rails-retired : Retired twoRails belowWire (λ p. p)
+pub rails-retired : Retired twoRails belowWire fromRails
 rails-retired = record {
-  follows = record { same-mask = λ p. refl; same-sites = λ p b. refl; still-usable = λ p h. h };
+  follows = record { same-mask = λ p. refl; same-sites = λ p b. refl; still-usable = λ p h. h; still-numbered = λ k h n. tt };
   back = λ k. k;
   back-older = same-part;
   front = λ g. g;
   behind = λ t. t;
   wrote = λ k g t w. record { front = λ n h. w .front n h ∙ same-byte k n; behind = w .behind };
   part = λ g t. refl;
-  form = λ k g t w e. e;
+  form = λ k g t w r e. e;
 }
 
-pub rails-carried : Carries twoRails belowWire (λ p. p) (λ g. g)
-rails-carried = carries-same twoRails belowWire (λ p. p) refl (λ k n h. same-byte k n) (λ k n h. refl) (λ g c. refl)
+pub rails-carried : Carries twoRails belowWire fromRails wireLaws
+rails-carried = carries-same twoRails belowWire fromRails wireLaws (λ g. refl) refl (λ k n h. same-byte k n) (λ k n h. refl) (λ g c h. refl) (λ g c h. refl)
 
 abbrev pub railLaws : DeliveryLaws twoRails
 railLaws = record {
   rules = railRules;
-  control = retired-control twoRails belowWire (λ p. p) rails-retired railRules wireLaws;
+  control = retired-control twoRails belowWire fromRails rails-retired railRules wireLaws;
   stamps = no-stamps twoRails railRules (λ m n. refl);
 }

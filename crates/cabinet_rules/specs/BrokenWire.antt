@@ -16,7 +16,7 @@ use Rattle.cabinet_rules.specs.Images.{Image, answerBy, formBy, nextBy}
 unfoldable pub BrokenWireRefused : Type 0
 BrokenWireRefused = (t r : ℕ) (g : Image)
     → (answerBy belowWire (store t r brokenWire) g
-    ≡ refused (formRowsOf (imageSizeOf (belowWire .layout)) false (formBy belowWire g) g 3))
+    ≡ refused (formRowsOf (imageSizeOf (belowWire .memory .layout)) false (formBy belowWire g) g 3))
     × (nextBy belowWire (store t r brokenWire) g ≡ g)
 
 -- Every other call answers and leaves on every image what it did by the delivery before: records that have 65,535 are

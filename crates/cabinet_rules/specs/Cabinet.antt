@@ -1,20 +1,16 @@
 -- This cabinet: the values that the rules of the method take. Eight cards, two copies, 64 blocks of eight records.
 -- Assumes nothing.
-use Prim.Native.Nat.{_%_, _/_, _≤_, ℕ}
-use lib.Dec.{leb, ltb}
-use lib.ListN.{length}
-use mathlib.Core.Bool.{Bool, _&&_, _||_, not, true}
+use Prim.Native.Nat.{_%_, _/_, ℕ}
+use lib.Dec.{ltb}
+use mathlib.Core.Bool.{Bool, _&&_}
 use Rattle.image.specs.Layout.{blockCount, cardCount, copyCount, recordCount, slotCount, tranBound}
-use Rattle.mask.specs.Masks.{Byte, hasCard, isWithin, noCards, size, withCard, withoutCard}
-use Rattle.mask.specs.Placements.{leastMembers}
+use Rattle.mask.specs.Masks.{Byte, hasCard, noCards, withCard, withoutCard}
 use Rattle.slot.specs.Blocks.{BlockBytes, emptyBlock, endSlots, freshBlock, isHeld, lockSlot, slotAt}
 use Rattle.slot.specs.Words.{stateOf}
-use Rattle.method.specs.ControlPart.{active}
 use Rattle.method.specs.Parameters.{Parameters}
-use Rattle.method.specs.Rules.{row}
 use Rattle.method.specs.Slots.{Slot}
-use Rattle.control.specs.ControlBytes.{Serial, Setting}
-use Rattle.cabinet_rules.specs.Delivery.{Delivery, PartOf, current}
+use Rattle.control.specs.ControlBytes.{Setting}
+use Rattle.cabinet_rules.specs.Delivery.{Delivery, current}
 unfoldable pub use Rattle.cabinet_rules.specs.Places.{mostPlaced, placeRows, startRow}
 
 -- A slot as the rules see it: an absence shows no value, and the unnamed bits are ignored.
@@ -37,13 +33,13 @@ module _ (D : Delivery) where
     Placement = D .Placement;
     Setting = Setting;
     Block = BlockBytes;
-    Serial = Serial;
-    firstSerial = tt;
-    nextSerial = λ ν. tt;
-    numbered = λ k. Unit {0};
-    Stamp = D .Stamp;
-    noStamp = D .noStamp;
-    stampOf = D .stampOf;
+    Serial = D .Serial;
+    firstSerial = D .firstSerial;
+    nextSerial = D .nextSerial;
+    numbered = D .numbered;
+    Stamp = D .memory .Stamp;
+    noStamp = D .memory .noStamp;
+    stampOf = D .memory .stampOf;
     StartArgument = Byte;
     PlaceArgument = D .PlaceArgument;
     cards = cardCount;

@@ -24,7 +24,7 @@ module _ (D : Delivery) where
   -- Before each call the tables of failed cards hold any bytes: those that noise gives.
   unfoldable pub noisyByte : (ℕ → ℕ) → Image → ℕ → ℕ
   noisyByte noise g n =
-      cond (leb controlSize n && hasCard (controlBy D g .failed) (cardBy (D .layout) n)) (noise n) (getD g n 0)
+      cond (leb controlSize n && hasCard (controlBy D g .failed) (cardBy (D .memory .layout) n)) (noise n) (getD g n 0)
 
   unfoldable pub noisyBy : (ℕ → ℕ) → Image → Image
   noisyBy noise g = tabulate (length g) (noisyByte noise g)
@@ -36,8 +36,8 @@ module _ (D : Delivery) where
   -- What such noise is by the rules: blocks and stamps. The same calls as the rules are given them.
   unfoldable pub noiseBy : (ℕ → ℕ) → Noise (rulesOf D)
   noiseBy noise = record {
-    block = λ c b. cond (isThere c b) (blockOfBytes (λ j. noise (blockAddressOf (D .layout) c b + j))) emptyBlock;
-    stamp = λ c. D .stampIn (λ j. noise (endStartOf (D .layout) c + j));
+    block = λ c b. cond (isThere c b) (blockOfBytes (λ j. noise (blockAddressOf (D .memory .layout) c b + j))) emptyBlock;
+    stamp = λ c. D .memory .stampIn (λ j. noise (endStartOf (D .memory .layout) c + j));
   }
 
   abbrev pub noisedBy : List NoisyCallBy → List (Noise (rulesOf D) × Call (rulesOf D))

@@ -1,5 +1,6 @@
 -- Demand 3 on images that earlier deliveries left: what a store may have come through, and the statements. Assumes
 -- nothing.
+use Prim.Native.Nat.{ℕ}
 use mathlib.Core.List.{List}
 use mathlib.Core.Logic.{_⊎_}
 use mathlib.Core.Path.{_≡_}
@@ -14,7 +15,7 @@ use Rattle.control_form.specs.ControlForm.{formRefusal}
 use Rattle.cabinet_rules.specs.Cabinet.{cabinet, rulesOf}
 use Rattle.cabinet_rules.specs.Claims.{NoStopBy, NoisyCall, NoisyCallBy, imageAfter, imageAfterBy, imageCalls}
 use Rattle.cabinet_rules.specs.Claims.{imageCallsBy, runImage}
-use Rattle.cabinet_rules.specs.Delivery.{Delivery, base, belowWire, current, twoRails}
+use Rattle.cabinet_rules.specs.Delivery.{Delivery, PartOf, base, belowWire, current, twoRails}
 use Rattle.cabinet_rules.specs.Images.{Image, answerBy, nextBy}
 
 -- ---- a store by a delivery
@@ -63,7 +64,15 @@ module _ (D : Delivery) where
     pub is : g ≡ imageAfterBy D calls first
 
 -- ---- a later delivery goes on
-module _ (E D : Delivery) (older : E .Placement → D .Placement) where
+-- E is the earlier delivery, D the later one: what a placement and a serial of E are by D, what becomes of the stamps,
+-- and of the image: it stays, or a converter lengthens it.
+pub record Succession (E D : Delivery) : Type 0 where
+  pub older : E .Placement → D .Placement
+  pub olderSerial : E .Serial → D .Serial
+  pub olderStamps : PartOf D → (ℕ → E .memory .Stamp) → ℕ → D .memory .Stamp
+  pub carry : Image → Image
+
+module _ (E D : Delivery) (S : Succession E D) where
   -- What D changes of the rules by E: they become the rules by D.
   abbrev pub growthOf : Growth (rulesOf E)
   growthOf = record {
@@ -93,20 +102,18 @@ module _ (E D : Delivery) (older : E .Placement → D .Placement) where
     placeInRange = Parameters.placeInRange (rulesOf D);
     placeRefusal = Parameters.placeRefusal (rulesOf D);
     placeLimit = Parameters.placeLimit (rulesOf D);
-    older = older;
+    older = S .older;
     olderSetting = λ σ. σ;
-    olderSerial = λ ν. ν;
+    olderSerial = S .olderSerial;
+    olderStamps = S .olderStamps;
   }
 
--- E is the earlier delivery, D the later one; older says what a placement of E is by D, and carry what becomes of E's
--- image: it stays, or a converter lengthens it.
-module _ (E D : Delivery) (older : E .Placement → D .Placement) (carry : Image → Image) where
   -- E's store as D goes on with it: no record of the plain record list changes.
   abbrev pub takenOver : StoreBy E → StoreBy D
   takenOver s = record {
-    image = carry (s .image);
-    rules = grownState (rulesOf E) (growthOf E D older) (s .rules);
-    plain = grownPlain (rulesOf E) (growthOf E D older) (s .plain);
+    image = S .carry (s .image);
+    rules = grownState (rulesOf E) growthOf (s .rules);
+    plain = grownPlain (rulesOf E) growthOf (s .plain);
   }
 
   -- A store that D has from E.
@@ -120,13 +127,19 @@ module _ (E D : Delivery) (older : E .Placement → D .Placement) (carry : Image
 abbrev pub LeftByBase : StoreBy base → Type 0
 LeftByBase = LeftBy base (λ s. ⊥)
 
--- Those that calls by A.1 to A.4 left. The base's placements stay marked 0.
-abbrev pub LeftByRails : StoreBy twoRails → Type 0
-LeftByRails = LeftBy twoRails (TakenOver base twoRails olderFromMask (λ g. g) LeftByBase)
+-- Those that calls by A.1 to A.4 left. The base's placements stay marked 0, and its images as they are.
+abbrev pub fromBase : Succession base twoRails
+fromBase = record { older = olderFromMask; olderSerial = λ ν. ν; olderStamps = λ k m. m; carry = λ g. g }
 
--- Those that A.5 has from the earlier ones. A placement is what it was.
+abbrev pub LeftByRails : StoreBy twoRails → Type 0
+LeftByRails = LeftBy twoRails (TakenOver base twoRails fromBase LeftByBase)
+
+-- Those that A.5 has from the earlier ones. All stays as it is.
+abbrev pub fromRails : Succession twoRails belowWire
+fromRails = record { older = λ p. p; olderSerial = λ ν. ν; olderStamps = λ k m. m; carry = λ g. g }
+
 abbrev pub BeforeWire : StoreBy belowWire → Type 0
-BeforeWire = TakenOver twoRails belowWire (λ p. p) (λ g. g) LeftByRails
+BeforeWire = TakenOver twoRails belowWire fromRails LeftByRails
 
 -- Those that the delivery in force has from the earlier ones.
 abbrev pub Store : Type 0

@@ -2,7 +2,7 @@
 use Prim.Native.Nat.{_%_, _+_, _-_, _/_, suc, zero, ℕ}
 use lib.Dec.{ltb}
 use lib.ListN.{getD}
-use mathlib.Core.Bool.{Bool, _&&_, cond, false, true}
+use mathlib.Core.Bool.{Bool, _&&_, cond}
 use mathlib.Core.List.{List}
 use mathlib.Core.Option.{Option, none, some}
 use Rattle.lists.specs.Tabulate.{tabulate}
@@ -10,8 +10,8 @@ use Rattle.image.specs.Layout.{Layout, blockAddressOf, blockCount, blockSize, b
 use Rattle.image.specs.Layout.{imageSizeOf, layout, tableSizeOf, tailStartOf}
 use Rattle.slot.specs.Blocks.{BlockBytes, blockOfBytes, byteIn, emptyBlock}
 use Rattle.method.specs.PlainList.{orRefused}
-use Rattle.method.specs.Rules.{Answer, Call, CallOf, Plan, State, act, begin, commit, delete, fail, fit, get, load}
-use Rattle.method.specs.Rules.{isStart, look, move, place, refusal, rollback, settle, start, state, store, updated, withdraw}
+use Rattle.method.specs.Rules.{Answer, Call, Plan, State, act}
+use Rattle.method.specs.Rules.{isStart, look, refusal, updated}
 use Rattle.control.specs.ControlBytes.{Part}
 use Rattle.control_form.specs.ControlForm.{formRowsOf}
 use Rattle.cabinet_rules.specs.Cabinet.{cabinet, rulesOf}
@@ -89,22 +89,22 @@ isThere c b = ltb c cardCount && ltb b blockCount
 module _ (D : Delivery) where
   -- The control part that an image shows, its control form, and the whole state.
   abbrev pub controlBy : Image → PartOf D
-  controlBy g = D .part (λ n. getD g n 0) (tailBy (D .layout) g)
+  controlBy g = D .memory .part (λ n. getD g n 0) (tailBy (D .memory .layout) g)
 
   abbrev pub formBy : Image → Bool
-  formBy g = D .form (λ n. getD g n 0) (tailBy (D .layout) g)
+  formBy g = D .memory .form (λ n. getD g n 0) (tailBy (D .memory .layout) g)
 
   unfoldable pub stateBy : Image → State (rulesOf D)
   stateBy g = record {
     control = controlBy g;
-    block = λ c b. cond (isThere c b) (blockBy (D .layout) g c b) emptyBlock;
-    stamp = λ c. cond (ltb c cardCount) (D .stampIn (endBy (D .layout) g c)) (D .noStamp);
+    block = λ c b. cond (isThere c b) (blockBy (D .memory .layout) g c b) emptyBlock;
+    stamp = λ c. cond (ltb c cardCount) (D .memory .stampIn (endBy (D .memory .layout) g c)) (D .memory .noStamp);
   }
 
   -- The whole refusal table: rows 1 and 2, then the rows from 3 on.
   unfoldable pub refusalBy : Call (rulesOf D) → Image → ℕ
   refusalBy c g =
-      formRowsOf (imageSizeOf (D .layout)) (isStart c) (formBy g) g
+      formRowsOf (imageSizeOf (D .memory .layout)) (isStart c) (formBy g) g
       (refusal (rulesOf D) c (controlBy g) (look (rulesOf D) (stateBy g)))
 
   -- What an accepted call answers and writes.
@@ -116,14 +116,14 @@ module _ (D : Delivery) where
   answerBy c g = orRefused (rulesOf D) (refusalBy c g) (planBy c g .answer)
 
   -- The bytes of a stamp that is written.
-  abbrev pub endOf : Option (D .Stamp) → Option (ℕ → ℕ)
+  abbrev pub endOf : Option (D .memory .Stamp) → Option (ℕ → ℕ)
   endOf none = none
-  endOf (some m) = some (D .stampBytes m)
+  endOf (some m) = some (D .memory .stampBytes m)
 
   -- The image after a plan.
   abbrev pub afterPlan : Plan (rulesOf D) → Image → Image
   afterPlan p g =
-      afterBy (D .layout) (D .bytes (p .after)) (D .tail (p .after)) (p .write) (λ c. endOf (p .stamps c)) g
+      afterBy (D .memory .layout) (D .memory .bytes (p .after)) (D .memory .tail (p .after)) (p .write) (λ c. endOf (p .stamps c)) g
 
   -- The image after the call.
   unfoldable pub nextBy : Call (rulesOf D) → Image → Image

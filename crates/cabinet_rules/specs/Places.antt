@@ -7,7 +7,7 @@ use Rattle.mask.specs.Masks.{Byte, isWithin, size}
 use Rattle.mask.specs.Placements.{leastMembers}
 use Rattle.method.specs.ControlPart.{ControlPart, active}
 use Rattle.method.specs.Rules.{row}
-use Rattle.control.specs.ControlBytes.{Serial, Setting}
+use Rattle.control.specs.ControlBytes.{Setting}
 
 -- start, place: under two members is 9.
 unfoldable pub startRow : Byte → ℕ
@@ -18,7 +18,7 @@ abbrev pub mostPlaced : ℕ
 mostPlaced = 3
 
 -- place: also a member not working, or the newest mask again, is 9; with three or more active it is 10.
-unfoldable pub placeRows : {A : Type 0} → (A → Byte → Bool) → ControlPart Byte A Setting Serial → Byte → ℕ
+unfoldable pub placeRows : {A S : Type 0} → (A → Byte → Bool) → ControlPart Byte A Setting S → Byte → ℕ
 placeRows isAgain k m =
     row 9 (ltb (size m) leastMembers || (not (isWithin m (k .working)) || isAgain (k .newest) m)) (
     row 10 (leb mostPlaced (length (active k))) 0)

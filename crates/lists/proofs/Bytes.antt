@@ -1,8 +1,7 @@
 -- Numbers in bytes: what is done to such a number byte by byte. An operation on bits works on each byte by itself; a sum,
 -- a product and a quotient do where nothing is carried from a byte to the next. Assumes nothing.
 use mathlib.Core.Path.{_≡_, refl, sym, ap, ap₂, _∙_}
-use mathlib.Core.Bool.{Bool, true, false, _&&_}
-use Prim.Native.Nat.{ℕ, zero, suc, _+_, _-_, _*_, _/_, _%_, _^_, _≤_, _<_}
+use Prim.Native.Nat.{ℕ, zero, suc, _+_, _-_, _*_, _/_, _^_, _≤_, _<_}
 use native.Mathlib.Omega.{arith}
 use native.Mathlib.Nat.{add-assoc, add-mul, add-zero, mul-right-comm, zero-mul}
 use lib.Bits.{bitAnd, bitXor, and-block, xor-block}

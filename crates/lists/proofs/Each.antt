@@ -3,11 +3,11 @@ use mathlib.Core.Path.{_≡_, refl, sym, ap, _∙_}
 use mathlib.Core.Logic.{⊎-elim}
 use mathlib.Core.List.{List}
 use Prim.Native.Nat.{ℕ, zero, suc, _+_, _-_, _*_, _≤_, _<_}
-use native.Mathlib.Nat.{suc-mul, mul-le-mul-right, not-suc-le-zero, eq-or-lt-of-le}
+use native.Mathlib.Nat.{suc-mul, mul-le-mul-right, not-suc-le-zero}
 use native.Mathlib.Omega.{arith}
 use native.Mathlib.Numerals.{add-one}
-use lib.ListN.{length, getD}
-use Rattle.lists.specs.Segments.{segment, splice, within, each, Keeps}
+use lib.ListN.{length}
+use Rattle.lists.specs.Segments.{segment, within, each, Keeps}
 use Rattle.lists.proofs.Cases.{lt-or-ge}
 use Rattle.lists.proofs.Segments.{length-segment, length-splice, get-put, get-put-before, get-put-after}
 

@@ -1,15 +1,15 @@
 -- Laws of segment and splice: the lens through which bytes are read and written. Assumes nothing.
 use mathlib.Core.Path.{_≡_, refl, sym, ap, _∙_}
-use mathlib.Core.List.{List, [], _∷_, _++_, append-assoc}
-use mathlib.Core.Logic.{_⊎_, inl, inr, ⊎-elim}
-use Prim.Native.Nat.{ℕ, zero, suc, _+_, _-_, _*_, _≤_, _<_}
+use mathlib.Core.List.{List, [], _∷_, _++_}
+use mathlib.Core.Logic.{_⊎_, ⊎-elim}
+use Prim.Native.Nat.{ℕ, _+_, _-_, _≤_, _<_}
 use Rattle.lists.specs.Segments.{segment, splice}
 use Rattle.lists.proofs.Cases.{lt-or-ge}
 use native.Mathlib.Omega.{arith}
-use lib.ListN.{length, take, drop, getD, set, length-append, length-take, length-drop, take-append-drop, length-set, List·getD-append}
+use lib.ListN.{length, take, getD, set, length-append, length-take, length-drop, length-set, List·getD-append}
 use native.Mathlib.Numerals.{add-one}
 use native.Mathlib.Nat.{not-suc-le-zero}
-use lib.Seq.{set-split, getD-set-same, getD-set-other, getD-take, getD-drop, ext-getD, length-take-le, take-at, drop-at, drop-drop, getD-append-add, take-append-le, take-take}
+use lib.Seq.{set-split, getD-set-same, getD-set-other, getD-take, getD-drop, ext-getD, getD-append-add}
 
 pub length-segment : (l : List ℕ) (a n : ℕ) → a + n ≤ length l → length (segment l a n) ≡ n
 unfolding segment

@@ -13,8 +13,8 @@ use Rattle.lists.specs.Tests.{In, anyBelow, count}
 use Rattle.lists.proofs.Bools.{and-in, and-l, and-r, eqb-self, nor-r, not-not-is, or-l, or-r, split, tf}
 use Rattle.lists.proofs.Counts.{below-none, but, count-but, count-mono}
 use Rattle.lists.proofs.Lists.{any-none, in-left, in-reverse, in-right}
-use Rattle.method.specs.Changes.{Control, addedBy, marked, replaced, startedBy}
-use Rattle.method.specs.ControlPart.{active, added, begunAt, closed, halted, isOpen, onlyNewest, opened}
+use Rattle.method.specs.Changes.{Control, addedBy, marked, startedBy}
+use Rattle.method.specs.ControlPart.{active, begunAt, closed, halted, isOpen, onlyNewest, opened}
 use Rattle.method.specs.ControlPart.{withCards}
 use Rattle.method.specs.OneRecordList.{isLast, isStop, observe}
 use Rattle.method.specs.Parameters.{Parameters}

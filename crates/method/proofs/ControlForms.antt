@@ -11,7 +11,7 @@ use Rattle.lists.proofs.Bools.{and-in, and-l, and-r, and-when, tf}
 use Rattle.lists.proofs.Counts.{count-mono}
 use Rattle.lists.proofs.Lists.{in-cases, in-right}
 use Rattle.method.specs.Changes.{Control, addedBy, startedBy}
-use Rattle.method.specs.ControlPart.{active, added, onlyNewest, withCards, withHome}
+use Rattle.method.specs.ControlPart.{active, onlyNewest, withCards, withHome}
 use Rattle.method.specs.Parameters.{Parameters}
 use Rattle.method.specs.Rules.{lost, lostOf}
 use Rattle.method.proofs.Invariant.{Base, Form, newest-in}

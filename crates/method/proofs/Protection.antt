@@ -8,8 +8,8 @@ use mathlib.Core.Logic.{_⊎_, inl, inr}
 use mathlib.Core.Path.{_∙_, _≡_, ap, fun-ext, refl, sym}
 use Rattle.lists.specs.Tests.{allBelow}
 use Rattle.lists.proofs.Bools.{and-when, split}
-use Rattle.method.specs.Changes.{Control, marked, replaced}
-use Rattle.method.specs.ControlPart.{begunAt, halted, isOpen}
+use Rattle.method.specs.Changes.{Control, marked}
+use Rattle.method.specs.ControlPart.{halted, isOpen}
 use Rattle.method.specs.Growth.{plainAfter, rulesAfter, stateAfter}
 use Rattle.method.specs.OneRecordList.{callsOf, disturb, isStop, zeroed}
 use Rattle.method.specs.Parameters.{Parameters}

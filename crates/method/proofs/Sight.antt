@@ -7,8 +7,8 @@ use mathlib.Core.Option.{Option, none, some}
 use mathlib.Core.Path.{_≡_, fun-ext, refl}
 use native.Mathlib.Omega.{arith}
 use Rattle.lists.proofs.Bools.{and-in, and-l, and-r, not-not-is, split}
-use Rattle.method.specs.Changes.{Control, addedBy, marked, replaced}
-use Rattle.method.specs.ControlPart.{added, begunAt, closed, halted, isOpen, withCards}
+use Rattle.method.specs.Changes.{Control, addedBy, marked}
+use Rattle.method.specs.ControlPart.{begunAt, closed, halted, isOpen, withCards}
 use Rattle.method.specs.OneRecordList.{Noise, disturb}
 use Rattle.method.specs.Parameters.{Parameters}
 use Rattle.method.specs.Rules.{Call, Plan, State, View, absent, act, apply, begin, clearCard, commit, delete}

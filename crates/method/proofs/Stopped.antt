@@ -5,7 +5,7 @@ use lib.ListN.{length}
 use mathlib.Core.Bool.{_&&_, _||_, and-true, false, not, true}
 use mathlib.Core.List.{reverse}
 use mathlib.Core.Option.{none}
-use mathlib.Core.Path.{_∙_, _≡_, refl, sym}
+use mathlib.Core.Path.{_∙_, _≡_, refl}
 use Rattle.lists.specs.Tests.{In}
 use Rattle.lists.proofs.Bools.{and-l, and-r, nor-l, nor-r, not-is, or-r}
 use Rattle.method.specs.Changes.{Control, marked}

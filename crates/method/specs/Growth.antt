@@ -10,7 +10,7 @@ use Rattle.method.specs.OneRecordList.{Noise, callsOf, disturb, isLast, 
 use Rattle.method.specs.OneRecordList.{settleAccepted, zeroed}
 use Rattle.method.specs.Parameters.{Parameters}
 use Rattle.method.specs.PlainList.{PlainList, plainNext, plainStart}
-use Rattle.method.specs.Rules.{Call, State, answerOf, nextState, ok, stamped, start}
+use Rattle.method.specs.Rules.{Call, State, answerOf, nextState, ok, start}
 
 -- ---- what a later paper changes
 pub record Growth (P : Parameters) : Type 1 where
@@ -46,10 +46,12 @@ pub record Growth (P : Parameters) : Type 1 where
   pub numbered : ControlPart (Parameters.Mask P) Placement Setting Serial → Type 0
   pub noStamp : Stamp
   pub stampOf : ControlPart (Parameters.Mask P) Placement Setting Serial → Stamp
-  -- what a placement and a setting from before the paper are now
+  -- what a placement, a setting and a serial from before the paper are now
   pub older : Parameters.Placement P → Placement
   pub olderSetting : Parameters.Setting P → Setting
   pub olderSerial : Parameters.Serial P → Serial
+  -- what becomes of the stamps beside the control part as it is now
+  pub olderStamps : ControlPart (Parameters.Mask P) Placement Setting Serial → (ℕ → Parameters.Stamp P) → ℕ → Stamp
 
 -- The parameters under the later paper: all that it does not change stays.
 abbrev pub grown : (P : Parameters) → Growth P → Parameters
@@ -108,12 +110,12 @@ module _ (P : Parameters) (G : Growth P) where
       part (k .stopped) (map (G .older) (k .older)) (G .older (k .newest)) (k .working) (k .failed) (k .home)
       (G .olderSetting (k .setting)) (G .olderSerial (k .serial))
 
-  -- A state: no block changes, and the working cards get the newest placement's stamp.
+  -- A state: no block changes.
   abbrev pub grownState : State P → State (grown P G)
   grownState s = record {
     control = grownControl (s .control);
     block = s .block;
-    stamp = stamped (grown P G) (grownControl (s .control)) (λ c. G .noStamp);
+    stamp = G .olderStamps (grownControl (s .control)) (s .stamp);
   }
 
   -- A plain record list: no record changes.

@@ -7,7 +7,7 @@ use mathlib.Core.Bool.{Bool, _&&_, _||_, cond, false, not, true}
 use mathlib.Core.Option.{Option, none, some}
 use Rattle.lists.specs.Tests.{allBelow, any, count}
 use Rattle.method.specs.Changes.{Control, addedBy, replaced, startedBy}
-use Rattle.method.specs.ControlPart.{active, added, begunAt, closed, isOpen, onlyNewest, opened, withCards}
+use Rattle.method.specs.ControlPart.{active, begunAt, closed, isOpen, onlyNewest, opened, withCards}
 use Rattle.method.specs.Parameters.{Parameters}
 use Rattle.method.specs.Rules.{Answer, Call, View, begin, commit, delete, fail, fit, get, load, move, place}
 use Rattle.method.specs.Rules.{refusal, refused, rollback, row, settle, start, state, store, withdraw}

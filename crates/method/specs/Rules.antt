@@ -7,7 +7,7 @@ use mathlib.Core.List.{List, [], _∷_}
 use mathlib.Core.Option.{Option, none, some}
 use Rattle.lists.specs.Tests.{all, allBelow, any, anyBelow, concatMap, count, countNot, elem, keepIf, sumBelow}
 use Rattle.method.specs.Changes.{Control, addedBy, marked, replaced, startedBy}
-use Rattle.method.specs.ControlPart.{active, added, begunAt, closed, halted, isOpen, onlyNewest, opened}
+use Rattle.method.specs.ControlPart.{active, begunAt, closed, halted, isOpen, onlyNewest, opened}
 use Rattle.method.specs.ControlPart.{withCards}
 use Rattle.method.specs.Parameters.{Parameters}
 use Rattle.method.specs.Slots.{Slot, blank, isNone, isSome, lockedByOther, readBy}

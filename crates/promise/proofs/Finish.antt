@@ -91,13 +91,13 @@ module _ (c : Call cabinet) (late : isStart c ≡ false) (g : Image) where
     by-blocks a w behind e q l = by-plan a (writing cabinet (shown a) (controlIn g) w) behind e q refl (l ∙ sym (kept-control w g (form-good g clear)))
 
     -- accepted, blocks are written and then the control part
-    pub by-both : (a : AnswerValue) (k : Part) (w : Writes) (behind : Image) {m : ℕ → Option (current .Stamp)} → 0 ≡ rowsOn c g → planOn c g ≡ stamping cabinet (writing cabinet (shown a) k w) m
+    pub by-both : (a : AnswerValue) (k : Part) (w : Writes) (behind : Image) {m : ℕ → Option (current .memory .Stamp)} → 0 ≡ rowsOn c g → planOn c g ≡ stamping cabinet (writing cabinet (shown a) k w) m
         → behind ≡ putControl (laid w g) k → Done c g a behind
     by-both a k w behind {m} e q l = by-plan a (stamping cabinet (writing cabinet (shown a) k w) m) behind e q refl
         (l ∙ write-control w g k _)
 
     -- accepted, and only the control part changes
-    pub by-control : (a : AnswerValue) (k : Part) (behind : Image) {m : ℕ → Option (current .Stamp)} → 0 ≡ rowsOn c g → planOn c g ≡ stamping cabinet (unwritten cabinet (shown a) k) m
+    pub by-control : (a : AnswerValue) (k : Part) (behind : Image) {m : ℕ → Option (current .memory .Stamp)} → 0 ≡ rowsOn c g → planOn c g ≡ stamping cabinet (unwritten cabinet (shown a) k) m
         → behind ≡ putControl g k → Done c g a behind
     by-control a k behind {m} e q l = by-both a k (λ c b. none) behind {m = m} e q (l ∙ ap (λ (i : Image). putControl i k) (laid-none (λ c b. none) g (form-long g clear) (λ c b hc hb. refl)))
 

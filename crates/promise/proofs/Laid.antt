@@ -1,20 +1,20 @@
 -- What block work leaves of an image: the blocks that were written, all else as found. Assumes nothing.
 use Prim.Native.Nat.{_+_, _-_, _<_, _≤_, ℕ}
-use borrow.Author.Tests.{lt-ltb, ne-eqb}
+use borrow.Author.Tests.{ne-eqb}
 use borrow.Rule.Slice.PartMut.{midOf}
 use lib.Dec.{eqb}
 use lib.ListN.{getD, length}
 use lib.Seq.{ext-getD}
-use mathlib.Core.Bool.{Bool, _&&_, and-false, cond, false, true}
+use mathlib.Core.Bool.{Bool, _&&_, and-false, cond, true}
 use mathlib.Core.List.{List}
 use mathlib.Core.Logic.{_≢_, _⊎_, inl, inr, ⊎-elim}
 use mathlib.Core.Option.{Option, none, some}
 use mathlib.Core.Path.{_∙_, _≡_, ap, refl, sym}
 use native.Mathlib.Omega.{arith}
-use Rattle.lists.proofs.Bools.{eqb-self, tf}
+use Rattle.lists.proofs.Bools.{eqb-self}
 use Rattle.lists.proofs.Cases.{by-pair, lt-or-ge}
 use Rattle.lists.proofs.Segments.{getD-after, getD-before}
-use Rattle.image.specs.Layout.{Whole, blockAddress, blockAt, blockCount, blockSize, cardCount, controlBytes}
+use Rattle.image.specs.Layout.{Whole, blockAddress, blockAt, blockCount, blockSize, cardCount}
 use Rattle.image.specs.Layout.{controlSize, endStartOf, imageSize, layout, putBlock, tailStartOf}
 use Rattle.image.proofs.Blocks.{put-same, byte-of-block, byte-of-control, control-put, length-block, put-other, whole-put}
 use Rattle.image.proofs.Parts.{part-block}
@@ -134,9 +134,9 @@ module _ (w : Writes) (g : Image) where
 
 -- ---- the control part is written over the blocks
 -- its bytes behind the tables are the ones that are there
-pub write-front : (w : Writes) (g : Image) (k : Part) → ((n : ℕ) → n < layout .imageTail → current .tail k n ≡ tailIn g n)
-    → putControl (laid w g) k ≡ after (controlByte k) (current .tail k) w (λ c. none) g
-write-front w g k keeps = after-ext layout (controlByte k) (current .tail k) w (λ c. none) g (putControl (laid w g) k) long
+pub write-front : (w : Writes) (g : Image) (k : Part) → ((n : ℕ) → n < layout .imageTail → current .memory .tail k n ≡ tailIn g n)
+    → putControl (laid w g) k ≡ after (controlByte k) (current .memory .tail k) w (λ c. none) g
+write-front w g k keeps = after-ext layout (controlByte k) (current .memory .tail k) w (λ c. none) g (putControl (laid w g) k) long
     (λ n h. put-in (laid w g) k fits n h)
     (λ n h. put-after (laid w g) k fits (tailStartOf layout + n) (omega arith) ∙ laid-tail w g n h ∙ sym (keeps n h))
     (λ c b hc hb. is-block (putControl (laid w g) k) long c b hc hb (updated (w c b) (blockIn g c b)) (put-blocks (laid w g) k fits (whole-laid w g) c hc b hb ∙ laid-block w g c b hc hb))
@@ -150,24 +150,24 @@ write-front w g k keeps = after-ext layout (controlByte k) (current .tail k) w (
 
 -- no stamp is written where no byte lies behind the blocks
 pub no-ends : (k : Part) (w : Writes) (e : Ends) (g : Image) → layout .tableTail ≡ 0
-    → after (controlByte k) (current .tail k) w (λ c. none) g ≡ after (controlByte k) (current .tail k) w e g
-no-ends k w e g z = after-ext layout (controlByte k) (current .tail k) w e g (after (controlByte k) (current .tail k) w (λ c. none) g)
-    (length-after layout (controlByte k) (current .tail k) w (λ c. none) g)
-    (after-control layout (controlByte k) (current .tail k) w (λ c. none) g)
-    (after-tail layout (controlByte k) (current .tail k) w (λ c. none) g)
-    (after-block layout (controlByte k) (current .tail k) w (λ c. none) g)
+    → after (controlByte k) (current .memory .tail k) w (λ c. none) g ≡ after (controlByte k) (current .memory .tail k) w e g
+no-ends k w e g z = after-ext layout (controlByte k) (current .memory .tail k) w e g (after (controlByte k) (current .memory .tail k) w (λ c. none) g)
+    (length-after layout (controlByte k) (current .memory .tail k) w (λ c. none) g)
+    (after-control layout (controlByte k) (current .memory .tail k) w (λ c. none) g)
+    (after-tail layout (controlByte k) (current .memory .tail k) w (λ c. none) g)
+    (after-block layout (controlByte k) (current .memory .tail k) w (λ c. none) g)
     (λ c j hc hj. absurd (omega arith))
 
 -- so with neither
-pub write-control : (w : Writes) (g : Image) (k : Part) (e : Ends) → putControl (laid w g) k ≡ after (controlByte k) (current .tail k) w e g
+pub write-control : (w : Writes) (g : Image) (k : Part) (e : Ends) → putControl (laid w g) k ≡ after (controlByte k) (current .memory .tail k) w e g
 write-control w g k e = write-front w g k (λ n h. absurd (omega arith)) ∙ no-ends k w e g refl
 
 -- a control part that is written as it was read stays
-pub kept-control : (w : Writes) (g : Image) → controlForm g ≡ true → after (controlByte (controlIn g)) (current .tail (controlIn g)) w (λ c. none) g ≡ laid w g
+pub kept-control : (w : Writes) (g : Image) → controlForm g ≡ true → after (controlByte (controlIn g)) (current .memory .tail (controlIn g)) w (λ c. none) g ≡ laid w g
 unfolding laid
-kept-control w g form = after-ext layout (λ n. getD g n 0) (tailIn g) w (λ c. none) g (after (controlByte (controlIn g)) (current .tail (controlIn g)) w (λ c. none) g)
-    (length-after layout (controlByte (controlIn g)) (current .tail (controlIn g)) w (λ c. none) g)
-    (λ n h. after-control layout (controlByte (controlIn g)) (current .tail (controlIn g)) w (λ c. none) g n h ∙ control-back (λ n. getD g n 0) form n h)
+kept-control w g form = after-ext layout (λ n. getD g n 0) (tailIn g) w (λ c. none) g (after (controlByte (controlIn g)) (current .memory .tail (controlIn g)) w (λ c. none) g)
+    (length-after layout (controlByte (controlIn g)) (current .memory .tail (controlIn g)) w (λ c. none) g)
+    (λ n h. after-control layout (controlByte (controlIn g)) (current .memory .tail (controlIn g)) w (λ c. none) g n h ∙ control-back (λ n. getD g n 0) form n h)
     (λ n h. absurd (omega arith))
-    (after-block layout (controlByte (controlIn g)) (current .tail (controlIn g)) w (λ c. none) g)
-    (after-end layout (controlByte (controlIn g)) (current .tail (controlIn g)) w (λ c. none) g)
+    (after-block layout (controlByte (controlIn g)) (current .memory .tail (controlIn g)) w (λ c. none) g)
+    (after-end layout (controlByte (controlIn g)) (current .memory .tail (controlIn g)) w (λ c. none) g)

@@ -12,7 +12,7 @@ use Rattle.lists.specs.Tests.{In}
 use Rattle.lists.proofs.Bools.{and-l, and-r, never-true, nor-l, nor-r, not-is, split, tf}
 use Rattle.lists.proofs.Lists.{any-none, in-left}
 use Rattle.method.specs.Changes.{Control, addedBy, startedBy}
-use Rattle.method.specs.ControlPart.{active, added, withCards}
+use Rattle.method.specs.ControlPart.{active, withCards}
 use Rattle.method.specs.OneRecordList.{plainObserve, quiet}
 use Rattle.method.specs.Parameters.{Parameters}
 use Rattle.method.specs.PlainList.{plainAct, plainNext, plainRefusal, plainStart, unlessRefused}

@@ -15,7 +15,7 @@ use Rattle.lists.proofs.Bools.{and-in, and-l, and-r, nor-l, nor-r, not-is, spli
 use Rattle.lists.proofs.Counts.{count-mono}
 use Rattle.lists.proofs.Lists.{any-none, in-left}
 use Rattle.method.specs.Changes.{Control, addedBy, marked, replaced}
-use Rattle.method.specs.ControlPart.{active, added, begunAt, closed, halted, isOpen}
+use Rattle.method.specs.ControlPart.{active, begunAt, closed, halted, isOpen}
 use Rattle.method.specs.OneRecordList.{Observation, failing, isStop, plainObserve}
 use Rattle.method.specs.Parameters.{Parameters}
 use Rattle.method.specs.PlainList.{endRecords, plainAct, plainNext, plainRefusal, stopsNow, unlessRefused}

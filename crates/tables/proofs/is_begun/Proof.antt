@@ -1,12 +1,11 @@
 -- The proof of `is_begun`: open at all, or open with the card. Assumes nothing.
 use Prim.Native.Nat.{ℕ}
 use mathlib.Core.Bool.{Bool, cond, false, true}
-use mathlib.Core.Option.{Option, none, some}
+use mathlib.Core.Option.{none, some}
 use mathlib.Core.Path.{_≡_, refl}
 use lib.Dec.{leb}
 use borrow.Author.Needs.{needs}
 use Rattle.method.specs.Slots.{isSome}
-use Rattle.tables.specs.Tables.{isBegun}
 use Rattle.tables.proofs.is_begun.Statement.{statement}
 use Rattle.tables.proofs.is_begun.Tie as tie
 
