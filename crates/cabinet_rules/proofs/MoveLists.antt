@@ -41,12 +41,11 @@ tailOf [] = []
 tailOf (c ∷ l) = l
 
 -- The image after a move, with any noise before it, shows the same control part, and the view after the move.
-pub move-shows : (noise : ℕ → ℕ) (g : Image) (k : Part) (v : View cabinet) → Shows current currentLaws g k v → (e : Entry)
-    → Shows current currentLaws (next (asMove cabinet e) (noisy noise g)) k (moved cabinet lawful k (e .card) (e .block) v)
-move-shows noise g k v s e =
-    let t = noise-shows current currentLaws noise g k v s in
-    next-shows current currentLaws (asMove cabinet e) (noisy noise g) k k v (moved cabinet lawful k (e .card) (e .block) v) t (s .form) (s .full)
-    (moved-idle cabinet lawful k (s .form) v (s .idle) (e .card) (e .block)) (move-beside cabinet lawful (stateIn (noisy noise g)) k v (t .beside) e)
+pub move-shows : (g : Image) (k : Part) (v : View cabinet) → Shows current currentLaws g k v → (e : Entry)
+    → Shows current currentLaws (next (asMove cabinet e) g) k (moved cabinet lawful k (e .card) (e .block) v)
+move-shows g k v s e =
+    next-shows current currentLaws (asMove cabinet e) g k k v (moved cabinet lawful k (e .card) (e .block) v) s (s .form) (s .full)
+    (moved-idle cabinet lawful k (s .form) v (s .idle) (e .card) (e .block)) (move-beside cabinet lawful (stateIn g) k v (s .beside) e)
 
 -- After a list of moves it shows the view after them.
 moves-show : (l : List NoisyCall) (entries : List Entry) → AreMoves l entries → (g : Image) (k : Part) (v : View cabinet)
@@ -58,7 +57,7 @@ moves-show (c ∷ l) [] a g k v s = let z : _≡_ {A = ℕ} 0 1 = cc in absurd (
 moves-show (c ∷ l) (e ∷ entries) a g k v s =
     let w : View cabinet = moved cabinet lawful k (e .card) (e .block) v in
     moves-show l entries (ap tailOf a) (next (c .1) (noisy (c .0) g)) k w
-    (subst (λ (x : Call cabinet). Shows current currentLaws (next x (noisy (c .0) g)) k w) (sym (ap (headOf settle) a)) (move-shows (c .0) g k v s e))
+    (subst (λ (x : Call cabinet). Shows current currentLaws (next x (noisy (c .0) g)) k w) (sym (ap (headOf settle) a)) (move-shows (noisy (c .0) g) k v (noise-shows current currentLaws (c .0) g k v s) e))
 
 -- What settle answers there.
 pub settle-shown : (g : Image) (k : Part) (v : View cabinet) → Shows current currentLaws g k v → (noise : ℕ → ℕ)

@@ -1,25 +1,27 @@
 -- What a list of moves is worth to a caller, the proofs: the calls answer as the rules do on images, and calls that list moves change nothing
 -- that can be seen. Assumes nothing.
-use Prim.Native.Nat.{ℕ}
-use lib.Dec.{eqb}
+use Prim.Native.Nat.{_<_, ℕ}
+use lib.Dec.{eqb, leb}
 use lib.ListN.{drop, getD, length, length-map, take}
-use lib.Seq.{take-append-seam}
-use mathlib.Core.Bool.{Bool, false, not, true}
+use lib.Seq.{ext-getD, take-append-seam}
+use mathlib.Core.Bool.{Bool, _&&_, cond, false, not, true}
 use mathlib.Core.List.{List, [], _++_, _∷_, map}
+use mathlib.Core.Logic.{_≢_}
 use mathlib.Core.Path.{_∙_, _≡_, ap, refl, subst, sym}
 use native.Mathlib.Omega.{arith}
-use Rattle.lists.proofs.Bools.{never-true}
-use Rattle.image.specs.Layout.{cardCount, imageSize}
-use Rattle.mask.specs.Masks.{byte}
+use Rattle.lists.proofs.Tabulate.{at-tabulate, length-tabulate}
+use Rattle.image.specs.Layout.{cardCount, controlSize, imageSize, layout}
+use Rattle.mask.specs.Masks.{byte, hasCard}
 use Rattle.method.specs.MoveList.{Entry, ListAnswer, asMove, entryAt, noList}
 use Rattle.method.specs.OneRecordList.{isLast, isStop, observe}
 use Rattle.method.specs.Rules.{Answer, Call, View, begin, commit, delete, fail, fit, get, load, look, move}
-use Rattle.method.specs.Rules.{place, refusal, rollback, row, settle, start, state, store, withdraw}
+use Rattle.method.specs.Rules.{absent, copied, loaded, ok, place, placed, protected, refusal, refused, retired, rollback, row, settle, start, state, stops}
+use Rattle.method.specs.Rules.{store, unplaced, unprotected, value, withdraw}
 use Rattle.method.proofs.Moves.{moved}
 use Rattle.cabinet_rules.specs.Cabinet.{cabinet}
-use Rattle.cabinet_rules.specs.Claims.{NoStopBy, NoisyCall, imageAfter, imageAfterBy, imageCalls, noisy}
+use Rattle.cabinet_rules.specs.Claims.{NoStopBy, NoisyCall, imageAfter, imageAfterBy, imageCalls, noisy, noisyBy, noisyByte}
 use Rattle.cabinet_rules.specs.Delivery.{PartOf, current}
-use Rattle.cabinet_rules.specs.Images.{Image, answer, controlIn, formBy, next, nextBy, refusalBy, stateIn, unlessRefusedImage}
+use Rattle.cabinet_rules.specs.Images.{Image, answer, cardBy, controlIn, formBy, next, nextBy, refusalBy, stateIn, unlessRefusedImage}
 use Rattle.cabinet_rules.specs.MoveLists.{AreMoves, ListSettles, NeverSettles, NoShorterList, NoneIsFinal, NoneIsFinalFromEarlier}
 use Rattle.cabinet_rules.specs.MoveLists.{listAnswerOn, listRefusal, movesOn}
 use Rattle.cabinet_rules.proofs.Form.{currentLaws}
@@ -32,42 +34,55 @@ use Rattle.move_list.specs.Plans.{moveFor}
 use Rattle.move_list.specs.Promise.{ListDone, filledBy, listAfter}
 use Rattle.move_list.specs.declared.Listed.the-variants.{Moves}
 use Rattle.move_list.specs.declared.Move.{Move}
-use Rattle.promise.specs.Promise.{asked, shown}
+use Rattle.promise.specs.Promise.{shown}
 use Rattle.promise.specs.declared.Answer.{Answer as AnswerValue}
 use Rattle.promise.specs.declared.Answer.the-variants.{Retired}
 use Rattle.store.specs.MoveList.{ListedMovesSettle, MovesThenSettle, NoShorterMoves, NoneGoesOnOfCalls}
 use Rattle.store.specs.MoveList.{NoneIsFinalOfCalls, NoneIsFinalOn, moveOf}
-use Rattle.store.specs.Runs.{NoStop, Ran, RunCall, callsOf, listCall, memoryAfter, storeCall}
-use Rattle.store.proofs.Protection.{stopped-alone}
+use Rattle.store.specs.Runs.{IsRun, NeverStopped, NoneStops, RunCall, leftBy, meant, memoryAfter, runCalls, runSteps}
+use Rattle.store.proofs.OneRecordList.{Stepwise, kept-steps}
 
 -- ---- a run of moves beside its moves alone
--- The calls of a run with the noise before each, without those that list moves.
-given : List RunCall → List NoisyCall
+-- Calls with no noise of their own.
+given : List (Call cabinet) → List NoisyCall
 given [] = []
-given (storeCall s ∷ l) = (s .noise, asked (s .call)) ∷ given l
-given (listCall s ∷ l) = given l
+given (c ∷ l) = (λ n. 0, c) ∷ given l
 
-calls-given : (l : List RunCall) → imageCalls (given l) ≡ callsOf l
+calls-given : (l : List (Call cabinet)) → imageCalls (given l) ≡ l
 unfolding given
 calls-given [] = refl
-calls-given (storeCall s ∷ l) = ap (λ (t : List (Call cabinet)). asked (s .call) ∷ t) (calls-given l)
-calls-given (listCall s ∷ l) = calls-given l
+calls-given (c ∷ l) = ap (λ (t : List (Call cabinet)). c ∷ t) (calls-given l)
 
 module _ (k : PartOf current) where
+  -- Image x and what the calls leave of h show the same.
+  abbrev Alike : Image → List (Call cabinet × Answer cabinet) → Image → Type 0
+  Alike x l h = (w : View cabinet) × Shows current currentLaws x k w × Shows current currentLaws (imageAfter (given (map (λ s. s .0) l)) h) k w
+
+  -- Moves on two images that show the same, and then other calls.
+  steps-show : (x : Image) (ss l : List (Call cabinet × Answer cabinet)) (entries : List Entry) → map (λ s. s .0) (ss ++ l) ≡ map (asMove cabinet) entries
+      → (g i h : Image) (v : View cabinet) → Shows current currentLaws g k v → Shows current currentLaws h k v → Stepwise ss g i
+      → ((rest : List Entry) → map (λ s. s .0) l ≡ map (asMove cabinet) rest → (j : Image) (w : View cabinet) → Shows current currentLaws i k w
+      → Shows current currentLaws j k w → Alike x l j)
+      → Alike x (ss ++ l) h
+  unfolding Stepwise given imageAfterBy
+  steps-show x [] l entries a g i h v s t r behind = behind entries a h v (rw r s) t
+  steps-show x ((c, said) ∷ ss) l [] a g i h v s t r behind = let z : _≡_ {A = ℕ} 0 1 = cc in absurd (omega arith)
+  steps-show x ((c, said) ∷ ss) l (e ∷ entries) a g i h v s t r behind =
+      let p : asMove cabinet e ≡ c = cc in
+      let q : map (λ s. s .0) (ss ++ l) ≡ map (asMove cabinet) entries = cc in
+      steps-show x ss l entries q (next c g) i (next c (noisy (λ n. 0) h)) (moved cabinet lawful k (e .card) (e .block) v)
+      (rw (sym p) (move-shows g k v s e)) (rw (sym p) (move-shows (noisy (λ n. 0) h) k v (noise-shows current currentLaws (λ n. 0) h k v t) e)) (r .1) behind
+
   -- What a run of moves leaves and what its moves alone leave show the same.
-  moves-show : (l : List RunCall) (entries : List Entry) → callsOf l ≡ map (asMove cabinet) entries
-      → (g h : Image) (v : View cabinet) → Shows current currentLaws g k v → Shows current currentLaws h k v → Ran l g
-      → (w : View cabinet) × Shows current currentLaws (memoryAfter l g) k w × Shows current currentLaws (imageAfter (given l) h) k w
-  unfolding given Ran memoryAfter imageAfterBy
+  moves-show : (l : List RunCall) (entries : List Entry) → runCalls l ≡ map (asMove cabinet) entries
+      → (g h : Image) (v : View cabinet) → Shows current currentLaws g k v → Shows current currentLaws h k v → IsRun l g
+      → Alike (memoryAfter l g) (runSteps l) h
+  unfolding given IsRun memoryAfter imageAfterBy
   moves-show [] entries a g h v s t r = (v, s, t)
-  moves-show (listCall x ∷ l) entries a g h v s t r =
-      moves-show l entries a (noisy (x .noise) g) h v (noise-shows current currentLaws (x .noise) g k v s) t (r .1)
-  moves-show (storeCall x ∷ l) [] a g h v s t r = let z : _≡_ {A = ℕ} 0 1 = cc in absurd (omega arith)
-  moves-show (storeCall x ∷ l) (e ∷ entries) a g h v s t r =
-      let p : asMove cabinet e ≡ asked (x .call) = cc in
-      let q : callsOf l ≡ map (asMove cabinet) entries = cc in
-      moves-show l entries q (x .left) (next (asked (x .call)) (noisy (x .noise) h)) (moved cabinet lawful k (e .card) (e .block) v)
-      (rw (r .0 .leaves, sym p) (move-shows (x .noise) g k v s e)) (rw (sym p) (move-shows (x .noise) h k v t e)) (r .1)
+  moves-show (r ∷ l) entries a g h v s t e =
+      steps-show (memoryAfter (r ∷ l) g) (meant (r .made)) (runSteps l) entries a (noisy (r .noise) g) (leftBy (r .made) (noisy (r .noise) g)) h v
+      (noise-shows current currentLaws (r .noise) g k v s) t (kept-steps (r .made) (noisy (r .noise) g) (e .0))
+      (λ rest b j w f m. moves-show l rest b (leftBy (r .made) (noisy (r .noise) g)) j w f m (e .1))
 
   -- Where two images show the same, settle answers the same.
   settle-same : (noise : ℕ → ℕ) (g h : Image) (v : View cabinet) → Shows current currentLaws g k v → Shows current currentLaws h k v
@@ -89,14 +104,14 @@ moves-back [] = refl
 moves-back (e ∷ l) = ap (λ (t : List (Call cabinet)). asMove cabinet e ∷ t) (moves-back l)
 
 module _ (g : Image) (clear : listRefusal g ≡ 0) (entries : List Move) (said : AnswerValue) (t : MovesThenSettle g entries said) where
-  given-moves : AreMoves (given (t .moves)) (map entryOf entries)
-  given-moves = calls-given (t .moves) ∙ t .are-moves ∙ entries-move entries
+  given-moves : AreMoves (given (runCalls (t .moves))) (map entryOf entries)
+  given-moves = calls-given (runCalls (t .moves)) ∙ t .are-moves ∙ entries-move entries
 
-  settle-given : shown said ≡ answer settle (noisy (t .noise) (imageAfter (given (t .moves)) g))
+  settle-given : shown said ≡ answer settle (noisy (t .noise) (imageAfter (given (runCalls (t .moves))) g))
   settle-given =
       let s = running-shows g (running-image g clear) in
       let h = moves-show (controlIn g) (t .moves) (map entryOf entries) (t .are-moves ∙ entries-move entries) g g (look cabinet (stateIn g)) s s (t .ran) in
-      t .settles .answers ∙ settle-same (controlIn g) (t .noise) (memoryAfter (t .moves) g) (imageAfter (given (t .moves)) g) (h .0) (h .1) (h .2)
+      t .settles .answers ∙ settle-same (controlIn g) (t .noise) (memoryAfter (t .moves) g) (imageAfter (given (runCalls (t .moves))) g) (h .0) (h .1) (h .2)
 
 -- The first entries of the list as filled are the moves.
 filled-moves : (g : Image) (lent filled : List Move) (n : ℕ) → ListDone g lent (Moves n) filled → map moveOf (take n filled) ≡ map (asMove cabinet) (movesOn g)
@@ -111,13 +126,13 @@ pub listed-moves-settle : ListedMovesSettle
 unfolding ListedMovesSettle ListSettles
 listed-moves-settle g lent filled n d said t =
     settle-given g (listed-clear g (length lent) n (sym (d .answers)) .0) (take n filled) said t
-    ∙ list-settles g (length lent) n (sym (d .answers)) (given (t .moves)) (calls-given (t .moves) ∙ t .are-moves ∙ filled-moves g lent filled n d) (t .noise)
+    ∙ list-settles g (length lent) n (sym (d .answers)) (given (runCalls (t .moves))) (calls-given (runCalls (t .moves)) ∙ t .are-moves ∙ filled-moves g lent filled n d) (t .noise)
 
 pub no-shorter-moves : NoShorterMoves
 unfolding NoShorterMoves NoShorterList
 no-shorter-moves g lent filled n d entries m t =
     let clear = listed-clear g (length lent) n (sym (d .answers)) .0 in
-    let least = no-shorter-list g (length lent) n (sym (d .answers)) (given (t .moves)) (map entryOf entries) (given-moves g clear entries (Retired m) t) (t .noise) m (sym (settle-given g clear entries (Retired m) t)) in
+    let least = no-shorter-list g (length lent) n (sym (d .answers)) (given (runCalls (t .moves))) (map entryOf entries) (given-moves g clear entries (Retired m) t) (t .noise) m (sym (settle-given g clear entries (Retired m) t)) in
     omega (arith, least, length-map entries entryOf)
 
 -- ---- 'none'
@@ -134,11 +149,30 @@ idle-leaves g = leaves (not (eqb (length g) imageSize)) (not (formBy current g))
     leaves false true changed = refl
     leaves false false changed = refl
 
--- The calls of a run with the noise before each, and then this noise.
-played : List RunCall → (ℕ → ℕ) → List NoisyCall
-played [] noise = (noise, idle) ∷ []
-played (storeCall s ∷ l) noise = (s .noise, asked (s .call)) ∷ played l noise
-played (listCall s ∷ l) noise = (s .noise, idle) ∷ played l noise
+-- Noise that gives the bytes that are there.
+still : Image → ℕ → ℕ
+still g n = getD g n 0
+
+still-is : (g : Image) → noisy (still g) g ≡ g
+unfolding still noisyBy noisyByte
+still-is g = ext-getD 0 (noisy (still g) g) g (length-tabulate (length g) (noisyByte current (still g) g)) (λ n h.
+    let l : n < length g = omega (arith, h, length-tabulate (length g) (noisyByte current (still g) g)) in
+    at-tabulate (length g) (noisyByte current (still g) g) n l ∙ either (leb controlSize n && hasCard (controlIn g .failed) (cardBy layout n)) (getD g n 0))
+  where
+    either : (b : Bool) (x : ℕ) → cond b x x ≡ x
+    either true x = refl
+    either false x = refl
+
+-- Calls on g with no noise, and then others.
+stepped : List (Call cabinet × Answer cabinet) → Image → List NoisyCall → List NoisyCall
+stepped [] g l = l
+stepped (s ∷ ss) g l = (still g, s .0) ∷ stepped ss (next (s .0) g) l
+
+-- The calls of a run on g as the rules are given them, each with the noise before it, and then this noise.
+played : List RunCall → (ℕ → ℕ) → Image → List NoisyCall
+played [] noise g = (noise, idle) ∷ []
+played (r ∷ l) noise g =
+    (r .noise, idle) ∷ stepped (meant (r .made)) (noisy (r .noise) g) (played l noise (leftBy (r .made) (noisy (r .noise) g)))
 
 -- A call whose answer is no stop ends no list of observations.
 goes-on : (c : Call cabinet) (x : Answer cabinet) → isStop cabinet x ≡ false → isLast cabinet (observe cabinet c x) ≡ false
@@ -158,21 +192,64 @@ goes-on settle x e = refl
 goes-on state x e = refl
 goes-on (load c) x e = refl
 
-module _ (noise : ℕ → ℕ) where
-  played-leaves : (l : List RunCall) (g : Image) → Ran l g → imageAfter (played l noise) g ≡ noisy noise (memoryAfter l g)
-  unfolding played imageAfterBy memoryAfter Ran
-  played-leaves [] g r = idle-leaves (noisy noise g)
-  played-leaves (storeCall s ∷ l) g r = ap (imageAfter (played l noise)) (sym (r .0 .leaves)) ∙ played-leaves l (s .left) (r .1)
-  played-leaves (listCall s ∷ l) g r = ap (imageAfter (played l noise)) (idle-leaves (noisy (s .noise) g)) ∙ played-leaves l (noisy (s .noise) g) (r .1)
+no-stop : (a : Answer cabinet) → a ≢ stops → isStop cabinet a ≡ false
+no-stop ok n = refl
+no-stop (value m) n = refl
+no-stop absent n = refl
+no-stop (placed m) n = refl
+no-stop unplaced n = refl
+no-stop stops n = absurd (n refl)
+no-stop (copied m) n = refl
+no-stop (retired m) n = refl
+no-stop protected n = refl
+no-stop unprotected n = refl
+no-stop (loaded m) n = refl
+no-stop (refused m) n = refl
 
-  played-runs : (l : List RunCall) (g : Image) → Ran l g → NoStop l → NoStopBy current (played l noise) g
-  unfolding played NoStopBy NoStop Ran
-  played-runs [] g r n = (refl, tt)
-  played-runs (storeCall s ∷ l) g r n = (
-    goes-on (asked (s .call)) (answer (asked (s .call)) (noisy (s .noise) g)) (ap (isStop cabinet) (sym (r .0 .answers)) ∙ never-true (isStop cabinet (shown (s .said))) (λ e. n .0 (stopped-alone (s .said) e))),
-    subst (NoStopBy current (played l noise)) (r .0 .leaves) (played-runs l (s .left) (r .1) (n .1)),
-  )
-  played-runs (listCall s ∷ l) g r n = (refl, subst (NoStopBy current (played l noise)) (sym (idle-leaves (noisy (s .noise) g))) (played-runs l (noisy (s .noise) g) (r .1) n))
+-- What they leave, and that none of them stopped the store.
+stepped-leaves : (ss : List (Call cabinet × Answer cabinet)) (g h : Image) → Stepwise ss g h → (l : List NoisyCall)
+    → imageAfter (stepped ss g l) g ≡ imageAfter l h
+unfolding stepped imageAfterBy Stepwise
+stepped-leaves [] g h e l = ap (imageAfter l) (sym e)
+stepped-leaves ((c, a) ∷ ss) g h e l =
+    ap (λ (x : Image). imageAfter (stepped ss (next c g) l) (next c x)) (still-is g) ∙ stepped-leaves ss (next c g) h (e .1) l
+
+stepped-runs : (ss : List (Call cabinet × Answer cabinet)) (g h : Image) → Stepwise ss g h → NoneStops ss → (l : List NoisyCall) → NoStopBy current l h
+    → NoStopBy current (stepped ss g l) g
+unfolding stepped NoStopBy Stepwise NoneStops
+stepped-runs [] g h e n l r = subst (NoStopBy current l) e r
+stepped-runs ((c, a) ∷ ss) g h e n l r =
+    subst (λ (x : Image). (isLast cabinet (observe cabinet c (answer c x)) ≡ false) × NoStopBy current (stepped ss (next c g) l) (next c x)) (sym (still-is g)) (
+      goes-on c (answer c g) (ap (isStop cabinet) (sym (e .0)) ∙ no-stop a (n .0)),
+      stepped-runs ss (next c g) h (e .1) (n .1) l r,
+    )
+
+none-stop-first : (ss l : List (Call cabinet × Answer cabinet)) → NoneStops (ss ++ l) → NoneStops ss × NoneStops l
+unfolding NoneStops
+none-stop-first [] l n = (tt, n)
+none-stop-first (s ∷ ss) l n = let h = none-stop-first ss l (n .1) in ((n .0, h .0), h .1)
+
+module _ (noise : ℕ → ℕ) where
+  played-leaves : (l : List RunCall) (g : Image) → IsRun l g → imageAfter (played l noise g) g ≡ noisy noise (memoryAfter l g)
+  unfolding played imageAfterBy memoryAfter IsRun
+  played-leaves [] g e = idle-leaves (noisy noise g)
+  played-leaves (r ∷ l) g e =
+      let G : Image = noisy (r .noise) g in
+      let H : Image = leftBy (r .made) G in
+      ap (imageAfter (stepped (meant (r .made)) G (played l noise H))) (idle-leaves G)
+      ∙ stepped-leaves (meant (r .made)) G H (kept-steps (r .made) G (e .0)) (played l noise H) ∙ played-leaves l H (e .1)
+
+  played-runs : (l : List RunCall) (g : Image) → IsRun l g → NeverStopped l → NoStopBy current (played l noise g) g
+  unfolding played NoStopBy IsRun
+  played-runs [] g e n = (refl, tt)
+  played-runs (r ∷ l) g e n =
+      let G : Image = noisy (r .noise) g in
+      let H : Image = leftBy (r .made) G in
+      let m = none-stop-first (meant (r .made)) (runSteps l) n in (
+        refl,
+        subst (NoStopBy current (stepped (meant (r .made)) G (played l noise H))) (sym (idle-leaves G))
+            (stepped-runs (meant (r .made)) G H (kept-steps (r .made) G (e .0)) (m .0) (played l noise H) (played-runs l H (e .1) (m .1))),
+      )
 
 -- Where 'none' is final after calls on an image, it is after a run.
 none-final : (g : Image)
@@ -180,7 +257,7 @@ none-final : (g : Image)
     → NoneIsFinalOn g
 unfolding NoneIsFinalOn NeverSettles
 none-final g final l r runs noise lent filled list entries said t =
-    settle-given here clear entries said t ∙ never (given (t .moves)) (map entryOf entries) (given-moves here clear entries said t) (t .noise)
+    settle-given here clear entries said t ∙ never (given (runCalls (t .moves))) (map entryOf entries) (given-moves here clear entries said t) (t .noise)
   where
     here : Image
     here = noisy noise (memoryAfter l g)
@@ -188,11 +265,11 @@ none-final g final l r runs noise lent filled list entries said t =
     clear : listRefusal here ≡ 0
     clear = none-clear here (length lent) (sym (list .answers)) .0
 
-    left : imageAfter (played l noise) g ≡ here
+    left : imageAfter (played l noise g) g ≡ here
     left = played-leaves noise l g r
 
     never : NeverSettles here
-    never = subst NeverSettles left (final (played l noise) (played-runs noise l g r runs) (length lent) (ap (listAnswerOn (length lent)) left ∙ sym (list .answers)))
+    never = subst NeverSettles left (final (played l noise g) (played-runs noise l g r runs) (length lent) (ap (listAnswerOn (length lent)) left ∙ sym (list .answers)))
 
 pub none-is-final-of-calls : NoneIsFinalOfCalls
 unfolding NoneIsFinalOfCalls NoneIsFinal

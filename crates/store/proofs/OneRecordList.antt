@@ -1,53 +1,68 @@
--- Demand 3 of the calls, the proof: calls that keep their promises run as the rules do on images that are sound, and a list of moves leaves
--- such an image sound. Assumes nothing.
+-- Demand 3 of the calls: a call that keeps its promise did what it means to the rules, and the rules keep an image sound; so a run shows what the
+-- plain record list shows. A kind of call enters by its clause of `kept-steps` alone. Assumes nothing.
 use mathlib.Core.Bool.{Bool, cond, false, true}
-use mathlib.Core.List.{List, [], _∷_}
+use mathlib.Core.List.{List, [], _++_, _∷_, map}
 use mathlib.Core.Path.{_∙_, _≡_, ap, refl, sym}
 use Rattle.mask.specs.Masks.{byte}
 use Rattle.method.specs.OneRecordList.{Observation, isLast, observe, plainObserve, runPlain, settleAccepted, zeroed}
 use Rattle.method.specs.PlainList.{PlainList, plainNext, plainStart}
-use Rattle.method.specs.Rules.{Call, State, nextState}
+use Rattle.method.specs.Rules.{Answer, Call, State, nextState}
 use Rattle.cabinet_rules.specs.Cabinet.{cabinet}
 use Rattle.cabinet_rules.specs.Claims.{noisy}
 use Rattle.cabinet_rules.specs.Delivery.{current}
-use Rattle.cabinet_rules.specs.Images.{Image}
+use Rattle.cabinet_rules.specs.Images.{Image, answer, next}
 use Rattle.cabinet_rules.proofs.Earlier.{earlier-sound}
 use Rattle.cabinet_rules.proofs.Form.{currentLaws}
 use Rattle.cabinet_rules.proofs.Sound.{Sound, Steps, noise-sound, start-sound, step-sound}
-use Rattle.promise.specs.Promise.{Done, asked}
-use Rattle.store.specs.Runs.{GoesOnOfCalls, OneRecordListOfCalls, Ran, RunCall, Step, callsOf, listCall, observed, storeCall}
+use Rattle.store.specs.Runs.{GoesOnOfCalls, IsRun, Kept, Made, OneRecordListOfCalls, RunCall, leftBy, listCall, meant, observed, observedIn}
+use Rattle.store.specs.Runs.{runCalls, runSteps, storeCall}
 
--- The plain record list after a call.
-abbrev plainAfterCall : Call cabinet → State cabinet → PlainList cabinet → PlainList cabinet
-plainAfterCall c z q = plainNext cabinet (settleAccepted cabinet z) c q
+-- These calls were answered so, one after the other on g, and left h.
+unfoldable pub Stepwise : List (Call cabinet × Answer cabinet) → Image → Image → Type 0
+Stepwise [] g h = h ≡ g
+Stepwise (s ∷ l) g h = (s .1 ≡ answer (s .0) g) × Stepwise l (next (s .0) g) h
 
--- A call that keeps its promise on an image that is sound, and what is observed behind it.
-call-observed : (x : Step) (g : Image) (z : State cabinet) (q : PlainList cabinet) → Sound current currentLaws g z q
-    → Done (asked (x .call)) g (x .said) (x .left) → (l : List RunCall)
-    → (Sound current currentLaws (x .left) (nextState cabinet (asked (x .call)) z) (plainAfterCall (asked (x .call)) z q)
-    → observed l ≡ runPlain cabinet (callsOf l) (nextState cabinet (asked (x .call)) z) (plainAfterCall (asked (x .call)) z q))
-    → observed (storeCall x ∷ l) ≡ runPlain cabinet (callsOf (storeCall x ∷ l)) z q
-unfolding observed runPlain
-call-observed x g z q s d l behind = rw (ap (observe cabinet (asked (x .call))) (d .answers) ∙ h .shows) (last (isLast cabinet (plainObserve cabinet (asked (x .call)) q)) refl)
+-- A call that kept its promise did what it means to the rules.
+pub kept-steps : (m : Made) (g : Image) → Kept m g → Stepwise (meant m) g (leftBy m g)
+unfolding Stepwise
+kept-steps (storeCall c a left) g d = (d .answers, d .leaves)
+kept-steps (listCall lent a filled) g d = refl
+
+-- Calls on an image that is sound show what the plain record list shows, if the calls behind them do.
+steps-observed : (ss l : List (Call cabinet × Answer cabinet)) (g h : Image) (z : State cabinet) (q : PlainList cabinet) → Sound current currentLaws g z q
+    → Stepwise ss g h
+    → ((y : State cabinet) (p : PlainList cabinet) → Sound current currentLaws h y p → observedIn l ≡ runPlain cabinet (map (λ s. s .0) l) y p)
+    → observedIn (ss ++ l) ≡ runPlain cabinet (map (λ s. s .0) (ss ++ l)) z q
+unfolding observedIn runPlain Stepwise
+steps-observed [] l g h z q s e behind = behind z q (rw e s)
+steps-observed ((c, a) ∷ ss) l g h z q s e behind = rw (ap (observe cabinet c) (e .0) ∙ x .shows) (last (isLast cabinet (plainObserve cabinet c q)) refl
+    (λ t. steps-observed ss l (next c g) h y p t (e .1) behind))
   where
-    h : Steps current currentLaws g z q (asked (x .call))
-    h = step-sound current currentLaws g z q s (asked (x .call))
+    x : Steps current currentLaws g z q c
+    x = step-sound current currentLaws g z q s c
 
-    last : (o : Bool) → isLast cabinet (plainObserve cabinet (asked (x .call)) q) ≡ o
-        → _≡_ {A = List (Observation cabinet)} (plainObserve cabinet (asked (x .call)) q ∷ cond o [] (observed l))
-        (plainObserve cabinet (asked (x .call)) q ∷ cond o [] (runPlain cabinet (callsOf l) (nextState cabinet (asked (x .call)) z) (plainAfterCall (asked (x .call)) z q)))
-    last true p = refl
-    last false p = ap (λ (t : List (Observation cabinet)). plainObserve cabinet (asked (x .call)) q ∷ t) (behind (rw (d .leaves) (h .goes-on p)))
+    y : State cabinet
+    y = nextState cabinet c z
+
+    p : PlainList cabinet
+    p = plainNext cabinet (settleAccepted cabinet z) c q
+
+    last : (o : Bool) → isLast cabinet (plainObserve cabinet c q) ≡ o
+        → (Sound current currentLaws (next c g) y p → observedIn (ss ++ l) ≡ runPlain cabinet (map (λ s. s .0) (ss ++ l)) y p)
+        → _≡_ {A = List (Observation cabinet)} (plainObserve cabinet c q ∷ cond o [] (observedIn (ss ++ l)))
+        (plainObserve cabinet c q ∷ cond o [] (runPlain cabinet (map (λ s. s .0) (ss ++ l)) y p))
+    last true i rest = refl
+    last false i rest = ap (λ (t : List (Observation cabinet)). plainObserve cabinet c q ∷ t) (rest (x .goes-on i))
 
 -- So from an image that is sound a run shows what the plain record list shows.
-run-observed : (l : List RunCall) (g : Image) (z : State cabinet) (q : PlainList cabinet) → Sound current currentLaws g z q → Ran l g
-    → observed l ≡ runPlain cabinet (callsOf l) z q
-unfolding observed Ran runPlain
-run-observed [] g z q s r = refl
-run-observed (storeCall x ∷ l) g z q s r =
-    call-observed x (noisy (x .noise) g) z q (noise-sound current currentLaws (x .noise) g z q s) (r .0) l
-    (λ t. run-observed l (x .left) (nextState cabinet (asked (x .call)) z) (plainAfterCall (asked (x .call)) z q) t (r .1))
-run-observed (listCall x ∷ l) g z q s r = run-observed l (noisy (x .noise) g) z q (noise-sound current currentLaws (x .noise) g z q s) (r .1)
+run-observed : (l : List RunCall) (g : Image) (z : State cabinet) (q : PlainList cabinet) → Sound current currentLaws g z q → IsRun l g
+    → observed l ≡ runPlain cabinet (runCalls l) z q
+unfolding IsRun observedIn runPlain
+run-observed [] g z q s e = refl
+run-observed (r ∷ l) g z q s e =
+    steps-observed (meant (r .made)) (runSteps l) (noisy (r .noise) g) (leftBy (r .made) (noisy (r .noise) g)) z q
+    (noise-sound current currentLaws (r .noise) g z q s) (kept-steps (r .made) (noisy (r .noise) g) (e .0))
+    (λ y p t. run-observed l (leftBy (r .made) (noisy (r .noise) g)) y p t (e .1))
 
 -- DEMAND 3, going on from a store that earlier deliveries left
 pub goes-on-of-calls : GoesOnOfCalls

@@ -16,7 +16,7 @@ use Rattle.promise.specs.Promise.{Done, asked, shown}
 use Rattle.promise.specs.declared.Answer.{Answer as AnswerValue}
 use Rattle.promise.specs.declared.Answer.the-variants.{Ok, Retired}
 use Rattle.promise.specs.declared.Call.the-variants.{Move as MoveCall}
-use Rattle.store.specs.Runs.{NoStop, Ran, RunCall, callsOf, memoryAfter}
+use Rattle.store.specs.Runs.{IsRun, NeverStopped, RunCall, memoryAfter, runCalls}
 
 -- The call of an entry: a move from its card of its block.
 abbrev pub moveOf : Move → Call cabinet
@@ -26,8 +26,8 @@ moveOf e = asked (MoveCall (e .0) (e .1))
 -- settle, which said so.
 pub record MovesThenSettle (g : Image) (entries : List Move) (said : AnswerValue) : Type 0 where
   pub moves : List RunCall
-  pub ran : Ran moves g
-  pub are-moves : callsOf moves ≡ map moveOf entries
+  pub ran : IsRun moves g
+  pub are-moves : runCalls moves ≡ map moveOf entries
   pub noise : ℕ → ℕ
   pub left : Image
   pub settles : Done settle (noisy noise (memoryAfter moves g)) said left
@@ -48,7 +48,7 @@ NoShorterMoves = (g : Image) (lent filled : List Move) (n : ℕ) → ListDone g 
 -- 'None' is final after a run on memory g that did not stop the store: where it is said, a settle is refused 13 after
 -- whatever moves.
 unfoldable pub NoneIsFinalOn : Image → Type 0
-NoneIsFinalOn g = (l : List RunCall) → Ran l g → NoStop l
+NoneIsFinalOn g = (l : List RunCall) → IsRun l g → NeverStopped l
     → (noise : ℕ → ℕ) (lent filled : List Move) → ListDone (noisy noise (memoryAfter l g)) lent None filled
     → (entries : List Move) (said : AnswerValue) → MovesThenSettle (noisy noise (memoryAfter l g)) entries said
     → shown said ≡ refused 13

@@ -1,13 +1,13 @@
 -- Demand 3 of the calls themselves: a run of the store as its caller sees it, and the statement. Assumes nothing.
 use Prim.Native.Nat.{ℕ}
 use mathlib.Core.Bool.{cond}
-use mathlib.Core.List.{List, [], _∷_}
+use mathlib.Core.List.{List, [], _++_, _∷_, map}
 use mathlib.Core.Logic.{_≢_}
 use mathlib.Core.Path.{_≡_}
 use Rattle.mask.specs.Masks.{byte}
 use Rattle.method.specs.OneRecordList.{Observation, isLast, observe, runPlain, zeroed}
 use Rattle.method.specs.PlainList.{plainStart}
-use Rattle.method.specs.Rules.{Call, start}
+use Rattle.method.specs.Rules.{Answer, Call, start, stops}
 use Rattle.cabinet_rules.specs.Cabinet.{cabinet}
 use Rattle.cabinet_rules.specs.Claims.{noisy}
 use Rattle.cabinet_rules.specs.GoesOn.{Earlier, Store}
@@ -18,72 +18,79 @@ use Rattle.move_list.specs.declared.Move.{Move}
 use Rattle.promise.specs.Promise.{Done, asked, shown}
 use Rattle.promise.specs.declared.Call.{Call as CallValue}
 use Rattle.promise.specs.declared.Answer.{Answer as AnswerValue}
-use Rattle.promise.specs.declared.Answer.the-variants.{Ok, Stopped}
+use Rattle.promise.specs.declared.Answer.the-variants.{Ok}
 
--- A call of document 01 in a run: the noise in the tables of failed cards before it, what was asked, what it answered,
--- and the memory that it left.
-pub record Step : Type 0 where
+-- A call that was made on the memory.
+pub data Made : Type 0 where
+  -- one of document 01: what was asked, what it answered, and the memory that it left
+  storeCall : CallValue → AnswerValue → Image → Made
+  -- one that lists moves (document 02, A.3): the list that was lent, what was said, and the list as filled
+  listCall : List Move → Listed → List Move → Made
+
+-- It kept its promise on memory g.
+abbrev pub Kept : Made → Image → Type 0
+Kept (storeCall c a left) g = Done (asked c) g a left
+Kept (listCall lent a filled) g = ListDone g lent a filled
+
+-- The memory that it left. One that lists moves leaves it as it was given.
+abbrev pub leftBy : Made → Image → Image
+leftBy (storeCall c a left) g = left
+leftBy (listCall lent a filled) g = g
+
+-- What it means to the rules: calls of theirs with their answers. One that lists moves is none.
+abbrev pub meant : Made → List (Call cabinet × Answer cabinet)
+meant (storeCall c a left) = (asked c, shown a) ∷ []
+meant (listCall lent a filled) = []
+
+-- A call in a run: the noise in the tables of failed cards before it, and what was made.
+pub record RunCall : Type 0 where
   pub noise : ℕ → ℕ
-  pub call : CallValue
-  pub said : AnswerValue
-  pub left : Image
+  pub made : Made
 
--- A call that lists moves in a run (document 02, A.3): the noise before it, the list that was lent, what was said, and
--- the list as filled.
-pub record ListStep : Type 0 where
-  pub noise : ℕ → ℕ
-  pub lent : List Move
-  pub said : Listed
-  pub filled : List Move
+-- Calls that keep their promises, each getting the memory as the last left it, but for the noise; and the memory that
+-- they leave.
+unfoldable pub IsRun : List RunCall → Image → Type 0
+IsRun [] g = Unit
+IsRun (r ∷ l) g = Kept (r .made) (noisy (r .noise) g) × IsRun l (leftBy (r .made) (noisy (r .noise) g))
 
--- The calls of a run are of these two kinds, in any order.
-pub data RunCall : Type 0 where
-  storeCall : Step → RunCall
-  listCall : ListStep → RunCall
-
--- Calls that keep their promises, each getting the memory as the last left it, but for the noise. One that lists moves
--- leaves the memory as it was given.
-unfoldable pub Ran : List RunCall → Image → Type 0
-Ran [] g = Unit
-Ran (storeCall s ∷ l) g = Done (asked (s .call)) (noisy (s .noise) g) (s .said) (s .left) × Ran l (s .left)
-Ran (listCall s ∷ l) g =
-    ListDone (noisy (s .noise) g) (s .lent) (s .said) (s .filled) × Ran l (noisy (s .noise) g)
-
--- What is observed up to the first stop. Of a call that lists moves nothing is compared.
-unfoldable pub observed : List RunCall → List (Observation cabinet)
-observed [] = []
-observed (storeCall s ∷ l) =
-    observe cabinet (asked (s .call)) (shown (s .said))
-    ∷ cond (isLast cabinet (observe cabinet (asked (s .call)) (shown (s .said)))) [] (observed l)
-observed (listCall s ∷ l) = observed l
-
--- The calls as the plain record list is given them. One that lists moves is no step of it.
-abbrev pub callsOf : List RunCall → List (Call cabinet)
-callsOf [] = []
-callsOf (storeCall s ∷ l) = asked (s .call) ∷ callsOf l
-callsOf (listCall s ∷ l) = callsOf l
-
--- The memory that a run leaves.
 unfoldable pub memoryAfter : List RunCall → Image → Image
 memoryAfter [] g = g
-memoryAfter (storeCall s ∷ l) g = memoryAfter l (s .left)
-memoryAfter (listCall s ∷ l) g = memoryAfter l (noisy (s .noise) g)
+memoryAfter (r ∷ l) g = memoryAfter l (leftBy (r .made) (noisy (r .noise) g))
 
--- None of its calls stopped the store.
-unfoldable pub NoStop : List RunCall → Type 0
-NoStop [] = Unit
-NoStop (storeCall s ∷ l) = (s .said ≢ Stopped) × NoStop l
-NoStop (listCall s ∷ l) = NoStop l
+-- What a run means to the rules, and the calls alone, as the plain record list is given them.
+abbrev pub runSteps : List RunCall → List (Call cabinet × Answer cabinet)
+runSteps [] = []
+runSteps (r ∷ l) = meant (r .made) ++ runSteps l
+
+abbrev pub runCalls : List RunCall → List (Call cabinet)
+runCalls l = map (λ s. s .0) (runSteps l)
+
+-- What is observed up to the first stop.
+unfoldable pub observedIn : List (Call cabinet × Answer cabinet) → List (Observation cabinet)
+observedIn [] = []
+observedIn (s ∷ l) =
+    observe cabinet (s .0) (s .1) ∷ cond (isLast cabinet (observe cabinet (s .0) (s .1))) [] (observedIn l)
+
+abbrev pub observed : List RunCall → List (Observation cabinet)
+observed l = observedIn (runSteps l)
+
+-- None of the calls stopped the store.
+unfoldable pub NoneStops : List (Call cabinet × Answer cabinet) → Type 0
+NoneStops [] = Unit
+NoneStops (s ∷ l) = (s .1 ≢ stops) × NoneStops l
+
+abbrev pub NeverStopped : List RunCall → Type 0
+NeverStopped l = NoneStops (runSteps l)
 
 -- DEMAND 3 of the calls. After a start that said ok, on memory of any contents, the calls answer what the plain record
 -- list answers to the same calls, until the store stops; and it stops exactly when the stop rule says.
 unfoldable pub OneRecordListOfCalls : Type 0
 OneRecordListOfCalls = (m : ℕ) (before behind : Image) → Done (start (byte m)) before Ok behind
-    → (l : List RunCall) → Ran l behind
-    → observed l ≡ runPlain cabinet (callsOf l) (zeroed cabinet (byte m)) (plainStart cabinet (byte m))
+    → (l : List RunCall) → IsRun l behind
+    → observed l ≡ runPlain cabinet (runCalls l) (zeroed cabinet (byte m)) (plainStart cabinet (byte m))
 
 -- DEMAND 3 of the calls, going on. The same on the memory of a store that earlier deliveries left: the plain record
 -- list was fed their calls too.
 unfoldable pub GoesOnOfCalls : Type 0
-GoesOnOfCalls = (s : Store) → Earlier s → (l : List RunCall) → Ran l (s .image)
-    → observed l ≡ runPlain cabinet (callsOf l) (s .rules) (s .plain)
+GoesOnOfCalls = (s : Store) → Earlier s → (l : List RunCall) → IsRun l (s .image)
+    → observed l ≡ runPlain cabinet (runCalls l) (s .rules) (s .plain)
