@@ -10,7 +10,8 @@ use Rattle.mask.specs.Masks.{Byte}
 use Rattle.mask.specs.Placements.{chainedSites, olderFromMask, sitesOf}
 use Rattle.mask.proofs.SiteLaws.{site-count, site-distinct, site-member}
 use Rattle.control.specs.ControlBytes.{controlByte, marksFrom}
-use Rattle.cabinet_rules.specs.Delivery.{PartOf, base, beforeMarks, partBy, twoRails}
+use Rattle.cabinet_rules.specs.Delivery.{PartOf, twoRails}
+use Rattle.cabinet_rules.specs.Retired.{base, beforeMarks, partBy}
 use Rattle.cabinet_rules.specs.GoesOn.{fromBase}
 use Rattle.cabinet_rules.proofs.GoesOn.{Carries, carries-same}
 use Rattle.cabinet_rules.proofs.Lawful.{DeliveryLaws, RuleLaws, mask-few, mask-members, mask-working, no-stamps, not-numbered}

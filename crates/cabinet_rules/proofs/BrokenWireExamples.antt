@@ -19,7 +19,8 @@ use Rattle.method.specs.Rules.{get, holders, layBlock, lockHolders, look, move,
 use Rattle.method.specs.Rules.{refusal, refused, rollback, settle, settled, settledAt, store, trail, value}
 use Rattle.cabinet_rules.specs.Cabinet.{placeRows, rulesOf, startRow}
 use Rattle.cabinet_rules.specs.Claims.{NoStopBy, NoisyCallBy, imageCallsBy, runImageBy}
-use Rattle.cabinet_rules.specs.Delivery.{base, belowWire, brokenWire, twoRails}
+use Rattle.cabinet_rules.specs.Delivery.{belowWire, brokenWire, twoRails}
+use Rattle.cabinet_rules.specs.Retired.{base}
 use Rattle.cabinet_rules.specs.GoesOn.{BeforeWire, StoreBy, calledStore, startedStore, takenOver, fromBase, fromRails}
 use Rattle.cabinet_rules.specs.Images.{Image, answerBy, refusalBy}
 use Rattle.cabinet_rules.proofs.Earlier.{wire-sound}

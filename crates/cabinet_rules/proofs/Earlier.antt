@@ -1,5 +1,6 @@
 -- Demand 3 from the stores that the earlier deliveries left, in their order. Assumes nothing.
-use Rattle.cabinet_rules.specs.Delivery.{base, belowWire, current, twoRails}
+use Rattle.cabinet_rules.specs.Delivery.{belowWire, current, twoRails}
+use Rattle.cabinet_rules.specs.Retired.{base}
 use Rattle.cabinet_rules.specs.GoesOn.{BeforeWire, Earlier, EarlierImage, FormStaysFromEarlier, GoesOnFromEarlier, ImageLeftBy, LeftByBase}
 use Rattle.cabinet_rules.specs.GoesOn.{LeftByRails, Store, StoreBy, TakenOver, fromBase, fromRails}
 use Rattle.cabinet_rules.specs.Images.{Image}

@@ -19,7 +19,8 @@ use Rattle.method.proofs.Run.{beside-answer}
 use Rattle.control.specs.ControlBytes.{Part}
 use Rattle.cabinet_rules.specs.Cabinet.{cabinet}
 use Rattle.cabinet_rules.specs.Claims.{NoisyCall, imageAfter, imageAfterBy, imageCalls, noisy}
-use Rattle.cabinet_rules.specs.Delivery.{base, current}
+use Rattle.cabinet_rules.specs.Delivery.{current}
+use Rattle.cabinet_rules.specs.Retired.{base}
 use Rattle.cabinet_rules.specs.Images.{Image, answer, controlIn, next, stateBy, stateIn}
 use Rattle.cabinet_rules.specs.MoveLists.{AreMoves, ListSettles, NeverSettles, NoShorterList, NoneByLock, NoneIsFinal}
 use Rattle.cabinet_rules.specs.MoveLists.{NoneIsFinalFromEarlier, listAnswerOn, listRefusal, movesOn, unlessRefusedList}

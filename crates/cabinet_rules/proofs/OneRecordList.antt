@@ -6,7 +6,8 @@ use Rattle.method.specs.PlainList.{PlainList, plainStart}
 use Rattle.method.specs.Rules.{Call, State, start}
 use Rattle.method.proofs.Run.{run-same}
 use Rattle.cabinet_rules.specs.Cabinet.{cabinet, rulesOf}
-use Rattle.cabinet_rules.specs.Claims.{NoisyCallBy, OneRecordListOnImages, imageCallsBy, noisedBy, runImageBy}
+use Rattle.cabinet_rules.specs.ByTheRules.{noisedBy}
+use Rattle.cabinet_rules.specs.Claims.{NoisyCallBy, OneRecordListOnImages, imageCallsBy, runImageBy}
 use Rattle.cabinet_rules.specs.Delivery.{Delivery, current}
 use Rattle.cabinet_rules.specs.Images.{Image, next, stateBy}
 use Rattle.cabinet_rules.proofs.Form.{currentLaws}

@@ -14,7 +14,8 @@ use Rattle.method.specs.Rules.{fail, get, holders, isProtected, layBlock, lockH
 use Rattle.method.specs.Rules.{nextState, place, plan, refusal, settle, settled, settledAt, start, stopping, store, trail}
 use Rattle.control.specs.ControlBytes.{controlByte}
 use Rattle.cabinet_rules.specs.Cabinet.{cabinet, placeRows, rulesOf, startRow}
-use Rattle.cabinet_rules.specs.Delivery.{base, belowWire, twoRails}
+use Rattle.cabinet_rules.specs.Delivery.{belowWire, twoRails}
+use Rattle.cabinet_rules.specs.Retired.{base}
 use Rattle.cabinet_rules.specs.GoesOn.{fromBase, fromRails, growthOf}
 use Rattle.cabinet_rules.proofs.Examples.{answers, answersBy}
 

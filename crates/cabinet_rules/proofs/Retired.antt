@@ -19,7 +19,8 @@ use Rattle.method.proofs.Invariant.{Form}
 use Rattle.method.proofs.Laws.{Laws}
 use Rattle.method.proofs.Stopped.{Rests}
 use Rattle.cabinet_rules.specs.Cabinet.{rulesOf}
-use Rattle.cabinet_rules.specs.Delivery.{Delivery, PartOf, Retirement, filledBytes, partBy, retiredBytes, retiredForm, retiredPart}
+use Rattle.cabinet_rules.specs.Delivery.{Delivery, PartOf}
+use Rattle.cabinet_rules.specs.Retired.{Retirement, filledBytes, partBy, retiredBytes, retiredForm, retiredPart}
 use Rattle.cabinet_rules.specs.GoesOn.{Succession, growthOf}
 use Rattle.cabinet_rules.proofs.GoesOn.{Follows, keeps, partNow}
 use Rattle.cabinet_rules.proofs.Lawful.{ControlLaws, DeliveryLaws, RuleLaws, Wrote, lawfulBy}

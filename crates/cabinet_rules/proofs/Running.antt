@@ -18,7 +18,7 @@ use Rattle.method.proofs.Run.{Beside}
 use Rattle.control_form.specs.ControlForm.{controlForm, formRefusal, formRows}
 use Rattle.control_form.proofs.RoundTrip.{control-back}
 use Rattle.cabinet_rules.specs.Cabinet.{cabinet}
-use Rattle.cabinet_rules.specs.Claims.{CallsByTheRules, RunsByTheRules}
+use Rattle.cabinet_rules.specs.ByTheRules.{CallsByTheRules, RunsByTheRules}
 use Rattle.cabinet_rules.specs.Delivery.{current}
 use Rattle.cabinet_rules.specs.Images.{Image, answer, controlIn, next, stateBy, stateIn}
 use Rattle.cabinet_rules.proofs.Form.{currentLaws}

@@ -11,7 +11,8 @@ use Rattle.method.proofs.Invariant.{Form}
 use Rattle.method.proofs.Laws.{Laws}
 use Rattle.method.proofs.Run.{Beside, beside-disturb}
 use Rattle.cabinet_rules.specs.Cabinet.{rulesOf}
-use Rattle.cabinet_rules.specs.Claims.{noiseBy, noisyBy}
+use Rattle.cabinet_rules.specs.ByTheRules.{noiseBy}
+use Rattle.cabinet_rules.specs.Claims.{noisyBy}
 use Rattle.cabinet_rules.specs.Delivery.{Delivery, PartOf}
 use Rattle.cabinet_rules.specs.Images.{Image, answerBy, nextBy, stateBy}
 use Rattle.cabinet_rules.proofs.Lawful.{DeliveryLaws, lawfulBy}

@@ -13,7 +13,8 @@ use Rattle.method.specs.Rules.{Call, State, answerOf, nextState, ok, start}
 use Rattle.method.proofs.Laws.{Laws}
 use Rattle.method.proofs.Run.{Ready, next-start, ready-noise, ready-start, ready-step}
 use Rattle.cabinet_rules.specs.Cabinet.{rulesOf}
-use Rattle.cabinet_rules.specs.Claims.{NoStopBy, NoisyCallBy, imageAfterBy, imageCallsBy, noiseBy, noisyBy}
+use Rattle.cabinet_rules.specs.ByTheRules.{noiseBy}
+use Rattle.cabinet_rules.specs.Claims.{NoStopBy, NoisyCallBy, imageAfterBy, imageCallsBy, noisyBy}
 use Rattle.cabinet_rules.specs.Delivery.{Delivery}
 use Rattle.cabinet_rules.specs.Images.{Image, answerBy, nextBy, stateBy}
 use Rattle.cabinet_rules.proofs.Lawful.{DeliveryLaws, lawfulBy}

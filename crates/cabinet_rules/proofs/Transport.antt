@@ -29,7 +29,8 @@ use Rattle.method.proofs.Laws.{Laws}
 use Rattle.method.proofs.Refusals.{row-clear}
 use Rattle.method.proofs.Legal.{Legal, Written, is-resting, is-running, legal-next, legal-start, stamp-outside, stamp-written, write-outside}
 use Rattle.cabinet_rules.specs.Cabinet.{rulesOf, startRow}
-use Rattle.cabinet_rules.specs.Claims.{NoisyCallBy, imageAfterBy, imageCallsBy, noiseBy, noisedBy, noisyBy, noisyByte, runImageBy}
+use Rattle.cabinet_rules.specs.ByTheRules.{noiseBy, noisedBy}
+use Rattle.cabinet_rules.specs.Claims.{NoisyCallBy, imageAfterBy, imageCallsBy, noisyBy, noisyByte, runImageBy}
 use Rattle.cabinet_rules.specs.Delivery.{Delivery, PartOf}
 use Rattle.cabinet_rules.specs.Images.{Image, afterPlan, answerBy, blockBy, controlBy, endBy, endOf, formBy, isThere}
 use Rattle.cabinet_rules.specs.Images.{nextBy, planBy, refusalBy, stateBy, tailBy}

@@ -1,23 +1,20 @@
 -- Demand 3 on images, and that the control form is never broken again after a start: the statements. Assumes nothing.
-use Prim.Native.Nat.{_+_, ℕ}
+use Prim.Native.Nat.{ℕ}
 use lib.Dec.{leb}
 use lib.ListN.{getD, length}
 use mathlib.Core.Bool.{_&&_, cond, false}
 use mathlib.Core.List.{List, [], _∷_}
 use mathlib.Core.Path.{_≡_}
 use Rattle.lists.specs.Tabulate.{tabulate}
-use Rattle.image.specs.Layout.{blockAddressOf, controlSize, endStartOf}
+use Rattle.image.specs.Layout.{controlSize}
 use Rattle.mask.specs.Masks.{Byte, hasCard}
-use Rattle.slot.specs.Blocks.{blockOfBytes, emptyBlock}
-use Rattle.method.specs.Growth.{stateAfter}
-use Rattle.method.specs.OneRecordList.{Noise, Observation, isLast, observe, runPlain, runStore, zeroed}
+use Rattle.method.specs.OneRecordList.{Observation, isLast, observe, runPlain, zeroed}
 use Rattle.method.specs.PlainList.{plainStart}
-use Rattle.method.specs.Rules.{isStart, Call, answerOf, nextState, ok, start}
-use Rattle.control_form.specs.ControlForm.{controlForm, formRefusal, formRows}
+use Rattle.method.specs.Rules.{Call, ok, start}
+use Rattle.control_form.specs.ControlForm.{formRefusal}
 use Rattle.cabinet_rules.specs.Cabinet.{cabinet, rulesOf}
 use Rattle.cabinet_rules.specs.Delivery.{Delivery, current}
-use Rattle.cabinet_rules.specs.Images.{Image, answer, answerBy, cardBy, controlBy, isThere, next, nextBy}
-use Rattle.cabinet_rules.specs.Images.{stateIn}
+use Rattle.cabinet_rules.specs.Images.{Image, answer, answerBy, cardBy, controlBy, next, nextBy}
 
 -- ---- a list of calls by a delivery, each with the noise before it
 module _ (D : Delivery) where
@@ -32,17 +29,6 @@ module _ (D : Delivery) where
   -- The noise, as the bytes that it gives, and the call.
   abbrev pub NoisyCallBy : Type 0
   NoisyCallBy = (ℕ → ℕ) × Call (rulesOf D)
-
-  -- What such noise is by the rules: blocks and stamps. The same calls as the rules are given them.
-  unfoldable pub noiseBy : (ℕ → ℕ) → Noise (rulesOf D)
-  noiseBy noise = record {
-    block = λ c b. cond (isThere c b) (blockOfBytes (λ j. noise (blockAddressOf (D .memory .layout) c b + j))) emptyBlock;
-    stamp = λ c. D .memory .stampIn (λ j. noise (endStartOf (D .memory .layout) c + j));
-  }
-
-  abbrev pub noisedBy : List NoisyCallBy → List (Noise (rulesOf D) × Call (rulesOf D))
-  noisedBy [] = []
-  noisedBy (e ∷ l) = (noiseBy (e .0), e .1) ∷ noisedBy l
 
   -- What is observed up to the first stop, each call getting the memory as the last left it.
   unfoldable pub runImageBy : List NoisyCallBy → Image → List (Observation (rulesOf D))
@@ -96,16 +82,3 @@ OneRecordListOnImages = (m : Byte) (before : Image) → answer (start m) before 
 unfoldable pub ControlFormStays : Type 0
 ControlFormStays = (m : Byte) (before : Image) → answer (start m) before ≡ ok → (l : List NoisyCall)
     → formRefusal (imageAfter l (next (start m) before)) ≡ 0
-
--- On every image that is refused neither 1 nor 2, reached by calls or not, a call answers what the rules answer on the
--- state that the image shows, and the image after it shows the state that they give. So what is proved of the rules
--- holds on images.
-unfoldable pub CallsByTheRules : Type 0
-CallsByTheRules = (c : Call cabinet) (g : Image) → formRows (isStart c) (controlForm g) g 0 ≡ 0
-    → (answer c g ≡ answerOf cabinet c (stateIn g)) × (stateIn (next c g) ≡ nextState cabinet c (stateIn g))
-
--- So it is with a list of calls and the noise before each: what is observed, and the state that is left.
-unfoldable pub RunsByTheRules : Type 0
-RunsByTheRules = (l : List NoisyCall) (g : Image) → formRefusal g ≡ 0
-    → (runImage l g ≡ runStore cabinet (noisedBy current l) (stateIn g))
-    × (stateIn (imageAfter l g) ≡ stateAfter cabinet (noisedBy current l) (stateIn g))

@@ -15,7 +15,8 @@ use Rattle.control_form.specs.ControlForm.{formRefusal}
 use Rattle.cabinet_rules.specs.Cabinet.{cabinet, rulesOf}
 use Rattle.cabinet_rules.specs.Claims.{NoStopBy, NoisyCall, NoisyCallBy, imageAfter, imageAfterBy, imageCalls}
 use Rattle.cabinet_rules.specs.Claims.{imageCallsBy, runImage}
-use Rattle.cabinet_rules.specs.Delivery.{Delivery, PartOf, base, belowWire, current, twoRails}
+use Rattle.cabinet_rules.specs.Delivery.{Delivery, PartOf, belowWire, current, twoRails}
+use Rattle.cabinet_rules.specs.Retired.{base}
 use Rattle.cabinet_rules.specs.Images.{Image, answerBy, nextBy}
 
 -- ---- a store by a delivery

@@ -3,7 +3,9 @@ pub mod Delivery
 pub mod Cabinet
 pub mod Images
 pub mod Claims
+pub mod ByTheRules
 pub mod Rails
+pub mod Retired
 pub mod GoesOn
 pub mod BrokenWire
 pub mod Protection
