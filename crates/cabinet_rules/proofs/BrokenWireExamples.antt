@@ -91,7 +91,9 @@ module _ (before : Image) (long : length before ≡ imageSize) where
   -- moved: from cards 0, 1, 4 and 5 to cards 2, 4 and 5, and read there when the older placement is retired
   moved : shown left left-earlier (commit 2 ∷ fit 2 ∷ place (byte 0x2C) ∷ move 1 1 ∷ move 4 2 ∷ move 0 2 ∷ settle ∷ begin 3 2 ∷ get 3 9 ∷ get 3 17 ∷ [])
       ≡ client ok ∷ quiet ∷ quiet ∷ quiet ∷ quiet ∷ quiet ∷ quiet ∷ quiet ∷ client (value brokenWire) ∷ client (value brokenWire) ∷ []
-  unfolding said runPlain plainObserve plainNext plainRefusal plainAct plainAfter settleAccepted rulesAfter nextState apply plan refusal act look trail holders settled settledAt lockHolders layBlock endHeld clearCard moveWrites anyLocked hasCard withCard withoutCard isWithin memberAt membersAfter acrossRails railSites sitesOf startRow placeRows isHeld wordAt slotOf wordOf putSlot lockSlot endedByte endSlots tabulate members size
+  unfolding said runPlain plainObserve plainNext plainRefusal plainAct plainAfter settleAccepted rulesAfter nextState apply plan refusal act look trail holders settled settledAt
+      lockHolders layBlock endHeld clearCard moveWrites anyLocked hasCard withCard withoutCard isWithin memberAt membersAfter acrossRails railSites sitesOf startRow placeRows
+      isHeld wordAt slotOf wordOf putSlot lockSlot endedByte endSlots tabulate members size
   moved = shown-said left left-earlier (commit 2 ∷ fit 2 ∷ place (byte 0x2C) ∷ move 1 1 ∷ move 4 2 ∷ move 0 2 ∷ settle ∷ begin 3 2 ∷ get 3 9 ∷ get 3 17 ∷ []) ∙ refl
 
   -- deleted: absent for the transaction, and for all once it is committed
@@ -121,7 +123,8 @@ module _ (before : Image) (long : length before ≡ imageSize) where
   -- the answers of the moves, which the plain record list does not have: one copy, two, none, and one placement retired
   move-answers : answersBy belowWire (commit 2 ∷ fit 2 ∷ place (byte 0x2C) ∷ move 1 1 ∷ move 4 2 ∷ move 0 2 ∷ settle ∷ begin 3 2 ∷ get 3 9 ∷ get 3 17 ∷ []) (left .rules)
       ≡ (0 ∷ []) ∷ (0 ∷ []) ∷ (0 ∷ []) ∷ (6 ∷ 1 ∷ []) ∷ (6 ∷ 2 ∷ []) ∷ (6 ∷ 0 ∷ []) ∷ (7 ∷ 1 ∷ []) ∷ (0 ∷ []) ∷ (1 ∷ brokenWire ∷ []) ∷ (1 ∷ brokenWire ∷ []) ∷ []
-  unfolding rulesAfter answersBy answerOf nextState apply plan refusal act look trail holders settled settledAt lockHolders layBlock endHeld clearCard moveWrites anyLocked hasCard withCard withoutCard isWithin memberAt membersAfter acrossRails railSites sitesOf startRow placeRows isHeld wordAt slotOf wordOf putSlot lockSlot endedByte endSlots tabulate members size
+  unfolding rulesAfter answersBy answerOf nextState apply plan refusal act look trail holders settled settledAt lockHolders layBlock endHeld clearCard moveWrites anyLocked hasCard
+      withCard withoutCard isWithin memberAt membersAfter acrossRails railSites sitesOf startRow placeRows isHeld wordAt slotOf wordOf putSlot lockSlot endedByte endSlots tabulate members size
   move-answers = refl
 
   -- ---- the base made the first of these calls, and A.1 to A.4 the others

@@ -9,7 +9,7 @@ use Rattle.cabinet_rules.proofs.Form.{currentLaws, wireLaws}
 use Rattle.cabinet_rules.proofs.FormStays.{form-kept}
 use Rattle.cabinet_rules.proofs.GoesOn.{SoundStore, left-legible, left-sound, legible-grown, taken-sound}
 use Rattle.cabinet_rules.proofs.OneRecordList.{run-image}
-use Rattle.cabinet_rules.proofs.Transport.{Legible}
+use Rattle.cabinet_rules.proofs.Legible.{Legible}
 use Rattle.cabinet_rules.proofs.TwoRails.{railLaws, rails-carried, rails-retired}
 
 -- ---- running stores

@@ -104,12 +104,16 @@ marked-examples :
     ∷ (9 ∷ 0 ∷ [])
     ∷ (10 ∷ 7 ∷ 0 ∷ [])
     ∷ []
-unfolding final slotBytes afterAll answersBy answerOf nextState apply plan refusal act look trail holders lostOf stopping settled settledAt isProtected lockHolders layBlock endHeld dropHeld clearCard moveWrites anyLocked hasCard withCard withoutCard isWithin memberAt chainedSites membersAfter acrossRails railSites sitesOf startRow placeRows isHeld wordAt slotOf wordOf putSlot lockSlot endedByte endSlots tabulate members size
+unfolding final slotBytes afterAll answersBy answerOf nextState apply plan refusal act look trail holders lostOf stopping settled settledAt isProtected lockHolders layBlock endHeld
+    dropHeld clearCard moveWrites anyLocked hasCard withCard withoutCard isWithin memberAt chainedSites membersAfter acrossRails railSites sitesOf startRow placeRows isHeld wordAt
+    slotOf wordOf putSlot lockSlot endedByte endSlots tabulate members size
 marked-examples = refl
 
 -- The ten answers of document 01's listing.
 listing :
     answers (start (byte 0xE0) ∷ begin 1 0 ∷ store 1 9 4660 ∷ commit 1 ∷ fail 1 ∷ move 2 1 ∷ settle ∷ begin 1 0 ∷ get 1 9 ∷ fail 2 ∷ []) nothing
     ≡ (0 ∷ []) ∷ (0 ∷ []) ∷ (0 ∷ []) ∷ (0 ∷ []) ∷ (3 ∷ 0xA0 ∷ []) ∷ (6 ∷ 1 ∷ []) ∷ (7 ∷ 1 ∷ []) ∷ (0 ∷ []) ∷ (1 ∷ 4660 ∷ []) ∷ (5 ∷ []) ∷ []
-unfolding answersBy answerOf nextState apply plan refusal act look trail holders lostOf stopping settled settledAt isProtected lockHolders layBlock endHeld dropHeld clearCard moveWrites anyLocked hasCard withCard withoutCard isWithin memberAt chainedSites membersAfter acrossRails railSites sitesOf startRow placeRows isHeld wordAt slotOf wordOf putSlot lockSlot endedByte endSlots tabulate members size
+unfolding answersBy answerOf nextState apply plan refusal act look trail holders lostOf stopping settled settledAt isProtected lockHolders layBlock endHeld dropHeld clearCard
+    moveWrites anyLocked hasCard withCard withoutCard isWithin memberAt chainedSites membersAfter acrossRails railSites sitesOf startRow placeRows isHeld wordAt slotOf wordOf
+    putSlot lockSlot endedByte endSlots tabulate members size
 listing = refl

@@ -10,7 +10,8 @@ use Rattle.cabinet_rules.specs.Claims.{ControlFormStays, NoisyCall, imag
 use Rattle.cabinet_rules.specs.Delivery.{current}
 use Rattle.cabinet_rules.specs.Images.{Image, next}
 use Rattle.cabinet_rules.proofs.Form.{currentLaws}
-use Rattle.cabinet_rules.proofs.Transport.{Legible, legible-form, legible-start, state-after}
+use Rattle.cabinet_rules.proofs.Legible.{Legible, legible-form}
+use Rattle.cabinet_rules.proofs.Transport.{legible-start, state-after}
 
 pub form-kept : (l : List NoisyCall) (g : Image) → Legible current currentLaws g → formRefusal (imageAfter l g) ≡ 0
 unfolding formRefusal

@@ -26,7 +26,8 @@ use Rattle.cabinet_rules.specs.Images.{Image, blockBy, controlBy, endBy,
 use Rattle.cabinet_rules.proofs.Lawful.{DeliveryLaws, lawfulBy}
 use Rattle.cabinet_rules.proofs.Noisy.{WroteIn}
 use Rattle.cabinet_rules.proofs.Sound.{Sound, sound-after, start-sound}
-use Rattle.cabinet_rules.proofs.Transport.{Legible, legible-part, reads, state-after, state-ext}
+use Rattle.cabinet_rules.proofs.Legible.{Legible, legible-part, reads, state-ext}
+use Rattle.cabinet_rules.proofs.Transport.{state-after}
 
 -- ---- one delivery's calls
 module _ (D : Delivery) (W : DeliveryLaws D) where

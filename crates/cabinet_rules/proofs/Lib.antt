@@ -7,6 +7,7 @@ pub mod After
 pub mod Form
 pub mod FormLaws
 pub mod Noisy
+pub mod Legible
 pub mod Transport
 pub mod Shows
 pub mod Sound

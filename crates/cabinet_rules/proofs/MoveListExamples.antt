@@ -78,5 +78,8 @@ move-list-examples :
     ∷ (0 ∷ 0 ∷ [])
     ∷ (15 ∷ 4 ∷ [])
     ∷ []
-unfolding moves answered final answersBy afterAll answerOf nextState apply plan refusal act look trail holders lostOf stopping settled settledAt isProtected lockHolders layBlock endHeld dropHeld clearCard moveWrites anyLocked hasCard withCard withoutCard isWithin memberAt chainedSites membersAfter acrossRails railSites sitesOf startRow placeRows isHeld wordAt slotOf wordOf putSlot lockSlot endedByte endSlots tabulate members size isOrigin movesOf moveList anyMoveLocked listAnswer listAnswerOn formOk partOk countOk zeroFieldsOk areApart membersOk isWithinEither fourthOk isOneMore isSafe common homeOk controlOf controlByte
+unfolding moves answered final answersBy afterAll answerOf nextState apply plan refusal act look trail holders lostOf stopping settled settledAt isProtected lockHolders layBlock
+    endHeld dropHeld clearCard moveWrites anyLocked hasCard withCard withoutCard isWithin memberAt chainedSites membersAfter acrossRails railSites sitesOf startRow placeRows
+    isHeld wordAt slotOf wordOf putSlot lockSlot endedByte endSlots tabulate members size isOrigin movesOf moveList anyMoveLocked listAnswer listAnswerOn formOk partOk countOk
+    zeroFieldsOk areApart membersOk isWithinEither fourthOk isOneMore isSafe common homeOk controlOf controlByte
 move-list-examples = refl

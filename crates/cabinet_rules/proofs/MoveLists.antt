@@ -58,14 +58,16 @@ moves-show (c ∷ l) [] a g k v s = let z : _≡_ {A = ℕ} 0 1 = cc in absurd (
 moves-show (c ∷ l) (e ∷ entries) a g k v s =
     let w : View cabinet = moved cabinet lawful k (e .card) (e .block) v in
     moves-show l entries (ap tailOf a) (next (c .1) (noisy (c .0) g)) k w
-    (subst (λ (x : Call cabinet). Shows current currentLaws (next x (noisy (c .0) g)) k w) (sym (ap (headOf settle) a)) (move-shows (noisy (c .0) g) k v (noise-shows current currentLaws (c .0) g k v s) e))
+    (subst (λ (x : Call cabinet). Shows current currentLaws (next x (noisy (c .0) g)) k w) (sym (ap (headOf settle) a))
+    (move-shows (noisy (c .0) g) k v (noise-shows current currentLaws (c .0) g k v s) e))
 
 -- What settle answers there.
 pub settle-shown : (g : Image) (k : Part) (v : View cabinet) → Shows current currentLaws g k v → (noise : ℕ → ℕ)
     → answer settle (noisy noise g) ≡ cond (settled cabinet k v) (retired (length (k .older))) (refused 13)
 settle-shown g k v s noise =
     let t = noise-shows current currentLaws noise g k v s in
-    answer-shows current currentLaws settle (noisy noise g) k v t ∙ beside-answer cabinet lawful (stateIn (noisy noise g)) k v (t .beside) settle ∙ settle-says cabinet lawful k v (s .form .base .running)
+    answer-shows current currentLaws settle (noisy noise g) k v t ∙ beside-answer cabinet lawful (stateIn (noisy noise g)) k v (t .beside) settle
+    ∙ settle-says cabinet lawful k v (s .form .base .running)
 
 -- ---- the answer
 -- One that is no refusal is given where rows 1, 2 and 4 do not apply.

@@ -30,5 +30,6 @@ protection-examples :
     ∷ (8 ∷ [])
     ∷ (9 ∷ [])
     ∷ []
-unfolding final answersBy answerOf nextState apply plan refusal act look lostOf stopping settled settledAt isProtected clearCard dropHeld hasCard withCard withoutCard isWithin size startRow placeRows isHeld tabulate
+unfolding final answersBy answerOf nextState apply plan refusal act look lostOf stopping settled settledAt isProtected clearCard dropHeld hasCard withCard withoutCard isWithin size
+    startRow placeRows isHeld tabulate
 protection-examples = refl

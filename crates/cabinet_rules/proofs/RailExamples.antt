@@ -46,5 +46,7 @@ rail-examples :
     ∷ (0x80 ∷ [])
     ∷ (0 ∷ []) ∷ (15 ∷ 9 ∷ []) ∷ (6 ∷ 1 ∷ []) ∷ (15 ∷ 13 ∷ []) ∷ (6 ∷ 0 ∷ []) ∷ (7 ∷ 1 ∷ []) ∷ (0 ∷ []) ∷ (1 ∷ 4660 ∷ [])
     ∷ []
-unfolding older marks rulesAfter controlByte answersBy answerOf nextState apply plan refusal act look trail holders lostOf stopping settled settledAt isProtected lockHolders layBlock endHeld dropHeld clearCard moveWrites anyLocked hasCard withCard withoutCard isWithin memberAt chainedSites membersAfter acrossRails railSites sitesOf startRow placeRows isHeld wordAt slotOf wordOf putSlot lockSlot endedByte endSlots tabulate members size
+unfolding older marks rulesAfter controlByte answersBy answerOf nextState apply plan refusal act look trail holders lostOf stopping settled settledAt isProtected lockHolders
+    layBlock endHeld dropHeld clearCard moveWrites anyLocked hasCard withCard withoutCard isWithin memberAt chainedSites membersAfter acrossRails railSites sitesOf startRow
+    placeRows isHeld wordAt slotOf wordOf putSlot lockSlot endedByte endSlots tabulate members size
 rail-examples = refl

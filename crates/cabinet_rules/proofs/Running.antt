@@ -25,7 +25,8 @@ use Rattle.cabinet_rules.proofs.Form.{currentLaws}
 use Rattle.cabinet_rules.proofs.FormLaws.{resting, running-form, running-inv}
 use Rattle.cabinet_rules.proofs.Lawful.{lawful}
 use Rattle.cabinet_rules.proofs.Shows.{Shows}
-use Rattle.cabinet_rules.proofs.Transport.{Legible, answer-legible, answer-start, run-rules, state-after, state-next, state-start}
+use Rattle.cabinet_rules.proofs.Legible.{Legible}
+use Rattle.cabinet_rules.proofs.Transport.{answer-legible, answer-start, run-rules, state-after, state-next, state-start}
 
 pub record Running (g : Image) : Type 0 where
   pub long : length g ≡ imageSize

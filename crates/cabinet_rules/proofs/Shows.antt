@@ -16,7 +16,8 @@ use Rattle.cabinet_rules.specs.Claims.{noisyBy}
 use Rattle.cabinet_rules.specs.Delivery.{Delivery, PartOf}
 use Rattle.cabinet_rules.specs.Images.{Image, answerBy, nextBy, stateBy}
 use Rattle.cabinet_rules.proofs.Lawful.{DeliveryLaws, lawfulBy}
-use Rattle.cabinet_rules.proofs.Transport.{Legible, answer-legible, legible-next, legible-noise, state-next, state-noise}
+use Rattle.cabinet_rules.proofs.Legible.{Legible, legible-noise, state-noise}
+use Rattle.cabinet_rules.proofs.Transport.{answer-legible, legible-next, state-next}
 
 module _ (D : Delivery) (W : DeliveryLaws D) where
   abbrev P : Parameters

@@ -19,8 +19,10 @@ use Rattle.cabinet_rules.specs.Delivery.{Delivery}
 use Rattle.cabinet_rules.specs.Images.{Image, answerBy, nextBy, stateBy}
 use Rattle.cabinet_rules.proofs.Lawful.{DeliveryLaws, lawfulBy}
 use Rattle.cabinet_rules.proofs.Shows.{Shows}
-use Rattle.cabinet_rules.proofs.Transport.{Legible, answer-legible, legible-next, legible-noise, legible-start, start-long}
-use Rattle.cabinet_rules.proofs.Transport.{start-row, state-next, state-noise, state-start}
+use Rattle.cabinet_rules.proofs.Legible.{Legible, legible-noise}
+use Rattle.cabinet_rules.proofs.Transport.{answer-legible, legible-next, legible-start, start-long}
+use Rattle.cabinet_rules.proofs.Legible.{state-noise}
+use Rattle.cabinet_rules.proofs.Transport.{start-row, state-next, state-start}
 
 module _ (D : Delivery) (W : DeliveryLaws D) where
   abbrev P : Parameters

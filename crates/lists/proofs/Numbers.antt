@@ -122,7 +122,8 @@ pub lowest-below : (n : ℕ) (f : ℕ → Bool) → anyBelow n f ≡ true → (i
 lowest-below zero f e = tf false e refl
 lowest-below (suc n) f e = go (split (anyBelow n f)) (lowest-below n f)
   where
-    go : (anyBelow n f ≡ true) ⊎ (anyBelow n f ≡ false) → (anyBelow n f ≡ true → (i : ℕ) × (i < n) × ((f i && not (anyBelow i f)) ≡ true)) → (i : ℕ) × (i < suc n) × ((f i && not (anyBelow i f)) ≡ true)
+    go : (anyBelow n f ≡ true) ⊎ (anyBelow n f ≡ false) → (anyBelow n f ≡ true → (i : ℕ) × (i < n) × ((f i && not (anyBelow i f)) ≡ true))
+        → (i : ℕ) × (i < suc n) × ((f i && not (anyBelow i f)) ≡ true)
     go (inl p) ih = let z = ih p in (z .0, omega (arith, z .1), z .2)
     go (inr p) ih = (n, omega arith, and-in (f n) (not (anyBelow n f)) (pick (or-cases (f n) (anyBelow n f) e)) (rw p))
       where

@@ -65,18 +65,26 @@ module _ (P : Parameters) (L : Laws P) where
     pub numbers : numbered k
 
   -- failed marks may come and go, as long as those of the chain stay
-  pub chain-map : (d e : Mask) (j : ℕ) (n : Placement) (l : List Placement) → ((p : Placement) (x : ℕ) → In p l → has (mask p) x ≡ true → has d x ≡ true → has e x ≡ true) → Chain d j n l → Chain e j n l
+  pub chain-map : (d e : Mask) (j : ℕ) (n : Placement) (l : List Placement) → ((p : Placement) (x : ℕ) → In p l → has (mask p) x ≡ true → has d x ≡ true → has e x ≡ true)
+      → Chain d j n l → Chain e j n l
   chain-map d e zero n l h c = tt
   chain-map d e (suc j) n [] h c = c
   chain-map d e (suc j) n (p ∷ l) h c = (
-    record { extra = c .0 .extra; extra-failed = h p (c .0 .extra) (inl refl) (rw (c .0 .extra-is (c .0 .extra)) (or-l (eqb (c .0 .extra) (c .0 .extra)) (has (mask n) (c .0 .extra)) (eqb-self (c .0 .extra)))) (c .0 .extra-failed); extra-new = c .0 .extra-new; extra-is = c .0 .extra-is },
+    record {
+      extra = c .0 .extra;
+      extra-failed = h p (c .0 .extra) (inl refl) (rw (c .0 .extra-is (c .0 .extra))
+          (or-l (eqb (c .0 .extra) (c .0 .extra)) (has (mask n) (c .0 .extra)) (eqb-self (c .0 .extra)))) (c .0 .extra-failed);
+      extra-new = c .0 .extra-new;
+      extra-is = c .0 .extra-is;
+    },
     chain-map d e j p l (λ q x m. h q x (inr m)) (c .1),
   )
 
   grow : (d : Mask) (n p : Placement) → OneMore d n p → (a : ℕ) → a ≤ count cards (λ x. has (mask n) x && has d x) → suc a ≤ count cards (λ x. has (mask p) x && has d x)
   grow d n p o a h =
       let e : ℕ = o .extra in
-      let one : count cards fp ≡ suc (count cards (but fp e)) = count-but cards fp e (and-in (has (mask p) e) (has d e) (rw (o .extra-is e) (or-l (eqb e e) (has (mask n) e) (eqb-self e))) (o .extra-failed)) (has-card d e (o .extra-failed)) in
+      let one : count cards fp ≡ suc (count cards (but fp e)) = count-but cards fp e (and-in (has (mask p) e) (has d e)
+      (rw (o .extra-is e) (or-l (eqb e e) (has (mask n) e) (eqb-self e))) (o .extra-failed)) (has-card d e (o .extra-failed)) in
       let m : count cards (λ x. has (mask n) x && has d x) ≤ count cards (but fp e) = count-mono cards (λ x. has (mask n) x && has d x) (but fp e) inc in
       omega arith
     where
@@ -93,7 +101,8 @@ module _ (P : Parameters) (L : Laws P) where
   chain-count : (d : Mask) (j : ℕ) (n : Placement) (l : List Placement) → Chain d j n l → (p : Placement) × In p (n ∷ l) × (j ≤ count cards (λ x. has (mask p) x && has d x))
   chain-count d j n l c = let r = go j n l 0 c (omega arith) in (r .0, r .1, omega (arith, r .2))
     where
-      go : (j : ℕ) (n : Placement) (l : List Placement) (a : ℕ) → Chain d j n l → a ≤ count cards (λ x. has (mask n) x && has d x) → (p : Placement) × In p (n ∷ l) × (j + a ≤ count cards (λ x. has (mask p) x && has d x))
+      go : (j : ℕ) (n : Placement) (l : List Placement) (a : ℕ) → Chain d j n l → a ≤ count cards (λ x. has (mask n) x && has d x)
+          → (p : Placement) × In p (n ∷ l) × (j + a ≤ count cards (λ x. has (mask p) x && has d x))
       go zero n l a c h = (n, inl refl, omega arith)
       go (suc j) n [] a c h = absurd c
       go (suc j) n (p ∷ l) a c h = let r = go j p l (suc a) (c .1) (grow d n p (c .0) a h) in (r .0, inr (r .1), omega (arith, r .2))
@@ -159,7 +168,8 @@ module _ (P : Parameters) (L : Laws P) where
       }
         where
           stays : (p : Placement) (x : ℕ) → In p (reverse (k .older)) → has (mask p) x ≡ true → has (k .failed) x ≡ true → has (remove (k .failed) c) x ≡ true
-          stays p x m h d = rw (has-remove (k .failed) c x, ne-eqb x c (λ e. tf (has (mask p) c) (rw e at h) (any-none (λ q. has (mask q) c) (active k) p n (older-in p m)))) (and-true (has (k .failed) x) ∙ d)
+          stays p x m h d = rw (has-remove (k .failed) c x, ne-eqb x c (λ e. tf (has (mask p) c) (rw e at h) (any-none (λ q. has (mask q) c) (active k) p n (older-in p m))))
+              (and-true (has (k .failed) x) ∙ d)
 
       full-withdraw : (c : ℕ) → anyBelow transactions (begunAt k c) ≡ false → ControlInv (withCards k (remove (k .working) c) (k .failed))
       full-withdraw c n = record {
@@ -176,7 +186,17 @@ module _ (P : Parameters) (L : Laws P) where
               tf (begunAt k c t) b (below-none transactions (begunAt k c) t n (tran-below t (g .opens t o)))
 
       full-place : (a : PlaceArgument) → placeRefusal k a ≡ 0 → ControlInv (addedBy P k (places (k .newest) a))
-      full-place a e = record { homes = g .homes; opens = g .opens; room = record { steps = 0; chain = tt; few = simp length-append (omega (arith, place-room k a e)) }; numbers = numbered-place k a e (g .numbers) }
+      full-place a e = record {
+        homes = g .homes;
+        opens = g .opens;
+        room = record {
+          steps = 0;
+          chain = tt;
+          few = simp length-append
+              (omega (arith, place-room k a e));
+        };
+        numbers = numbered-place k a e (g .numbers);
+      }
 
       full-settle : ControlInv (onlyNewest k)
       full-settle = record { homes = g .homes; opens = g .opens; room = record { steps = 0; chain = tt; few = omega (arith, limit-some (k .setting)) }; numbers = numbered-settle k (g .numbers) }
@@ -209,7 +229,11 @@ module _ (P : Parameters) (L : Laws P) where
           opens = fail-opens;
           room = record {
             steps = suc (g .room .steps);
-            chain = rw (reverse-append (k .older) (k .newest ∷ [])) (step, chain-map (k .failed) (insert (k .failed) c) (g .room .steps) (k .newest) (reverse (k .older)) still-failed (g .room .chain));
+            chain = rw (reverse-append (k .older) (k .newest ∷ [])) (
+              step,
+              chain-map (k .failed) (insert (k .failed) c) (g .room .steps) (k .newest)
+                  (reverse (k .older)) still-failed (g .room .chain),
+            );
             few = simp length-append (omega (arith, g .room .few));
           };
           numbers = numbered-same (addedBy P k (without (k .newest) c)) (addedBy P (closed (marked P k c) (begunAt k c)) (without (k .newest) c)) refl refl refl (numbered-fail k c e (g .numbers));
@@ -238,7 +262,17 @@ module _ (P : Parameters) (L : Laws P) where
         }
 
   pub full-start : (a : StartArgument) → startRefusal a ≡ 0 → ControlInv (startedBy P a)
-  full-start a e0 = record { homes = λ t h e. absurd (none≢some h e); opens = λ t e. tf false e refl; room = record { steps = 0; chain = tt; few = omega (arith, limit-some (startSetting a)) }; numbers = numbered-start a e0 }
+  full-start a e0 = record {
+    homes = λ t h e. absurd (none≢some h e);
+    opens = λ t e. tf false e refl;
+    room = record {
+      steps = 0;
+      chain = tt;
+      few = omega
+          (arith, limit-some (startSetting a));
+    };
+    numbers = numbered-start a e0;
+  }
 
   -- ---- every call that does not stop keeps it
   module _ (k : Control P) (v : View P) (f : Form P k) (g : ControlInv k) where

@@ -26,9 +26,11 @@ module _ (P : Parameters) (L : Laws P) where
   pub all-work-safe : (σ : Setting) (w f : Mask) (p : Placement) → ((c : ℕ) → has (mask p) c ≡ true → has w c ≡ true) → ((c : ℕ) → has w c ≡ true → has f c ≡ false)
       → copies σ ≤ count cards (has (mask p)) → 0 < copies σ → lostOf P σ w f p ≡ false
   all-work-safe σ w f p all-w apart many pos =
-      let z : count cards (λ c. has (mask p) c && has f c) ≤ count cards (λ c. false) = count-mono cards (λ c. has (mask p) c && has f c) (λ c. false) (λ c e. tf (has f c) (and-r (has (mask p) c) (has f c) e) (apart c (all-w c (and-l (has (mask p) c) (has f c) e)))) in
+      let z : count cards (λ c. has (mask p) c && has f c) ≤ count cards (λ c. false) = count-mono cards (λ c. has (mask p) c && has f c) (λ c. false)
+      (λ c e. tf (has f c) (and-r (has (mask p) c) (has f c) e) (apart c (all-w c (and-l (has (mask p) c) (has f c) e)))) in
       let y : count cards (λ c. false) ≡ 0 = none-counted cards in
-      let x : count cards (has (mask p)) ≤ count cards (λ c. has (mask p) c && has w c) = count-mono cards (has (mask p)) (λ c. has (mask p) c && has w c) (λ c e. and-in (has (mask p) c) (has w c) e (all-w c e)) in
+      let x : count cards (has (mask p)) ≤ count cards (λ c. has (mask p) c && has w c) = count-mono cards (has (mask p)) (λ c. has (mask p) c && has w c)
+      (λ c e. and-in (has (mask p) c) (has w c) e (all-w c e)) in
       not-lost P σ w f p (omega arith) (omega arith)
     where
       none-counted : (n : ℕ) → count n (λ c. false) ≡ 0

@@ -81,7 +81,8 @@ module _ (P : Parameters) (L : Laws P) (G : Growth P) (E : Keeps P G) (M : Laws 
     room-grown : Capacity P L k → Capacity (grown P G) M (grownControl P G k)
     room-grown r = record {
       steps = r .steps;
-      chain = subst (Chain (grown P G) M (k .failed) (r .steps) (G .older (k .newest))) (map-reverse (G .older) (k .older)) (chain-grown (k .failed) (r .steps) (k .newest) (reverse (k .older)) (r .chain));
+      chain = subst (Chain (grown P G) M (k .failed) (r .steps) (G .older (k .newest))) (map-reverse (G .older) (k .older))
+          (chain-grown (k .failed) (r .steps) (k .newest) (reverse (k .older)) (r .chain));
       few = omega (arith, r .few, enough-room (k .setting), length-map (k .older) (G .older));
     }
 

@@ -99,7 +99,8 @@ module _ (P : Parameters) (L : Laws P) where
             keep-elem (λ x. held (v x b)) c (trail P k b) h (keep-elem (λ x. not (has (k .failed) x)) c all-sites (rw f) m)
 
     -- an active placement has a site that works
-    pub site-of : (b : ℕ) → ltb b (blocks (k .setting)) ≡ true → (p : Placement) → In p (active k) → (c : ℕ) × (elem c (sites (k .setting) p b) ≡ true) × (has (k .failed) c ≡ false) × (has (k .working) c ≡ true)
+    pub site-of : (b : ℕ) → ltb b (blocks (k .setting)) ≡ true → (p : Placement) → In p (active k)
+        → (c : ℕ) × (elem c (sites (k .setting) p b) ≡ true) × (has (k .failed) c ≡ false) × (has (k .working) c ≡ true)
     site-of b in-range p m = go (split (any (λ c. not (has (k .failed) c)) l))
       where
         l : List ℕ
@@ -108,7 +109,8 @@ module _ (P : Parameters) (L : Laws P) where
         member : (c : ℕ) → In c l → has (mask p) c ≡ true
         member c e = site-member (k .setting) p b c (i .form .base .sound p m) in-range (in-elem c l e)
 
-        go : (any (λ c. not (has (k .failed) c)) l ≡ true) ⊎ (any (λ c. not (has (k .failed) c)) l ≡ false) → (c : ℕ) × (elem c (sites (k .setting) p b) ≡ true) × (has (k .failed) c ≡ false) × (has (k .working) c ≡ true)
+        go : (any (λ c. not (has (k .failed) c)) l ≡ true) ⊎ (any (λ c. not (has (k .failed) c)) l ≡ false)
+            → (c : ℕ) × (elem c (sites (k .setting) p b) ≡ true) × (has (k .failed) c ≡ false) × (has (k .working) c ≡ true)
         go (inl e) =
             let t = any-out (λ c. not (has (k .failed) c)) l e in
             let w = i .form .base .known p (t .0) m (member (t .0) (t .1)) (not-is (has (k .failed) (t .0)) (t .2)) in
@@ -130,7 +132,8 @@ module _ (P : Parameters) (L : Laws P) where
     pub seen-is : (r : ℕ) → recInRange (k .setting) r ≡ true → seenSlot P k v r ≡ records r
     seen-is r in-range = go (holders P k v (blockOf r)) (λ c. holder-is c (blockOf r)) (i .each (blockOf r) (rec-block (k .setting) r in-range) .cover)
       where
-        go : (l : List ℕ) → ((c : ℕ) → elem c l ≡ held (v c (blockOf r))) → Cover P (k .setting) (active k) (has (k .working)) v (blockOf r) ⊎ Blank P v records (blockOf r) → firstSlot P v r l ≡ records r
+        go : (l : List ℕ) → ((c : ℕ) → elem c l ≡ held (v c (blockOf r))) → Cover P (k .setting) (active k) (has (k .working)) v (blockOf r) ⊎ Blank P v records (blockOf r)
+            → firstSlot P v r l ≡ records r
         go [] h (inl c) = let t = holder-of (blockOf r) (rec-block (k .setting) r in-range) c in tf (held (v (t .0) (blockOf r))) (t .1) (sym (h (t .0)))
         go [] h (inr n) = sym (n .1 r refl)
         go (x ∷ l) h z = i .each (blockOf r) (rec-block (k .setting) r in-range) .same x r (sym (h x) ∙ or-l (eqb x x) (elem x l) (eqb-self x)) refl
@@ -152,5 +155,6 @@ module _ (P : Parameters) (L : Laws P) where
             let h = holder-of b b-ok c in
             any-same f (lockedByOther t (records r)) (holders P k v b) (h .0) (holder-is (h .0) b ∙ h .1)
             (λ x e. ap (lockedByOther t) (i .each b b-ok .same x r (sym (holder-is x b) ∙ e) refl))
-        go (inr n) = never-true (any f (holders P k v b)) (λ e. let o = any-out f (holders P k v b) e in tf (held (v (o .0) b)) (sym (holder-is (o .0) b) ∙ in-elem (o .0) (holders P k v b) (o .1)) (n .0 (o .0)))
+        go (inr n) = never-true (any f (holders P k v b)) (λ e. let o = any-out f (holders P k v b) e in tf (held (v (o .0) b))
+            (sym (holder-is (o .0) b) ∙ in-elem (o .0) (holders P k v b) (o .1)) (n .0 (o .0)))
             ∙ rw (n .1 r refl) refl

@@ -205,7 +205,8 @@ module _ (P : Parameters) (L : Laws P) where
     write-outside (begin t h) e = refl
     write-outside (get t r) e = refl
     write-outside (store t r n) e = store-outside t r n (holders P k v (blockOf r)) (rec-block (k .setting) r
-        (and-r (tranInRange t) (recInRange (k .setting) r) (and-l (tranInRange t && recInRange (k .setting) r) (valueInRange n) (row-3 (tranInRange t && recInRange (k .setting) r && valueInRange n) e .0))))
+        (and-r (tranInRange t) (recInRange (k .setting) r) (and-l (tranInRange t && recInRange (k .setting) r) (valueInRange n)
+        (row-3 (tranInRange t && recInRange (k .setting) r && valueInRange n) e .0))))
     write-outside (delete t r) e = either (isNone (readBy t (seenSlot P k v r)))
       where
         either : (d : Bool) → updated ((cond {A = Plan P} d (unwritten P absent k) (writing P ok k (lockHolders P k v t r none))) .write x b) empty ≡ empty

@@ -65,7 +65,8 @@ module _ (P : Parameters) (L : Laws P) (k : Control P) (form : Form P k) (v : Vi
         go : (settledAt P k v b ≡ true) ⊎ (settledAt P k v b ≡ false) → (anyBelow cards (isStray P k v b) ≡ true) ⊎ (anyBelow cards (isStray P k v b) ≡ false)
             → count cards (isOrigin P k v b) ≤ length (namedBy b l)
         go (inl e) a =
-            let z : count cards (isOrigin P k v b) ≡ 0 = eqb-true (count cards (isOrigin P k v b)) 0 (count-none cards (isOrigin P k v b) ∙ all-below cards (λ c. not (isOrigin P k v b c)) (λ c h. rw e)) in
+            let z : count cards (isOrigin P k v b) ≡ 0 = eqb-true (count cards (isOrigin P k v b)) 0
+            (count-none cards (isOrigin P k v b) ∙ all-below cards (λ c. not (isOrigin P k v b c)) (λ c h. rw e)) in
             omega arith
         go (inr e) (inl a) =
             let f : count cards (isOrigin P k v b) ≡ count cards (isStray P k v b) = ap (count cards) (fun-ext (λ c. rw (e, a))) in

@@ -72,7 +72,8 @@ module _ (P : Parameters) (k : Control P) (v : View P) where
   -- And where a block has such a lock, the test finds it.
   pub move-locked : LockedMove P k v → anyMoveLocked P k v ≡ true
   unfolding anyMoveLocked
-  move-locked m = any-in (λ x. anyLocked P (v (x .card) (x .block))) (moveList P k v) (entryAt (m .block) (m .card)) (entry-listed (m .card) (m .block) (m .is-card) (m .is-block) (m .moves-from)) (m .locked-there)
+  move-locked m = any-in (λ x. anyLocked P (v (x .card) (x .block))) (moveList P k v) (entryAt (m .block) (m .card))
+      (entry-listed (m .card) (m .block) (m .is-card) (m .is-block) (m .moves-from)) (m .locked-there)
 
 -- ---- the answer, read back
 module _ (P : Parameters) (k : Control P) (v : View P) (room : ℕ) where

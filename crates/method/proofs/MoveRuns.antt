@@ -107,11 +107,13 @@ module _ (P : Parameters) (L : Laws P) where
     pub moves-drop : (l : List Entry) (v : View P) → Idle P L k v → (c b : ℕ) → elem c (newestSites P k b) ≡ false → held (v c b) ≡ true → held (movedAll k l v c b) ≡ false → In (entryAt b c) l
     unfolding movedAll
     moves-drop [] v i c b q h n = tf (held (v c b)) h n
-    moves-drop (e ∷ l) v i c b q h n = go (split (eqb c (e .card) && eqb b (e .block))) (λ y. moves-drop l (moved P L k (e .card) (e .block) v) (moved-idle P L k form v i (e .card) (e .block)) c b q y n)
+    moves-drop (e ∷ l) v i c b q h n = go (split (eqb c (e .card) && eqb b (e .block))) (λ y. moves-drop l (moved P L k (e .card) (e .block) v)
+        (moved-idle P L k form v i (e .card) (e .block)) c b q y n)
       where
         go : ((eqb c (e .card) && eqb b (e .block)) ≡ true) ⊎ ((eqb c (e .card) && eqb b (e .block)) ≡ false)
             → (held (moved P L k (e .card) (e .block) v c b) ≡ true → In (entryAt b c) l) → (entryAt b c ≡ e) ⊎ In (entryAt b c) l
-        go (inl p) ih = inl (ap₂ (λ (x y : ℕ). entryAt y x) (eqb-true c (e .card) (and-l (eqb c (e .card)) (eqb b (e .block)) p)) (eqb-true b (e .block) (and-r (eqb c (e .card)) (eqb b (e .block)) p)))
+        go (inl p) ih = inl (ap₂ (λ (x y : ℕ). entryAt y x) (eqb-true c (e .card) (and-l (eqb c (e .card)) (eqb b (e .block)) p))
+            (eqb-true b (e .block) (and-r (eqb c (e .card)) (eqb b (e .block)) p)))
         go (inr p) ih = inr (ih (ap held (stray-keeps P L k form v i (e .card) (e .block) c b q p) ∙ h))
 
   -- ---- settle's condition, block by block

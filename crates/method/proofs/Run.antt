@@ -32,7 +32,8 @@ module _ (P : Parameters) (L : Laws P) where
   beside-plan : (s : State P) (k : Control P) (v : View P) → Beside s k v → (c : Call P) → plan P c (s .control) (look P s) ≡ plan P c k v
   beside-plan s k v b c = ap₂ (λ (x : Control P) (y : View P). plan P c x y) (b .same-control) (b .same-look)
 
-  pub beside-next : (s : State P) (k : Control P) (v : View P) → Beside s k v → (c : Call P) → Beside (nextState P c s) (plan P c k v .after) (nextView P L (plan P c k v .after) (plan P c k v .write) v)
+  pub beside-next : (s : State P) (k : Control P) (v : View P) → Beside s k v → (c : Call P)
+      → Beside (nextState P c s) (plan P c k v .after) (nextView P L (plan P c k v .after) (plan P c k v .write) v)
   unfolding nextState
   beside-next s k v b c = record {
     same-control = unfold apply in ap (λ (p : Plan P). p .after) (beside-plan s k v b c);
@@ -64,7 +65,14 @@ module _ (P : Parameters) (L : Laws P) where
     pub goes-on : isLast P (plainObserve P c q) ≡ false → Ready (nextState P c s) (nextState P c z) (plainNext P (settleAccepted P z) c q)
 
   pub ready-noise : (g : Noise P) (s z : State P) (q : PlainList P) → Ready s z q → Ready (disturb P g s) z q
-  ready-noise g s z q r = record { sees = r .sees; inv = r .inv; full = r .full; store-beside = beside-disturb g s (q .control) (r .sees) (r .inv .form) (r .store-beside); rules-beside = r .rules-beside }
+  ready-noise g s z q r = record {
+    sees = r .sees;
+    inv = r .inv;
+    full = r .full;
+    store-beside = beside-disturb g s (q .control) (r .sees) (r .inv .form)
+        (r .store-beside);
+    rules-beside = r .rules-beside;
+  }
 
   pub ready-step : (s z : State P) (q : PlainList P) → Ready s z q → (c : Call P) → Steps s z q c
   unfolding settleAccepted
@@ -88,7 +96,8 @@ module _ (P : Parameters) (L : Laws P) where
       agreed : isZero (refusal P settle (z .control) (look P z)) ≡ (accepted P k v)
       agreed = ap₂ (λ (a : Control P) (b : View P). isZero (refusal P settle a b)) (r .rules-beside .same-control) (r .rules-beside .same-look)
 
-      move-to : (y : State P) → Beside y (plan P c k v .after) (nextView P L (plan P c k v .after) (plan P c k v .write) v) → plan P c k v .after ≡ q′ .control → Beside y (q′ .control) (nextView P L (plan P c k v .after) (plan P c k v .write) v)
+      move-to : (y : State P) → Beside y (plan P c k v .after) (nextView P L (plan P c k v .after) (plan P c k v .write) v) → plan P c k v .after ≡ q′ .control
+          → Beside y (q′ .control) (nextView P L (plan P c k v .after) (plan P c k v .write) v)
       move-to y b e = record { same-control = b .same-control ∙ e; same-look = b .same-look }
 
       go : isLast P (plainObserve P c q) ≡ false → Ready (nextState P c s) (nextState P c z) q′
@@ -112,9 +121,11 @@ module _ (P : Parameters) (L : Laws P) where
       go h ih = rw (h .shows) (last (isLast P (plainObserve P (e .1) q)) refl)
         where
           last : (o : Bool) → isLast P (plainObserve P (e .1) q) ≡ o
-              → _≡_ {A = List (Observation P)} (plainObserve P (e .1) q ∷ cond o [] (runStore P l (nextState P (e .1) (disturb P (e .0) s)))) (plainObserve P (e .1) q ∷ cond o [] (runPlain P (callsOf P l) (nextState P (e .1) z) (plainNext P (settleAccepted P z) (e .1) q)))
+              → _≡_ {A = List (Observation P)} (plainObserve P (e .1) q ∷ cond o [] (runStore P l (nextState P (e .1) (disturb P (e .0) s))))
+              (plainObserve P (e .1) q ∷ cond o [] (runPlain P (callsOf P l) (nextState P (e .1) z) (plainNext P (settleAccepted P z) (e .1) q)))
           last true p = refl
-          last false p = ap (λ (t : List (Observation P)). plainObserve P (e .1) q ∷ t) (ih (nextState P (e .1) (disturb P (e .0) s)) (nextState P (e .1) z) (plainNext P (settleAccepted P z) (e .1) q) (h .goes-on p))
+          last false p = ap (λ (t : List (Observation P)). plainObserve P (e .1) q ∷ t) (ih (nextState P (e .1) (disturb P (e .0) s)) (nextState P (e .1) z)
+              (plainNext P (settleAccepted P z) (e .1) q) (h .goes-on p))
 
   pub accepted-start : (a : StartArgument) (before : State P) → answerOf P (start a) before ≡ ok → startRefusal a ≡ 0
   unfolding answerOf plan refusal act

@@ -46,7 +46,8 @@ module _ (P : Parameters) (L : Laws P) where
   look-next p s old = fun-ext (λ c. fun-ext (λ b. go c b (split (visible P (p .after) c b)) (p .write c b) refl))
     where
       go : (c b : ℕ) → (visible P (p .after) c b ≡ true) ⊎ (visible P (p .after) c b ≡ false) → (w : Option Block) → p .write c b ≡ w
-          → cond (visible P (p .after) c b) (updated (p .write c b) (s .block c b)) empty ≡ cond (visible P (p .after) c b) (updated (p .write c b) (cond (visible P (s .control) c b) (s .block c b) empty)) empty
+          → cond (visible P (p .after) c b) (updated (p .write c b) (s .block c b)) empty ≡ cond (visible P (p .after) c b)
+          (updated (p .write c b) (cond (visible P (s .control) c b) (s .block c b) empty)) empty
       go c b (inl e) none q = rw (e, q, old c b e q)
       go c b (inl e) (some x) q = rw (e, q)
       go c b (inr e) w q = rw e
@@ -87,7 +88,8 @@ module _ (P : Parameters) (L : Laws P) where
     act-sight (begin t h) r = kept-sight (act P (begin t h) k v) refl refl
     act-sight (get t x) r = kept-sight (act P (get t x) k v) refl refl
     act-sight (store t x n) r = kept-sight (act P (store t x n) k v) refl refl
-    act-sight (delete t x) r = either (isNone (readBy t (seenSlot P k v x))) (unwritten P absent k) (writing P ok k (lockHolders P k v t x none)) (kept-sight (unwritten P absent k) refl refl) (kept-sight (writing P ok k (lockHolders P k v t x none)) refl refl)
+    act-sight (delete t x) r = either (isNone (readBy t (seenSlot P k v x))) (unwritten P absent k) (writing P ok k (lockHolders P k v t x none))
+        (kept-sight (unwritten P absent k) refl refl) (kept-sight (writing P ok k (lockHolders P k v t x none)) refl refl)
     act-sight (commit t) r = kept-sight (act P (commit t) k v) refl refl
     act-sight (rollback t) r = kept-sight (act P (rollback t) k v) refl refl
     act-sight (fit x) r = fit-sight x (not-not-is (ltb x cards) (row-clear (not (ltb x cards)) 2 r .0))

@@ -46,7 +46,8 @@ module _ (P : Parameters) (L : Laws P) where
     room-still : Capacity P L k → Capacity P L (marked P k c)
     room-still r = record {
       steps = r .steps;
-      chain = chain-map P L (k .failed) (insert (k .failed) c) (r .steps) (k .newest) (reverse (k .older)) (λ p x m h d. rw (has-insert (k .failed) c x c-ok) (or-r (eqb x c) (has (k .failed) x) d)) (r .chain);
+      chain = chain-map P L (k .failed) (insert (k .failed) c) (r .steps) (k .newest) (reverse (k .older))
+          (λ p x m h d. rw (has-insert (k .failed) c x c-ok) (or-r (eqb x c) (has (k .failed) x) d)) (r .chain);
       few = r .few;
     }
 

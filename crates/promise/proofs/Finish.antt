@@ -91,7 +91,8 @@ module _ (c : Call cabinet) (late : isStart c ≡ false) (g : Image) where
     by-blocks a w behind e q l = by-plan a (writing cabinet (shown a) (controlIn g) w) behind e q refl (l ∙ sym (kept-control w g (form-good g clear)))
 
     -- accepted, blocks are written and then the control part
-    pub by-both : (a : AnswerValue) (k : Part) (w : Writes) (behind : Image) {m : ℕ → Option (current .memory .Stamp)} → 0 ≡ rowsOn c g → planOn c g ≡ stamping cabinet (writing cabinet (shown a) k w) m
+    pub by-both : (a : AnswerValue) (k : Part) (w : Writes) (behind : Image) {m : ℕ → Option (current .memory .Stamp)} → 0 ≡ rowsOn c g
+        → planOn c g ≡ stamping cabinet (writing cabinet (shown a) k w) m
         → behind ≡ putControl (laid w g) k → Done c g a behind
     by-both a k w behind {m} e q l = by-plan a (stamping cabinet (writing cabinet (shown a) k w) m) behind e q refl
         (l ∙ write-control w g k _)

@@ -122,7 +122,8 @@ module _ (w : Writes) (g : Image) where
   -- a block is put
   pub laid-put : (c b : ℕ) → c < cardCount → b < blockCount → (x : BlockBytes) → putBlock (laid w g) c b (x .0) ≡ laid (putOne w c b x) g
   laid-put c b hc hb x = laid-ext (putOne w c b x) g (putBlock (laid w g) c b (x .0)) (whole-put (laid w g) (whole-laid w g) c hc b hb (x .0) (x .1))
-      (λ n h. sym (byte-of-control (putBlock (laid w g) c b (x .0)) n h) ∙ ap (λ (l : Image). getD l n 0) (control-put (laid w g) (whole-laid w g) c hc b hb (x .0) (x .1)) ∙ byte-of-control (laid w g) n h ∙ laid-control w g n h)
+      (λ n h. sym (byte-of-control (putBlock (laid w g) c b (x .0)) n h) ∙ ap (λ (l : Image). getD l n 0) (control-put (laid w g) (whole-laid w g) c hc b hb (x .0) (x .1))
+      ∙ byte-of-control (laid w g) n h ∙ laid-control w g n h)
       (λ n h. put-tail (laid w g) (whole-laid w g) c b hc hb (x .0) (x .1) n h ∙ laid-tail w g n h)
       there
       (λ d j hd hj. put-end (laid w g) (whole-laid w g) c b hc hb (x .0) (x .1) d j hd hj ∙ laid-end w g d j hd hj)
@@ -130,7 +131,8 @@ module _ (w : Writes) (g : Image) where
       there : (d e : ℕ) → d < cardCount → e < blockCount → blockAt (putBlock (laid w g) c b (x .0)) d e ≡ updated (putOne w c b x d e) (blockIn g d e) .0
       there d e hd he = by-pair (blockAt (putBlock (laid w g) c b (x .0)) d e ≡ updated (putOne w c b x d e) (blockIn g d e) .0) d c e b
           (λ p q. rw (p, q, eqb-self c, eqb-self b) (put-same (laid w g) (whole-laid w g) c hc b hb (x .0) (x .1)))
-          (λ n. put-other (laid w g) (whole-laid w g) c hc b hb (x .0) (x .1) d hd e he n ∙ laid-block w g d e hd he ∙ ap (λ (o : Option BlockBytes). updated o (blockIn g d e) .0) (sym (put-elsewhere w c b x d e n)))
+          (λ n. put-other (laid w g) (whole-laid w g) c hc b hb (x .0) (x .1) d hd e he n ∙ laid-block w g d e hd he
+          ∙ ap (λ (o : Option BlockBytes). updated o (blockIn g d e) .0) (sym (put-elsewhere w c b x d e n)))
 
 -- ---- the control part is written over the blocks
 -- its bytes behind the tables are the ones that are there

@@ -121,7 +121,8 @@ module _ (P : Parameters) (L : Laws P) where
     unfolding plan refusal act plainObserve plainNext plainRefusal plainAct
     step-withdraw c = go (refusal P (withdraw c) k v) refl
       where
-        go : (n : ℕ) → refusal P (withdraw c) k v ≡ n → Good P L v (withdraw c) (guarded P n k (act P (withdraw c) k v)) quiet (unlessRefused P n (plainOf P k records) (plainAct P (withdraw c) (plainOf P k records)))
+        go : (n : ℕ) → refusal P (withdraw c) k v ≡ n → Good P L v (withdraw c) (guarded P n k (act P (withdraw c) k v)) quiet
+            (unlessRefused P n (plainOf P k records) (plainAct P (withdraw c) (plainOf P k records)))
         go zero e =
             let a = row-3 (ltb c cards) e in
             let b = row-clear (not (has (k .working) c) || inActive P k c) 7 (row-clear (k .stopped) 3 (a .1) .1) .0 in
@@ -137,9 +138,11 @@ module _ (P : Parameters) (L : Laws P) where
         inv e = record {
           form = form-added P L k (i .form .base) (places (k .newest) a) (place-usable k a e) (place-many k a e) (λ c h. place-works k a c e h);
           idle = next-idle P L (addedBy P k (places (k .newest) a)) (λ c b. none) v;
-          each = λ b ok. kept P L k v records i (addedBy P k (places (k .newest) a)) (λ c b. none) records b ok ok (λ p m. in-left (active k) (places (k .newest) a ∷ []) p m) (λ p c m x y. y) (λ c x. refl) (λ c r x y z o. o) (λ n r e. n .1 r e);
+          each = λ b ok. kept P L k v records i (addedBy P k (places (k .newest) a)) (λ c b. none) records b ok ok (λ p m. in-left (active k) (places (k .newest) a ∷ []) p m)
+              (λ p c m x y. y) (λ c x. refl) (λ c r x y z o. o) (λ n r e. n .1 r e);
         }
 
-        go : (n : ℕ) → refusal P (place a) k v ≡ n → Good P L v (place a) (guarded P n k (act P (place a) k v)) quiet (unlessRefused P n (plainOf P k records) (plainAct P (place a) (plainOf P k records)))
+        go : (n : ℕ) → refusal P (place a) k v ≡ n → Good P L v (place a) (guarded P n k (act P (place a) k v)) quiet
+            (unlessRefused P n (plainOf P k records) (plainAct P (place a) (plainOf P k records)))
         go zero e = record { sight = refl; goes = λ z. (refl, inv (row-clear (k .stopped) 3 (row-clear (not (placeInRange a)) 2 e .1) .1)) }
         go (suc n) e = idle-still P L k v records i (place a) (refused (suc n)) quiet refl

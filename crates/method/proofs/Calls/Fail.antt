@@ -98,7 +98,8 @@ module _ (P : Parameters) (L : Laws P) where
         f : ℕ → Bool
         f = begunAt k c
 
-        fail-block : (b : ℕ) → ltb b (blocks (k .setting)) ≡ true → BlockInv P (k .setting) (active k′) (has (k′ .working)) (nextView P L k′ (dropHeld P (begunAt k c) c v) v) (λ r. ended false (begunAt k c) (records r)) b
+        fail-block : (b : ℕ) → ltb b (blocks (k .setting)) ≡ true → BlockInv P (k .setting) (active k′) (has (k′ .working)) (nextView P L k′ (dropHeld P (begunAt k c) c v) v)
+            (λ r. ended false (begunAt k c) (records r)) b
         unfolding dropHeld
         fail-block b bk = kept P L k v records i k′ (dropHeld P (begunAt k c) c v) (λ r. ended false (begunAt k c) (records r)) b bk (rw set bk) sub
             (λ p x m h w. was x (rw wk at w))
@@ -114,7 +115,8 @@ module _ (P : Parameters) (L : Laws P) where
             kind x n (inr e) = rw e e
 
       fail-inv : (b : Bool) → has (mask (k .newest)) c ≡ b
-          → Invariant P (cond b (addedBy P k1 (without (k .newest) c)) k1) (nextView P L (cond b (addedBy P k1 (without (k .newest) c)) k1) (dropHeld P (begunAt k c) c v) v) (λ r. ended false (begunAt k c) (records r))
+          → Invariant P (cond b (addedBy P k1 (without (k .newest) c)) k1) (nextView P L (cond b (addedBy P k1 (without (k .newest) c)) k1) (dropHeld P (begunAt k c) c v) v)
+          (λ r. ended false (begunAt k c) (records r))
       unfolding k1
       fail-inv true e = record {
         form = fail-in;
@@ -144,7 +146,8 @@ module _ (P : Parameters) (L : Laws P) where
     step-fail c = go (split (has (k .working) c))
       where
         Goal : ℕ → Type 0
-        Goal n = Good P L v (fail c) (guarded P n k (act P (fail c) k v)) (failing (has (k .working) c && stopsNow P k c)) (unlessRefused P (row 8 (not (has (k .working) c)) 0) (plainOf P k records) (plainAct P (fail c) (plainOf P k records)))
+        Goal n = Good P L v (fail c) (guarded P n k (act P (fail c) k v)) (failing (has (k .working) c && stopsNow P k c))
+            (unlessRefused P (row 8 (not (has (k .working) c)) 0) (plainOf P k records) (plainAct P (fail c) (plainOf P k records)))
 
         branch : has (k .working) c ≡ true → (b : Bool) → stopping P k c ≡ b
             → Good P L v (fail c) (cond b
@@ -152,7 +155,11 @@ module _ (P : Parameters) (L : Laws P) where
             (failPlan P k v c))
             (failing b) (endRecords P (plainOf P k records) false (begunAt k c) (replaced P k c))
         branch on true e = record { sight = refl; goes = λ z. tf true refl z }
-        branch on false e = record { sight = quiet-fail (has (mask (k .newest)) c); goes = λ z. (refl, unfold k1 in (fail-inv c (lt-ltb c cards (has-card (k .working) c on)) on e (has (mask (k .newest)) c) refl)) }
+        branch on false e = record {
+          sight = quiet-fail (has (mask (k .newest)) c);
+          goes = λ z.
+              (refl, unfold k1 in (fail-inv c (lt-ltb c cards (has-card (k .working) c on)) on e (has (mask (k .newest)) c) refl));
+        }
           where
             quiet-fail : (b : Bool) → _≡_ {A = Observation P} (failing (isStop P (cond b (placed (mask (without (k .newest) c))) unplaced))) (failing false)
             quiet-fail true = refl

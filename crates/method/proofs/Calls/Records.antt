@@ -43,7 +43,8 @@ module _ (P : Parameters) (L : Laws P) where
 
     store-same : (t r n : ℕ) → refusal P (store t r n) k v ≡ plainRefusal P (accepted P k v) (store t r n) (plainOf P k records)
     unfolding refusal plainRefusal
-    store-same t r n = guard-same (tranInRange t && recInRange (k .setting) r && valueInRange n) t r (λ e. and-r (tranInRange t) (recInRange (k .setting) r) (and-l (tranInRange t && recInRange (k .setting) r) (valueInRange n) e))
+    store-same t r n = guard-same (tranInRange t && recInRange (k .setting) r && valueInRange n) t r
+        (λ e. and-r (tranInRange t) (recInRange (k .setting) r) (and-l (tranInRange t && recInRange (k .setting) r) (valueInRange n) e))
 
     delete-same : (t r : ℕ) → refusal P (delete t r) k v ≡ plainRefusal P (accepted P k v) (delete t r) (plainOf P k records)
     unfolding refusal plainRefusal
@@ -51,13 +52,15 @@ module _ (P : Parameters) (L : Laws P) where
 
     pub step-get : (t r : ℕ) → Agrees P L k v records (get t r)
     unfolding plan refusal act plainObserve plainNext plainRefusal plainAct
-    step-get t r = subst (λ (m : ℕ). Good P L v (get t r) (guarded P (refusal P (get t r) k v) k (act P (get t r) k v)) (client (orRefused P m (reply P (readBy t (records r))))) (unlessRefused P m (plainOf P k records) (plainOf P k records)))
+    step-get t r = subst (λ (m : ℕ). Good P L v (get t r) (guarded P (refusal P (get t r) k v) k (act P (get t r) k v)) (client (orRefused P m (reply P (readBy t (records r)))))
+        (unlessRefused P m (plainOf P k records) (plainOf P k records)))
         (get-same t r) (go (refusal P (get t r) k v) refl)
       where
         range : refusal P (get t r) k v ≡ 0 → recInRange (k .setting) r ≡ true
         range e = and-r (tranInRange t) (recInRange (k .setting) r) (row-3 (tranInRange t && recInRange (k .setting) r) e .0)
 
-        go : (n : ℕ) → refusal P (get t r) k v ≡ n → Good P L v (get t r) (guarded P n k (act P (get t r) k v)) (client (orRefused P n (reply P (readBy t (records r))))) (unlessRefused P n (plainOf P k records) (plainOf P k records))
+        go : (n : ℕ) → refusal P (get t r) k v ≡ n → Good P L v (get t r) (guarded P n k (act P (get t r) k v)) (client (orRefused P n (reply P (readBy t (records r)))))
+            (unlessRefused P n (plainOf P k records) (plainOf P k records))
         go zero e = idle-still P L k v records i (get t r) _ (client (reply P (readBy t (records r)))) (rw (seen-is P L k v records i r (range e)))
         go (suc n) e = idle-still P L k v records i (get t r) (refused (suc n)) (client (refused (suc n))) refl
 
@@ -96,12 +99,14 @@ module _ (P : Parameters) (L : Laws P) where
           (λ n j e. blanks b n j e (split (eqb b (blockOf r))));
     }
       where
-        kind : (c b : ℕ) → (eqb b (blockOf r) ≡ true) ⊎ (eqb b (blockOf r) ≡ false) → (elem c (holders P k v b) ≡ true) ⊎ (elem c (holders P k v b) ≡ false) → held (updated (lockHolders P k v t r x c b) (v c b)) ≡ held (v c b)
+        kind : (c b : ℕ) → (eqb b (blockOf r) ≡ true) ⊎ (eqb b (blockOf r) ≡ false) → (elem c (holders P k v b) ≡ true) ⊎ (elem c (holders P k v b) ≡ false)
+            → held (updated (lockHolders P k v t r x c b) (v c b)) ≡ held (v c b)
         kind c b (inl p) (inl q) = rw (p, q) (held-lock (v c b) (placeOf r) t x)
         kind c b (inl p) (inr q) = rw (p, q) refl
         kind c b (inr p) q = rw p refl
 
-        slots : (c j b : ℕ) → held (v c b) ≡ true → blockOf j ≡ b → slot (v c b) (placeOf j) ≡ records j → (eqb b (blockOf r) ≡ true) ⊎ (eqb b (blockOf r) ≡ false) → slot (updated (lockHolders P k v t r x c b) (v c b)) (placeOf j) ≡ relock t r x j
+        slots : (c j b : ℕ) → held (v c b) ≡ true → blockOf j ≡ b → slot (v c b) (placeOf j) ≡ records j → (eqb b (blockOf r) ≡ true) ⊎ (eqb b (blockOf r) ≡ false)
+            → slot (updated (lockHolders P k v t r x c b) (v c b)) (placeOf j) ≡ relock t r x j
         slots c j b h e o (inl p) = rw (p, holder-is P L k v records i c b ∙ h) (relocked t r x law (v c b) j (e ∙ eqb-true b (blockOf r) p) o)
         slots c j b h e o (inr p) = rw p (o ∙ sym (away t r x j b e p))
 
@@ -109,7 +114,8 @@ module _ (P : Parameters) (L : Laws P) where
         blanks b n j e (inl p) = absurd (alive (rw (eqb-true b (blockOf r) p) at n))
         blanks b n j e (inr p) = away t r x j b e p ∙ n .1 j e
 
-    lay-inv : (t r : ℕ) (x : Option ℕ) → Locks t r x → ltb (blockOf r) (blocks (k .setting)) ≡ true → Blank P v records (blockOf r) → Invariant P k (nextView P L k (layBlock P k t r x) v) (relock t r x)
+    lay-inv : (t r : ℕ) (x : Option ℕ) → Locks t r x → ltb (blockOf r) (blocks (k .setting)) ≡ true → Blank P v records (blockOf r)
+        → Invariant P k (nextView P L k (layBlock P k t r x) v) (relock t r x)
     unfolding layBlock
     lay-inv t r x law r-ok none-yet = record {
       form = i .form;
@@ -117,14 +123,16 @@ module _ (P : Parameters) (L : Laws P) where
       each = λ b ok. go b ok (split (eqb b (blockOf r)));
     }
       where
-        there : (c b : ℕ) → eqb b (blockOf r) ≡ true → (elem c (newestSites P k b) ≡ true) ⊎ (elem c (newestSites P k b) ≡ false) → held (updated (layBlock P k t r x c b) (v c b)) ≡ elem c (newestSites P k b)
+        there : (c b : ℕ) → eqb b (blockOf r) ≡ true → (elem c (newestSites P k b) ≡ true) ⊎ (elem c (newestSites P k b) ≡ false)
+            → held (updated (layBlock P k t r x c b) (v c b)) ≡ elem c (newestSites P k b)
         there c b p (inl q) = rw (p, q) (held-lock fresh (placeOf r) t x ∙ held-fresh)
         there c b p (inr q) = rw (p, q) (rw (eqb-true b (blockOf r) p) (none-yet .0 c))
 
         slots : (c j b : ℕ) → eqb b (blockOf r) ≡ true → elem c (newestSites P k b) ≡ true → blockOf j ≡ b → slot (updated (layBlock P k t r x c b) (v c b)) (placeOf j) ≡ relock t r x j
         slots c j b p q e = rw (p, q) (relocked t r x law fresh j (e ∙ eqb-true b (blockOf r) p) (slot-fresh j ∙ sym (none-yet .1 j (e ∙ eqb-true b (blockOf r) p))))
 
-        go : (b : ℕ) → ltb b (blocks (k .setting)) ≡ true → (eqb b (blockOf r) ≡ true) ⊎ (eqb b (blockOf r) ≡ false) → BlockInv P (k .setting) (active k) (has (k .working)) (nextView P L k (layBlock P k t r x) v) (relock t r x) b
+        go : (b : ℕ) → ltb b (blocks (k .setting)) ≡ true → (eqb b (blockOf r) ≡ true) ⊎ (eqb b (blockOf r) ≡ false)
+            → BlockInv P (k .setting) (active k) (has (k .working)) (nextView P L k (layBlock P k t r x) v) (relock t r x) b
         go b bk (inl p) = renewed P L k v records i (layBlock P k t r x) (relock t r x) b bk
             (λ c q. there c b p (inl q) ∙ q)
             (λ c h. inl (sym (there c b p (split (elem c (newestSites P k b)))) ∙ h))
@@ -134,7 +142,8 @@ module _ (P : Parameters) (L : Laws P) where
             (λ c j s h e o. rw p (o ∙ sym (away t r x j b e p)))
             (λ n j e. away t r x j b e p ∙ n .1 j e)
 
-    store-inv : (t r n : ℕ) → tranInRange t ≡ true → recInRange (k .setting) r ≡ true → valueInRange n ≡ true → (l : List ℕ) → ((c : ℕ) → elem c l ≡ held (v c (blockOf r))) → Invariant P k (nextView P L k (storeWrites P k v t r n l) v) (relock t r (some n))
+    store-inv : (t r n : ℕ) → tranInRange t ≡ true → recInRange (k .setting) r ≡ true → valueInRange n ≡ true → (l : List ℕ) → ((c : ℕ) → elem c l ≡ held (v c (blockOf r)))
+        → Invariant P k (nextView P L k (storeWrites P k v t r n l) v) (relock t r (some n))
     unfolding Locks
     store-inv t r n t-ok r-ok n-ok [] h = lay-inv t r (some n) (λ y j. slot-store y r t n j t-ok n-ok) b-ok (go (i .each (blockOf r) b-ok .cover))
       where
@@ -149,18 +158,22 @@ module _ (P : Parameters) (L : Laws P) where
 
     pub step-store : (t r n : ℕ) → Agrees P L k v records (store t r n)
     unfolding plan refusal act plainObserve plainNext plainRefusal plainAct
-    step-store t r n = subst (λ (m : ℕ). Good P L v (store t r n) (guarded P (refusal P (store t r n) k v) k (act P (store t r n) k v)) (client (orRefused P m ok)) (unlessRefused P m (plainOf P k records) (plainAct P (store t r n) (plainOf P k records))))
+    step-store t r n = subst (λ (m : ℕ). Good P L v (store t r n) (guarded P (refusal P (store t r n) k v) k (act P (store t r n) k v)) (client (orRefused P m ok))
+        (unlessRefused P m (plainOf P k records) (plainAct P (store t r n) (plainOf P k records))))
         (store-same t r n) (go (refusal P (store t r n) k v) refl)
       where
         range : refusal P (store t r n) k v ≡ 0 → (tranInRange t && recInRange (k .setting) r && valueInRange n) ≡ true
         range e = row-3 (tranInRange t && recInRange (k .setting) r && valueInRange n) e .0
 
-        go : (m : ℕ) → refusal P (store t r n) k v ≡ m → Good P L v (store t r n) (guarded P m k (act P (store t r n) k v)) (client (orRefused P m ok)) (unlessRefused P m (plainOf P k records) (plainAct P (store t r n) (plainOf P k records)))
+        go : (m : ℕ) → refusal P (store t r n) k v ≡ m → Good P L v (store t r n) (guarded P m k (act P (store t r n) k v)) (client (orRefused P m ok))
+            (unlessRefused P m (plainOf P k records) (plainAct P (store t r n) (plainOf P k records)))
         go zero e = record {
           sight = refl;
           goes = λ z. (
             refl,
-            store-inv t r n (and-l (tranInRange t) (recInRange (k .setting) r) (and-l (tranInRange t && recInRange (k .setting) r) (valueInRange n) (range e))) (and-r (tranInRange t) (recInRange (k .setting) r) (and-l (tranInRange t && recInRange (k .setting) r) (valueInRange n) (range e))) (and-r (tranInRange t && recInRange (k .setting) r) (valueInRange n) (range e))
+            store-inv t r n (and-l (tranInRange t) (recInRange (k .setting) r) (and-l (tranInRange t && recInRange (k .setting) r) (valueInRange n) (range e)))
+                (and-r (tranInRange t) (recInRange (k .setting) r) (and-l (tranInRange t && recInRange (k .setting) r) (valueInRange n) (range e)))
+                (and-r (tranInRange t && recInRange (k .setting) r) (valueInRange n) (range e))
                 (holders P k v (blockOf r)) (λ c. holder-is P L k v records i c (blockOf r)),
           );
         }
@@ -168,7 +181,8 @@ module _ (P : Parameters) (L : Laws P) where
 
     pub step-delete : (t r : ℕ) → Agrees P L k v records (delete t r)
     unfolding plan refusal act plainObserve plainNext plainRefusal plainAct
-    step-delete t r = subst (λ (m : ℕ). Good P L v (delete t r) (guarded P (refusal P (delete t r) k v) k (act P (delete t r) k v)) (client (orRefused P m (cond (isNone (readBy t (records r))) absent ok))) (unlessRefused P m (plainOf P k records) (plainAct P (delete t r) (plainOf P k records))))
+    step-delete t r = subst (λ (m : ℕ). Good P L v (delete t r) (guarded P (refusal P (delete t r) k v) k (act P (delete t r) k v))
+        (client (orRefused P m (cond (isNone (readBy t (records r))) absent ok))) (unlessRefused P m (plainOf P k records) (plainAct P (delete t r) (plainOf P k records))))
         (delete-same t r) (go (refusal P (delete t r) k v) refl)
       where
         range : refusal P (delete t r) k v ≡ 0 → (tranInRange t && recInRange (k .setting) r) ≡ true
@@ -182,10 +196,12 @@ module _ (P : Parameters) (L : Laws P) where
             flat-read false = refl
 
         branch : (tranInRange t && recInRange (k .setting) r) ≡ true → (b : Bool) → isNone (readBy t (records r)) ≡ b
-            → Good P L v (delete t r) (cond b (unwritten P absent k) (writing P ok k (lockHolders P k v t r none))) (client (cond b absent ok)) (cond b (plainOf P k records) (lockRecord P (plainOf P k records) t r none))
+            → Good P L v (delete t r) (cond b (unwritten P absent k) (writing P ok k (lockHolders P k v t r none))) (client (cond b absent ok))
+            (cond b (plainOf P k records) (lockRecord P (plainOf P k records) t r none))
         branch o true e = idle-still P L k v records i (delete t r) absent (client absent) refl
         branch o false e = record { sight = refl; goes = λ z. (refl, lock-inv t r none (unfold Locks in (λ y j. slot-delete y r t j (and-l (tranInRange t) (recInRange (k .setting) r) o))) (alive e)) }
 
-        go : (m : ℕ) → refusal P (delete t r) k v ≡ m → Good P L v (delete t r) (guarded P m k (act P (delete t r) k v)) (client (orRefused P m (cond (isNone (readBy t (records r))) absent ok))) (unlessRefused P m (plainOf P k records) (plainAct P (delete t r) (plainOf P k records)))
+        go : (m : ℕ) → refusal P (delete t r) k v ≡ m → Good P L v (delete t r) (guarded P m k (act P (delete t r) k v))
+            (client (orRefused P m (cond (isNone (readBy t (records r))) absent ok))) (unlessRefused P m (plainOf P k records) (plainAct P (delete t r) (plainOf P k records)))
         go zero e = rw (seen-is P L k v records i r (and-r (tranInRange t) (recInRange (k .setting) r) (range e))) (branch (range e) (isNone (readBy t (records r))) refl)
         go (suc m) e = idle-still P L k v records i (delete t r) (refused (suc m)) (client (refused (suc m))) refl

@@ -61,11 +61,13 @@ module _ (P : Parameters) (L : Laws P) where
             pick true e = tf (held (w x b)) h (ap held e ∙ held-empty)
             pick false e = (sym (ap held e) ∙ h, e)
 
-        trace : (x b : ℕ) → eqb b m ≡ true → (elem x (newestSites P k b) ≡ true) ⊎ (elem x (newestSites P k b) ≡ false) → held (w x b) ≡ true → (elem x (newestSites P k b) ≡ true) ⊎ (held (v x b) ≡ true)
+        trace : (x b : ℕ) → eqb b m ≡ true → (elem x (newestSites P k b) ≡ true) ⊎ (elem x (newestSites P k b) ≡ false) → held (w x b) ≡ true
+            → (elem x (newestSites P k b) ≡ true) ⊎ (held (v x b) ≡ true)
         trace x b p (inl q) h = inl q
         trace x b p (inr q) h = inr (other-held x b p q h .0)
 
-        slots : (x r b : ℕ) → eqb b m ≡ true → ltb b (blocks (k .setting)) ≡ true → (elem x (newestSites P k b) ≡ true) ⊎ (elem x (newestSites P k b) ≡ false) → held (w x b) ≡ true → blockOf r ≡ b → slot (w x b) (placeOf r) ≡ records r
+        slots : (x r b : ℕ) → eqb b m ≡ true → ltb b (blocks (k .setting)) ≡ true → (elem x (newestSites P k b) ≡ true) ⊎ (elem x (newestSites P k b) ≡ false) → held (w x b) ≡ true
+            → blockOf r ≡ b → slot (w x b) (placeOf r) ≡ records r
         slots x r b p bk (inl q) h e = ap (λ y. slot y (placeOf r)) (moved-site P k v c m x b p q) ∙ pick (held (v x b)) refl
           where
             pick : (y : Bool) → held (v x b) ≡ y → slot (cond y (v x b) (v c b)) (placeOf r) ≡ records r
@@ -73,7 +75,8 @@ module _ (P : Parameters) (L : Laws P) where
             pick false z = i .each b bk .same c r (origin b p) e
         slots x r b p bk (inr q) h e = let o = other-held x b p q h in ap (λ y. slot y (placeOf r)) (o .1) ∙ i .each b bk .same x r (o .0) e
 
-        go : (b : ℕ) → ltb b (blocks (k .setting)) ≡ true → (eqb b m ≡ true) ⊎ (eqb b m ≡ false) → BlockInv P (k .setting) (active k) (has (k .working)) (nextView P L k (moveWrites P k v c m) v) records b
+        go : (b : ℕ) → ltb b (blocks (k .setting)) ≡ true → (eqb b m ≡ true) ⊎ (eqb b m ≡ false)
+            → BlockInv P (k .setting) (active k) (has (k .working)) (nextView P L k (moveWrites P k v c m) v) records b
         go b bk (inl p) = renewed P L k v records i (moveWrites P k v c m) records b bk
             (λ x q. site-held x b p q)
             (λ x h. trace x b p (split (elem x (newestSites P k b))) h)
@@ -109,10 +112,12 @@ module _ (P : Parameters) (L : Laws P) where
         all-new : (c b : ℕ) → ltb b (blocks (k .setting)) ≡ true → held (v c b) ≡ true → (elem c (newestSites P k b) && all (λ x. held (v x b)) (newestSites P k b)) ≡ true
         all-new c b bk h =
             let row = below-all (blocks (k .setting)) _ b yes-settled (ltb-true b (blocks (k .setting)) bk) in
-            let cell = below-all cards (λ c. not (held (v c b)) || (elem c (newestSites P k b) && all (λ x. held (v x b)) (newestSites P k b))) c row (has-card (k .working) c (works-w P L k v records i c b h)) in
+            let cell = below-all cards (λ c. not (held (v c b)) || (elem c (newestSites P k b) && all (λ x. held (v x b)) (newestSites P k b))) c row
+            (has-card (k .working) c (works-w P L k v records i c b h)) in
             rw h at cell
 
-        go : (b : ℕ) → ltb b (blocks (k .setting)) ≡ true → Cover P (k .setting) (active k) (has (k .working)) v b ⊎ Blank P v records b → Cover P (k .setting) (k .newest ∷ []) (has (k .working)) v b ⊎ Blank P v records b
+        go : (b : ℕ) → ltb b (blocks (k .setting)) ≡ true → Cover P (k .setting) (active k) (has (k .working)) v b ⊎ Blank P v records b
+            → Cover P (k .setting) (k .newest ∷ []) (has (k .working)) v b ⊎ Blank P v records b
         go b bk (inl o) =
             let h = holder-of P L k v records i b bk o in
             let a = and-r (elem (h .0) (newestSites P k b)) (all (λ x. held (v x b)) (newestSites P k b)) (all-new (h .0) b bk (h .1)) in
@@ -123,7 +128,8 @@ module _ (P : Parameters) (L : Laws P) where
     unfolding plan refusal act plainObserve plainNext plainRefusal plainAct
     step-settle = go (refusal P settle k v) refl
       where
-        go : (n : ℕ) → refusal P settle k v ≡ n → Good P L v settle (guarded P n k (act P settle k v)) quiet (unlessRefused P (row 13 (not (isZero n)) 0) (plainOf P k records) (plainAct P settle (plainOf P k records)))
+        go : (n : ℕ) → refusal P settle k v ≡ n → Good P L v settle (guarded P n k (act P settle k v)) quiet
+            (unlessRefused P (row 13 (not (isZero n)) 0) (plainOf P k records) (plainAct P settle (plainOf P k records)))
         go zero e = record { sight = refl; goes = λ z. (refl, settle-inv (not-not-is (settled P k v) (row-clear (not (settled P k v)) 12 (row-clear (k .stopped) 3 e .1) .0))) }
         go (suc n) e = idle-still P L k v records i settle (refused (suc n)) quiet refl
 

@@ -40,7 +40,8 @@ module _ (P : Parameters) (L : Laws P) where
     unfolding plan refusal act plainObserve plainNext plainRefusal plainAct
     step-begin t h = go (refusal P (begin t h) k v) refl
       where
-        go : (n : ℕ) → refusal P (begin t h) k v ≡ n → Good P L v (begin t h) (guarded P n k (act P (begin t h) k v)) quiet (unlessRefused P n (plainOf P k records) (plainAct P (begin t h) (plainOf P k records)))
+        go : (n : ℕ) → refusal P (begin t h) k v ≡ n → Good P L v (begin t h) (guarded P n k (act P (begin t h) k v)) quiet
+            (unlessRefused P n (plainOf P k records) (plainAct P (begin t h) (plainOf P k records)))
         go zero e = record { sight = refl; goes = λ z. (refl, home-inv (λ x. cond (eqb x t) (some h) (k .home x))) }
         go (suc n) e = idle-still P L k v records i (begin t h) (refused (suc n)) quiet refl
 
