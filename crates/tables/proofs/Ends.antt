@@ -11,10 +11,10 @@ use mathlib.Core.Option.{Option, none, some}
 use mathlib.Core.Path.{_∙_, _≡_, ap, fun-ext, refl, sym}
 use Rattle.lists.specs.Segments.{Keeps, each, segment, within}
 use Rattle.lists.proofs.Counts.{none-below}
-use Rattle.lists.proofs.Each.{each-before, each-in, length-each}
-use Rattle.lists.proofs.Segments.{get-get, length-segment, put-get}
-use Rattle.image.specs.Layout.{Whole, blockAt, blockCount, blockSize, blockStart, cardCount, controlSize, slotSize}
-use Rattle.image.specs.Layout.{slotCount, slotStart, tableSize, tableStart, tranBound}
+use Rattle.lists.proofs.Each.{each-after, each-before, each-in, length-each}
+use Rattle.lists.proofs.Segments.{get-get, getD-segment, length-segment, put-get}
+use Rattle.image.specs.Layout.{Whole, blockAt, blockCount, blockSize, blockStart, blocksSize, cardCount, controlSize, layout}
+use Rattle.image.specs.Layout.{slotCount, slotSize, slotStart, tableSize, tableStart, tailStartOf, tranBound}
 use Rattle.image.proofs.Blocks.{byte-of-control}
 use Rattle.mask.specs.Masks.{Byte, hasCard, withoutCard}
 use Rattle.mask.proofs.Masks.{has-without}
@@ -26,11 +26,18 @@ use Rattle.slot.proofs.Ends.{length-ended}
 use Rattle.slot.proofs.Words.{slot-in-range}
 use Rattle.method.specs.Rules.{dropHeld, endHeld, look, updated}
 use Rattle.cabinet_rules.specs.Cabinet.{cabinet}
-use Rattle.cabinet_rules.specs.Images.{Image, blockIn, controlIn, stateIn}
+use Rattle.cabinet_rules.specs.Images.{Image, blockIn, controlIn, endIn, stateIn, tailIn}
 use Rattle.promise.proofs.Laid.{block-is, laid, laid-ext, laid-none, laid-same, of-block}
 use Rattle.promise.proofs.View.{look-is}
 use Rattle.tables.specs.Tables.{endWrites, endedOn, endedTable, setOf}
 use Rattle.tables.proofs.Sets.{in-set-of}
+
+-- a byte, as a part of length 1
+byte-alone : (l : List ℕ) (n : ℕ) → getD (segment l n 1) 0 0 ≡ getD l n 0
+byte-alone l n = getD-segment l n 1 0 (omega arith) ∙ ap (λ (m : ℕ). getD l m 0) here
+  where
+    here : n + 0 ≡ n
+    here = omega arith
 
 -- ---- one table, block by block
 module _ (take : Bool) (f : ℕ → Bool) where
@@ -58,6 +65,16 @@ module _ (take : Bool) (f : ℕ → Bool) where
       ∙ each-in blockWise 0 blockSize keeps-block l blockCount (omega arith) b h
       ∙ ap (λ (a : ℕ). endedBlock take f (segment l a blockSize)) e
   block-ended false l n b h = refl
+
+  -- what lies behind the blocks of the table
+  pub end-kept : (on : Bool) (l : List ℕ) → length l ≡ tableSize → (j : ℕ) → j < layout .tableTail
+      → getD (endedOn on take f l) (blocksSize + j) 0 ≡ getD l (blocksSize + j) 0
+  unfolding endedTable
+  end-kept true l n j h =
+      sym (byte-alone (each blockWise 0 blockSize blockCount l) (blocksSize + j))
+      ∙ ap (λ (s : List ℕ). getD s 0 0) (each-after blockWise 0 blockSize keeps-block l blockCount (omega arith) (blocksSize + j) 1 (omega arith) (omega arith))
+      ∙ byte-alone l (blocksSize + j)
+  end-kept false l n j h = refl
 
   -- a card that is on, and one that is off
   pub card-on : (g : Image) (a : ℕ) (on : Bool) → on ≡ true → within g a tableSize (endedTable take f) ≡ within g a tableSize (endedOn on take f)
@@ -113,11 +130,31 @@ module _ (working : Byte) (take : Bool) (f : ℕ → Bool) where
         go true = refl
         go false = sym (block-is g long c b hc hb)
 
+    tail-out : (n : ℕ) → n < layout .imageTail → tailIn out n ≡ tailIn g n
+    tail-out n h =
+        sym (byte-alone out (tailStartOf layout + n))
+        ∙ ap (λ (s : List ℕ). getD s 0 0)
+        (each-after cardWise controlSize tableSize keeps-card g cardCount (omega arith) (tailStartOf layout + n) 1 (omega arith) (omega (arith, long)))
+        ∙ byte-alone g (tailStartOf layout + n)
+
+    end-out : (c j : ℕ) → c < cardCount → j < layout .tableTail → endIn out c j ≡ endIn g c j
+    end-out c j hc hj =
+        let t : ℕ = tableStart c in
+        ap (λ (n : ℕ). getD out n 0) (flat t j)
+        ∙ sym (getD-segment out t tableSize (blocksSize + j) (omega arith))
+        ∙ ap (λ (s : List ℕ). getD s (blocksSize + j) 0) (each-in cardWise controlSize tableSize keeps-card g cardCount (omega arith) c hc)
+        ∙ end-kept take f (hasCard working c) (segment g t tableSize) (length-segment g t tableSize (omega arith)) j hj
+        ∙ getD-segment g t tableSize (blocksSize + j) (omega arith)
+        ∙ sym (ap (λ (n : ℕ). getD g n 0) (flat t j))
+      where
+        flat : (t j : ℕ) → t + blocksSize + j ≡ t + (blocksSize + j)
+        flat t j = omega arith
+
     pub all-ended : upTo cardCount g ≡ laid (endWrites working take f g) g
     unfolding endWrites
-    all-ended = laid-ext (endWrites working take f g) g out long-out control-out (λ n h. absurd (omega arith))
+    all-ended = laid-ext (endWrites working take f g) g out long-out control-out tail-out
         (λ c b hc hb. block-out c b hc hb ∙ written (hasCard working c) c b hc hb)
-        (λ c j hc hj. absurd (omega arith))
+        end-out
 
 -- ---- nothing is picked: nothing changes
 pub none-ended : (working : Byte) (take : Bool) (set : ℕ) (g : Image) → Whole g → set ≡ 0 → g ≡ laid (endWrites working take (inSet set) g) g
