@@ -9,6 +9,7 @@ use mathlib.Core.Path.{_∙_, _≡_, ap, ap₂, refl, sym}
 use native.Mathlib.Omega.{arith}
 use Rattle.lists.proofs.Bools.{split}
 use Rattle.image.specs.Layout.{imageSizeOf, recordCount, valueBound}
+use Rattle.method.specs.BlockMoves.{settledBy}
 use Rattle.method.specs.ControlPart.{isOpen}
 use Rattle.method.specs.Parameters.{Parameters}
 use Rattle.method.specs.PlainList.{orRefused}
@@ -16,7 +17,7 @@ use Rattle.method.specs.Rules.{isStart, Answer, Call, Plan, View, act, anyLocke
 use Rattle.method.specs.Rules.{fail, fit, get, holders, isProtected, layBlock, load, lockHolders, lockedOut, look, lostOf}
 use Rattle.method.specs.Rules.{clearStamp, stampAll, stamped}
 use Rattle.method.specs.Rules.{move, moveWrites, place, refusal, refused, rollback, row, seenSlot, settle, settled}
-use Rattle.method.specs.Rules.{settledAt, start, state, stopping, store, trail, withdraw}
+use Rattle.method.specs.Rules.{start, state, stopping, store, trail, withdraw}
 use Rattle.method.specs.Slots.{isNone, readBy}
 use Rattle.control.specs.ControlBytes.{Part}
 use Rattle.control_form.specs.ControlForm.{formRowsOf}
@@ -43,7 +44,7 @@ same-value n d = go (split (storable n))
 
 -- ---- the rows from 3 on
 same-rows : (c : Call since) → ((t r : ℕ) → c ≢ store t r brokenWire) → (k : Part) (v : View since) → refusal since c k v ≡ refusal before c k v
-unfolding refusal placeRows trail holders settled settledAt anyLocked
+unfolding refusal placeRows trail holders settled settledBy anyLocked
 same-rows (start m) d k v = refl
 same-rows (begin t home) d k v = refl
 same-rows (get t r) d k v = refl
@@ -70,7 +71,7 @@ same-either true p p′ q q′ h h′ = h
 same-either false p p′ q q′ h h′ = h′
 
 same-plan : (c : Call since) (k : Part) (v : View since) → SamePlan (act since c k v) (act before c k v)
-unfolding act trail holders lostOf stopping settled settledAt isProtected lockHolders layBlock endHeld dropHeld clearCard moveWrites stampAll clearStamp stamped
+unfolding act trail holders lostOf stopping settled settledBy isProtected lockHolders layBlock endHeld dropHeld clearCard moveWrites stampAll clearStamp stamped
 same-plan (start m) k v = (refl, refl, refl, refl)
 same-plan (begin t home) k v = (refl, refl, refl, refl)
 same-plan (get t r) k v = (refl, refl, refl, refl)

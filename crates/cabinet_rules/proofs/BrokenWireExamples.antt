@@ -10,13 +10,14 @@ use Rattle.mask.specs.Masks.{byte, hasCard, isWithin, members, size, withCard, 
 use Rattle.mask.specs.Placements.{acrossRails, memberAt, membersAfter, railSites, sitesOf}
 use Rattle.slot.specs.Blocks.{endSlots, endedByte, isHeld, lockSlot, putSlot, wordAt}
 use Rattle.slot.specs.Words.{slotOf, wordOf}
+use Rattle.method.specs.BlockMoves.{settledBy}
 use Rattle.method.specs.Growth.{plainAfter, rulesAfter}
 use Rattle.method.specs.OneRecordList.{Observation, client, plainObserve, quiet, runPlain, settleAccepted}
 use Rattle.method.specs.Parameters.{Parameters}
 use Rattle.method.specs.PlainList.{plainAct, plainNext, plainRefusal}
 use Rattle.method.specs.Rules.{Call, absent, act, answerOf, anyLocked, apply, begin, clearCard, commit, delete, endHeld, fit}
 use Rattle.method.specs.Rules.{get, holders, layBlock, lockHolders, look, move, moveWrites, nextState, ok, place, plan}
-use Rattle.method.specs.Rules.{refusal, refused, rollback, settle, settled, settledAt, store, trail, value}
+use Rattle.method.specs.Rules.{refusal, refused, rollback, settle, settled, store, trail, value}
 use Rattle.cabinet_rules.specs.Cabinet.{placeRows, rulesOf, startRow}
 use Rattle.cabinet_rules.specs.Claims.{NoStopBy, NoisyCallBy, imageCallsBy, runImageBy}
 use Rattle.cabinet_rules.specs.Delivery.{belowWire, brokenWire, twoRails}
@@ -91,7 +92,7 @@ module _ (before : Image) (long : length before ≡ imageSize) where
   -- moved: from cards 0, 1, 4 and 5 to cards 2, 4 and 5, and read there when the older placement is retired
   moved : shown left left-earlier (commit 2 ∷ fit 2 ∷ place (byte 0x2C) ∷ move 1 1 ∷ move 4 2 ∷ move 0 2 ∷ settle ∷ begin 3 2 ∷ get 3 9 ∷ get 3 17 ∷ [])
       ≡ client ok ∷ quiet ∷ quiet ∷ quiet ∷ quiet ∷ quiet ∷ quiet ∷ quiet ∷ client (value brokenWire) ∷ client (value brokenWire) ∷ []
-  unfolding said runPlain plainObserve plainNext plainRefusal plainAct plainAfter settleAccepted rulesAfter nextState apply plan refusal act look trail holders settled settledAt
+  unfolding said runPlain plainObserve plainNext plainRefusal plainAct plainAfter settleAccepted rulesAfter nextState apply plan refusal act look trail holders settled settledBy
       lockHolders layBlock endHeld clearCard moveWrites anyLocked hasCard withCard withoutCard isWithin memberAt membersAfter acrossRails railSites sitesOf startRow placeRows
       isHeld wordAt slotOf wordOf putSlot lockSlot endedByte endSlots tabulate members size
   moved = shown-said left left-earlier (commit 2 ∷ fit 2 ∷ place (byte 0x2C) ∷ move 1 1 ∷ move 4 2 ∷ move 0 2 ∷ settle ∷ begin 3 2 ∷ get 3 9 ∷ get 3 17 ∷ []) ∙ refl
@@ -123,7 +124,7 @@ module _ (before : Image) (long : length before ≡ imageSize) where
   -- the answers of the moves, which the plain record list does not have: one copy, two, none, and one placement retired
   move-answers : answersBy belowWire (commit 2 ∷ fit 2 ∷ place (byte 0x2C) ∷ move 1 1 ∷ move 4 2 ∷ move 0 2 ∷ settle ∷ begin 3 2 ∷ get 3 9 ∷ get 3 17 ∷ []) (left .rules)
       ≡ (0 ∷ []) ∷ (0 ∷ []) ∷ (0 ∷ []) ∷ (6 ∷ 1 ∷ []) ∷ (6 ∷ 2 ∷ []) ∷ (6 ∷ 0 ∷ []) ∷ (7 ∷ 1 ∷ []) ∷ (0 ∷ []) ∷ (1 ∷ brokenWire ∷ []) ∷ (1 ∷ brokenWire ∷ []) ∷ []
-  unfolding rulesAfter answersBy answerOf nextState apply plan refusal act look trail holders settled settledAt lockHolders layBlock endHeld clearCard moveWrites anyLocked hasCard
+  unfolding rulesAfter answersBy answerOf nextState apply plan refusal act look trail holders settled settledBy lockHolders layBlock endHeld clearCard moveWrites anyLocked hasCard
       withCard withoutCard isWithin memberAt membersAfter acrossRails railSites sitesOf startRow placeRows isHeld wordAt slotOf wordOf putSlot lockSlot endedByte endSlots tabulate members size
   move-answers = refl
 

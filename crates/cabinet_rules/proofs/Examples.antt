@@ -8,12 +8,13 @@ use Rattle.mask.specs.Masks.{byte, hasCard, isWithin, members, noCards, size, w
 use Rattle.mask.specs.Placements.{acrossRails, chainedSites, fromMask, memberAt, membersAfter, railSites, sitesOf}
 use Rattle.slot.specs.Blocks.{byteIn, endSlots, endedByte, isHeld, lockSlot, putSlot, wordAt}
 use Rattle.slot.specs.Words.{slotOf, wordOf}
+use Rattle.method.specs.BlockMoves.{settledBy}
 use Rattle.method.specs.OneRecordList.{zeroed}
 use Rattle.method.specs.Parameters.{Parameters}
 use Rattle.method.specs.Rules.{Answer, Call, State, absent, act, answerOf, anyLocked, apply, begin, clearCard, commit}
 use Rattle.method.specs.Rules.{copied, delete, dropHeld, endHeld, fail, get, holders, isProtected, layBlock, loaded}
 use Rattle.method.specs.Rules.{lockHolders, look, lostOf, move, moveWrites, nextState, ok, place, placed, plan}
-use Rattle.method.specs.Rules.{protected, refusal, refused, retired, settle, settled, settledAt, start, stopping, stops}
+use Rattle.method.specs.Rules.{protected, refusal, refused, retired, settle, settled, start, stopping, stops}
 use Rattle.method.specs.Rules.{store, trail, unplaced, unprotected, value}
 use Rattle.cabinet_rules.specs.Cabinet.{cabinet, placeRows, rulesOf, startRow}
 use Rattle.cabinet_rules.specs.Delivery.{Delivery, current}
@@ -104,7 +105,7 @@ marked-examples :
     ∷ (9 ∷ 0 ∷ [])
     ∷ (10 ∷ 7 ∷ 0 ∷ [])
     ∷ []
-unfolding final slotBytes afterAll answersBy answerOf nextState apply plan refusal act look trail holders lostOf stopping settled settledAt isProtected lockHolders layBlock endHeld
+unfolding final slotBytes afterAll answersBy answerOf nextState apply plan refusal act look trail holders lostOf stopping settled settledBy isProtected lockHolders layBlock endHeld
     dropHeld clearCard moveWrites anyLocked hasCard withCard withoutCard isWithin memberAt chainedSites membersAfter acrossRails railSites sitesOf startRow placeRows isHeld wordAt
     slotOf wordOf putSlot lockSlot endedByte endSlots tabulate members size
 marked-examples = refl
@@ -113,7 +114,7 @@ marked-examples = refl
 listing :
     answers (start (byte 0xE0) ∷ begin 1 0 ∷ store 1 9 4660 ∷ commit 1 ∷ fail 1 ∷ move 2 1 ∷ settle ∷ begin 1 0 ∷ get 1 9 ∷ fail 2 ∷ []) nothing
     ≡ (0 ∷ []) ∷ (0 ∷ []) ∷ (0 ∷ []) ∷ (0 ∷ []) ∷ (3 ∷ 0xA0 ∷ []) ∷ (6 ∷ 1 ∷ []) ∷ (7 ∷ 1 ∷ []) ∷ (0 ∷ []) ∷ (1 ∷ 4660 ∷ []) ∷ (5 ∷ []) ∷ []
-unfolding answersBy answerOf nextState apply plan refusal act look trail holders lostOf stopping settled settledAt isProtected lockHolders layBlock endHeld dropHeld clearCard
+unfolding answersBy answerOf nextState apply plan refusal act look trail holders lostOf stopping settled settledBy isProtected lockHolders layBlock endHeld dropHeld clearCard
     moveWrites anyLocked hasCard withCard withoutCard isWithin memberAt chainedSites membersAfter acrossRails railSites sitesOf startRow placeRows isHeld wordAt slotOf wordOf
     putSlot lockSlot endedByte endSlots tabulate members size
 listing = refl

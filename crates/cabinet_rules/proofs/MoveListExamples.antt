@@ -9,11 +9,12 @@ use Rattle.mask.specs.Masks.{areApart, byte, common, hasCard, isOneMore, isWith
 use Rattle.mask.specs.Placements.{acrossRails, chainedSites, memberAt, membersAfter, railSites, sitesOf}
 use Rattle.slot.specs.Blocks.{endSlots, endedByte, isHeld, lockSlot, putSlot, wordAt}
 use Rattle.slot.specs.Words.{slotOf, wordOf}
-use Rattle.method.specs.MoveList.{Entry, ListAnswer, anyMoveLocked, isOrigin, listAnswer, listed, moveList, movesOf, noList}
+use Rattle.method.specs.BlockMoves.{originBy, settledBy}
+use Rattle.method.specs.MoveList.{Entry, ListAnswer, anyMoveLocked, listAnswer, listed, moveList, movesOf, noList}
 use Rattle.method.specs.MoveList.{notListed}
 use Rattle.method.specs.Rules.{Call, act, answerOf, anyLocked, apply, begin, clearCard, commit, dropHeld, endHeld}
 use Rattle.method.specs.Rules.{fail, holders, isProtected, layBlock, lockHolders, look, lostOf, move, moveWrites, nextState}
-use Rattle.method.specs.Rules.{place, plan, refusal, settle, settled, settledAt, start, stopping, store, trail}
+use Rattle.method.specs.Rules.{place, plan, refusal, settle, settled, start, stopping, store, trail}
 use Rattle.control.specs.ControlBytes.{controlByte, controlOf}
 use Rattle.control_form.specs.ControlForm.{countOk, formOk, fourthOk, homeOk, isSafe, membersOk, partOk, zeroFieldsOk}
 use Rattle.cabinet_rules.specs.Cabinet.{cabinet, placeRows, startRow}
@@ -78,8 +79,8 @@ move-list-examples :
     ∷ (0 ∷ 0 ∷ [])
     ∷ (15 ∷ 4 ∷ [])
     ∷ []
-unfolding moves answered final answersBy afterAll answerOf nextState apply plan refusal act look trail holders lostOf stopping settled settledAt isProtected lockHolders layBlock
+unfolding moves answered final answersBy afterAll answerOf nextState apply plan refusal act look trail holders lostOf stopping settled settledBy isProtected lockHolders layBlock
     endHeld dropHeld clearCard moveWrites anyLocked hasCard withCard withoutCard isWithin memberAt chainedSites membersAfter acrossRails railSites sitesOf startRow placeRows
-    isHeld wordAt slotOf wordOf putSlot lockSlot endedByte endSlots tabulate members size isOrigin movesOf moveList anyMoveLocked listAnswer listAnswerOn formOk partOk countOk
+    isHeld wordAt slotOf wordOf putSlot lockSlot endedByte endSlots tabulate members size originBy movesOf moveList anyMoveLocked listAnswer listAnswerOn formOk partOk countOk
     zeroFieldsOk areApart membersOk isWithinEither fourthOk isOneMore isSafe common homeOk controlOf controlByte
 move-list-examples = refl

@@ -4,8 +4,9 @@ use mathlib.Core.Path.{_≡_, refl}
 use Rattle.lists.specs.Tabulate.{tabulate}
 use Rattle.mask.specs.Masks.{byte, hasCard, isWithin, size, withCard, withoutCard}
 use Rattle.slot.specs.Blocks.{isHeld}
+use Rattle.method.specs.BlockMoves.{settledBy}
 use Rattle.method.specs.Rules.{act, answerOf, apply, clearCard, dropHeld, fail, fit, isProtected, look, lostOf, nextState}
-use Rattle.method.specs.Rules.{place, plan, refusal, settle, settled, settledAt, state, stopping}
+use Rattle.method.specs.Rules.{place, plan, refusal, settle, settled, state, stopping}
 use Rattle.cabinet_rules.specs.Cabinet.{placeRows, startRow}
 use Rattle.cabinet_rules.proofs.Examples.{answersBy, final}
 
@@ -30,6 +31,6 @@ protection-examples :
     ∷ (8 ∷ [])
     ∷ (9 ∷ [])
     ∷ []
-unfolding final answersBy answerOf nextState apply plan refusal act look lostOf stopping settled settledAt isProtected clearCard dropHeld hasCard withCard withoutCard isWithin size
+unfolding final answersBy answerOf nextState apply plan refusal act look lostOf stopping settled settledBy isProtected clearCard dropHeld hasCard withCard withoutCard isWithin size
     startRow placeRows isHeld tabulate
 protection-examples = refl

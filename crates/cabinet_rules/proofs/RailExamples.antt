@@ -7,11 +7,12 @@ use Rattle.mask.specs.Masks.{byte, hasCard, isWithin, members, noCards, size, w
 use Rattle.mask.specs.Placements.{acrossRails, chainedSites, memberAt, membersAfter, railSites, sitesOf}
 use Rattle.slot.specs.Blocks.{endSlots, endedByte, isHeld, lockSlot, putSlot, wordAt}
 use Rattle.slot.specs.Words.{slotOf, wordOf}
+use Rattle.method.specs.BlockMoves.{settledBy}
 use Rattle.method.specs.Growth.{grownState, rulesAfter}
 use Rattle.method.specs.OneRecordList.{zeroed}
 use Rattle.method.specs.Rules.{Call, State, act, answerOf, anyLocked, apply, begin, clearCard, commit, dropHeld, endHeld}
 use Rattle.method.specs.Rules.{fail, get, holders, isProtected, layBlock, lockHolders, look, lostOf, move, moveWrites}
-use Rattle.method.specs.Rules.{nextState, place, plan, refusal, settle, settled, settledAt, start, stopping, store, trail}
+use Rattle.method.specs.Rules.{nextState, place, plan, refusal, settle, settled, start, stopping, store, trail}
 use Rattle.control.specs.ControlBytes.{controlByte}
 use Rattle.cabinet_rules.specs.Cabinet.{cabinet, placeRows, rulesOf, startRow}
 use Rattle.cabinet_rules.specs.Delivery.{belowWire, twoRails}
@@ -46,7 +47,7 @@ rail-examples :
     ∷ (0x80 ∷ [])
     ∷ (0 ∷ []) ∷ (15 ∷ 9 ∷ []) ∷ (6 ∷ 1 ∷ []) ∷ (15 ∷ 13 ∷ []) ∷ (6 ∷ 0 ∷ []) ∷ (7 ∷ 1 ∷ []) ∷ (0 ∷ []) ∷ (1 ∷ 4660 ∷ [])
     ∷ []
-unfolding older marks rulesAfter controlByte answersBy answerOf nextState apply plan refusal act look trail holders lostOf stopping settled settledAt isProtected lockHolders
+unfolding older marks rulesAfter controlByte answersBy answerOf nextState apply plan refusal act look trail holders lostOf stopping settled settledBy isProtected lockHolders
     layBlock endHeld dropHeld clearCard moveWrites anyLocked hasCard withCard withoutCard isWithin memberAt chainedSites membersAfter acrossRails railSites sitesOf startRow
     placeRows isHeld wordAt slotOf wordOf putSlot lockSlot endedByte endSlots tabulate members size
 rail-examples = refl

@@ -14,6 +14,7 @@ use Rattle.mask.specs.Placements.{memberAt, onOneRail, railOf, sitesOf}
 use Rattle.mask.proofs.Masks.{has-card}
 use Rattle.mask.proofs.SiteLaws.{Pair, pair-of, secondSite}
 use Rattle.slot.specs.Blocks.{isHeld}
+use Rattle.method.specs.BlockMoves.{settledBy}
 use Rattle.method.specs.Rules.{View, settled, settledAt}
 use Rattle.control.specs.ControlBytes.{Part}
 use Rattle.cabinet_rules.specs.Cabinet.{cabinet}
@@ -34,7 +35,7 @@ one-of-two held x y rail hx hy apart on-x on-y h = go (split (eqb (railOf x) rai
 module _ (k : Part) (v : View cabinet) (done : settled cabinet k v ≡ true) (b c : ℕ) (hb : b < blockCount) (hc : c < cardCount) (on : isHeld (v c b) ≡ true) where
   -- all newest sites of a block that is held hold it
   sites-hold : all (λ x. isHeld (v x b)) (sitesOf (k .newest) b) ≡ true
-  unfolding settled settledAt
+  unfolding settled settledBy
   sites-hold = and-r (elem c (sitesOf (k .newest) b)) (all (λ x. isHeld (v x b)) (sitesOf (k .newest) b))
       (imp-out (isHeld (v c b)) (elem c (sitesOf (k .newest) b) && all (λ x. isHeld (v x b)) (sitesOf (k .newest) b))
       (below-all cardCount (λ c. not (isHeld (v c b)) || (elem c (sitesOf (k .newest) b) && all (λ x. isHeld (v x b)) (sitesOf (k .newest) b))) c

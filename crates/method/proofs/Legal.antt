@@ -12,13 +12,14 @@ use Rattle.lists.specs.Tests.{elem}
 use Rattle.lists.proofs.Bools.{and-in, and-l, and-r, never-true, split, tf}
 use Rattle.lists.proofs.Counts.{all-below}
 use Rattle.lists.proofs.Lists.{elem-keep}
+use Rattle.method.specs.BlockMoves.{settledBy}
 use Rattle.method.specs.Changes.{Control, marked, replaced, startedBy}
 use Rattle.method.specs.ControlPart.{halted, isOpen}
 use Rattle.method.specs.OneRecordList.{isLast, observe}
 use Rattle.method.specs.Parameters.{Parameters}
 use Rattle.method.specs.Rules.{Call, Plan, View, absent, act, begin, clearCard, clearStamp, commit, delete, dropHeld, endHeld}
 use Rattle.method.specs.Rules.{fail, failPlan, fit, get, guarded, holders, layBlock, load, lockHolders, move, moveWrites, newestSites}
-use Rattle.method.specs.Rules.{ok, place, placed, plan, refusal, rollback, seenSlot, settle, settled, settledAt, stampAll, stamped, start, state, stopping}
+use Rattle.method.specs.Rules.{ok, place, placed, plan, refusal, rollback, seenSlot, settle, settled, stampAll, stamped, start, state, stopping}
 use Rattle.method.specs.Rules.{stops, store, storeWrites, trail, unplaced, unwritten, updated, visible, withdraw, writing}
 use Rattle.method.specs.Slots.{blank, isNone, readBy}
 use Rattle.method.proofs.Calls.Agreement.{Agrees}
@@ -72,7 +73,7 @@ module _ (P : Parameters) (L : Laws P) where
     kept-any c r = subst (λ n. isLast P (observe P c (guarded P n k (act P c k nothing) .answer)) ≡ false → Legal (guarded P n k (act P c k nothing) .after)) r (unfold plan in (kept c))
 
     none-held : settled P k nothing ≡ true
-    unfolding settled settledAt
+    unfolding settled settledBy
     none-held = all-below (blocks (k .setting)) _ (λ b h. all-below cards _ (λ c i. rw held-empty))
 
     runs-next : (c : Call P) (v : View P) → refusal P c k v ≡ 0 → Legal (act P c k v .after)

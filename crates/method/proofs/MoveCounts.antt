@@ -14,12 +14,14 @@ use Rattle.lists.proofs.Bools.{and-l, and-r, eqb-self, never-true, not-is, spli
 use Rattle.lists.proofs.Counts.{all-below, below-all, count-none}
 use Rattle.lists.proofs.Lists.{keep-in, map-in}
 use Rattle.lists.proofs.Numbers.{count-in, length-concat, length-keep, lowest-once, sum-keep, sum-mono}
+use Rattle.method.specs.BlockMoves.{originBy}
 use Rattle.method.specs.Changes.{Control}
-use Rattle.method.specs.MoveList.{Entry, entryAt, isLowest, isOrigin, isStray, moveList, movesOf}
+use Rattle.method.specs.MoveList.{Entry, entryAt, isOrigin, moveList, movesOf}
 use Rattle.method.specs.Parameters.{Parameters}
 use Rattle.method.specs.Rules.{View, newestSites, settled, settledAt}
 use Rattle.method.proofs.Invariant.{Form}
 use Rattle.method.proofs.Laws.{Laws}
+use Rattle.method.proofs.MoveList.{isLowest, isStray}
 use Rattle.method.proofs.MoveRuns.{movedAll, moves-drop, moves-idle, moves-other-block, settled-in-place, settled-same}
 use Rattle.method.proofs.Moves.{Idle}
 
@@ -59,7 +61,7 @@ module _ (P : Parameters) (L : Laws P) (k : Control P) (form : Form P k) (v : Vi
 
     -- so it has as many entries as cards that it moves from
     block-fewest : count cards (isOrigin P k v b) ≤ length (namedBy b l)
-    unfolding isOrigin
+    unfolding originBy
     block-fewest = go (split (settledAt P k v b)) (split (anyBelow cards (isStray P k v b)))
       where
         go : (settledAt P k v b ≡ true) ⊎ (settledAt P k v b ≡ false) → (anyBelow cards (isStray P k v b) ≡ true) ⊎ (anyBelow cards (isStray P k v b) ≡ false)

@@ -14,8 +14,9 @@ use Rattle.lists.proofs.Bools.{and-in, and-l, and-r, is-not, not-is, split, tf}
 use Rattle.lists.proofs.Counts.{all-below, all-fails, any-below, any-below-out, below-none}
 use Rattle.lists.proofs.Lists.{any-in, any-none, any-out, concat-in, concat-out, in-keep, in-map, keep-in, map-in}
 use Rattle.lists.proofs.Numbers.{below-in, in-below, lowest-below}
+use Rattle.method.specs.BlockMoves.{lowestBy, originBy, strayBy}
 use Rattle.method.specs.Changes.{Control}
-use Rattle.method.specs.MoveList.{Entry, LockedMove, anyMoveLocked, entryAt, isLowest, isOrigin, isStray}
+use Rattle.method.specs.MoveList.{Entry, LockedMove, anyMoveLocked, entryAt, isOrigin}
 use Rattle.method.specs.MoveList.{listAnswer, listed, moveList, movesOf, noList, notListed}
 use Rattle.method.specs.Parameters.{Parameters}
 use Rattle.method.specs.Rules.{View, anyLocked, newestSites, settled, settledAt}
@@ -27,6 +28,13 @@ use Rattle.method.proofs.MoveRuns.{moves-no-new, settled-in-place, sett
 use Rattle.method.proofs.Moves.{Complete, Idle, InPlace}
 
 -- ---- the entries of the list
+-- A card that holds the block and is none of its newest sites; the lowest that holds it.
+abbrev pub isStray : (P : Parameters) → Control P → View P → ℕ → ℕ → Bool
+isStray P k v b = strayBy (newestSites P k b) (λ x. Parameters.held P (v x b))
+
+abbrev pub isLowest : (P : Parameters) → View P → ℕ → ℕ → Bool
+isLowest P v b = lowestBy (λ x. Parameters.held P (v x b))
+
 module _ (P : Parameters) (k : Control P) (v : View P) where
   open Parameters P using (cards, blocks, held)
 
@@ -49,7 +57,7 @@ module _ (P : Parameters) (k : Control P) (v : View P) where
 
   -- A card that a block moves from holds it.
   pub origin-holds : (b c : ℕ) → isOrigin P k v b c ≡ true → held (v c b) ≡ true
-  unfolding isOrigin
+  unfolding originBy
   origin-holds b c e = go (anyBelow cards (isStray P k v b)) (and-r (not (settledAt P k v b)) (cond (anyBelow cards (isStray P k v b)) (isStray P k v b c) (isLowest P v b c)) e)
     where
       go : (t : Bool) → cond t (isStray P k v b c) (isLowest P v b c) ≡ true → held (v c b) ≡ true
@@ -58,7 +66,7 @@ module _ (P : Parameters) (k : Control P) (v : View P) where
 
   -- A block that moves from a card is not settled.
   pub origin-unsettled : (b c : ℕ) → isOrigin P k v b c ≡ true → settledAt P k v b ≡ false
-  unfolding isOrigin
+  unfolding originBy
   origin-unsettled b c e = not-is (settledAt P k v b) (and-l (not (settledAt P k v b)) (cond (anyBelow cards (isStray P k v b)) (isStray P k v b c) (isLowest P v b c)) e)
 
   -- Where the test of the list finds a lock, a block that must still move has it on a card that it would move from.
@@ -114,7 +122,7 @@ module _ (P : Parameters) (L : Laws P) where
 
     -- A block that is not settled has a card that it moves from.
     pub some-origin : (b : ℕ) → settledAt P k v b ≡ false → (c : ℕ) × (isOrigin P k v b c ≡ true)
-    unfolding isOrigin
+    unfolding originBy
     some-origin b n = go (split (anyBelow cards (isStray P k v b))) (split (anyBelow cards (λ x. held (v x b))))
       where
         go : (anyBelow cards (isStray P k v b) ≡ true) ⊎ (anyBelow cards (isStray P k v b) ≡ false) → (anyBelow cards (λ x. held (v x b)) ≡ true) ⊎ (anyBelow cards (λ x. held (v x b)) ≡ false)
@@ -125,7 +133,7 @@ module _ (P : Parameters) (L : Laws P) where
 
     -- A card that holds such a block and is none of its newest sites is one.
     stray-origin : (b x : ℕ) → settledAt P k v b ≡ false → held (v x b) ≡ true → elem x (newestSites P k b) ≡ false → isOrigin P k v b x ≡ true
-    unfolding isOrigin
+    unfolding originBy
     stray-origin b x n h q =
         let s : isStray P k v b x ≡ true = and-in (held (v x b)) (not (elem x (newestSites P k b))) h (is-not (elem x (newestSites P k b)) q) in
         let a : anyBelow cards (isStray P k v b) ≡ true = any-below cards (isStray P k v b) x (in-range x b h .0) s in

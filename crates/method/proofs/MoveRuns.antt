@@ -11,6 +11,7 @@ use Rattle.lists.specs.Tests.{In, all, allBelow, elem}
 use Rattle.lists.proofs.Bools.{and-in, and-l, and-r, imp-out, split, tf}
 use Rattle.lists.proofs.Counts.{all-below, below-all}
 use Rattle.lists.proofs.Lists.{all-in, all-out, elem-in, in-elem}
+use Rattle.method.specs.BlockMoves.{settledBy}
 use Rattle.method.specs.Changes.{Control}
 use Rattle.method.specs.MoveList.{Entry, asMove, entryAt}
 use Rattle.method.specs.Parameters.{Parameters}
@@ -119,7 +120,7 @@ module _ (P : Parameters) (L : Laws P) where
   -- ---- settle's condition, block by block
   -- It is met by a block where it is met at every card.
   pub in-place-settles : (k : Control P) (v : View P) (b : ℕ) → ((x : ℕ) → InPlace P L k v x b) → settledAt P k v b ≡ true
-  unfolding settledAt
+  unfolding settledBy
   in-place-settles k v b h = all-below cards (λ c. not (held (v c b)) || (elem c (newestSites P k b) && all (λ x. held (v x b)) (newestSites P k b))) (λ c l. go c (held (v c b)) refl)
     where
       go : (c : ℕ) (t : Bool) → held (v c b) ≡ t → (not t || (elem c (newestSites P k b) && all (λ x. held (v x b)) (newestSites P k b))) ≡ true
@@ -130,7 +131,7 @@ module _ (P : Parameters) (L : Laws P) where
 
   -- And where it is met by a block it is met at every card.
   pub settled-in-place : (k : Control P) (v : View P) → Idle P L k v → (b : ℕ) → settledAt P k v b ≡ true → (x : ℕ) → InPlace P L k v x b
-  unfolding settledAt
+  unfolding settledBy
   settled-in-place k v i b e x h = (
     and-l (elem x (newestSites P k b)) (all (λ y. held (v y b)) (newestSites P k b)) t,
     λ y q. all-out (λ z. held (v z b)) (newestSites P k b) y (and-r (elem x (newestSites P k b)) (all (λ y. held (v y b)) (newestSites P k b)) t) (elem-in y (newestSites P k b) q),
@@ -145,7 +146,7 @@ module _ (P : Parameters) (L : Laws P) where
 
   -- It looks at no other block.
   pub settled-same : (k : Control P) (v w : View P) (b : ℕ) → ((x : ℕ) → w x b ≡ v x b) → settledAt P k w b ≡ settledAt P k v b
-  unfolding settledAt
+  unfolding settledBy
   settled-same k v w b same =
       ap (λ (f : ℕ → Parameters.Block P). allBelow cards (λ c. not (held (f c)) || (elem c (newestSites P k b) && all (λ x. held (f x)) (newestSites P k b)))) (fun-ext same)
 

@@ -3,13 +3,14 @@
 use Prim.Native.Nat.{_<_, ℕ}
 use lib.Dec.{ltb}
 use lib.ListN.{length}
-use mathlib.Core.Bool.{Bool, _&&_, cond, not, true}
+use mathlib.Core.Bool.{Bool, cond, true}
 use mathlib.Core.List.{List, map}
 use mathlib.Core.Path.{_≡_}
-use Rattle.lists.specs.Tests.{any, anyBelow, concatMap, elem, keepIf, numbersBelow}
+use Rattle.lists.specs.Tests.{any, concatMap, keepIf, numbersBelow}
+use Rattle.method.specs.BlockMoves.{originBy}
 use Rattle.method.specs.Changes.{Control}
 use Rattle.method.specs.Parameters.{Parameters}
-use Rattle.method.specs.Rules.{Call, View, anyLocked, move, newestSites, settledAt}
+use Rattle.method.specs.Rules.{Call, View, anyLocked, move, newestSites}
 
 -- An entry of the list: the card that a block moves from, and the block.
 pub record Entry : Type 0 where
@@ -28,19 +29,9 @@ pub data ListAnswer : Type 0 where
 module _ (P : Parameters) where
   open Parameters P using (cards, blocks, held)
 
-  -- The card holds the block and is none of its newest sites.
-  abbrev pub isStray : Control P → View P → ℕ → ℕ → Bool
-  isStray k v b c = held (v c b) && not (elem c (newestSites P k b))
-
-  -- The card is the lowest that holds the block.
-  abbrev pub isLowest : View P → ℕ → ℕ → Bool
-  isLowest v b c = held (v c b) && not (anyBelow c (λ x. held (v x b)))
-
-  -- A block that must still move, since settle's condition is not met by it, moves from every card that is none of its
-  -- newest sites. Where only newest sites hold it one of them sends: the lowest.
-  unfoldable pub isOrigin : Control P → View P → ℕ → ℕ → Bool
-  isOrigin k v b c =
-      not (settledAt P k v b) && cond (anyBelow cards (isStray k v b)) (isStray k v b c) (isLowest v b c)
+  -- A block that must still move, since settle's condition is not met by it, moves from the card.
+  abbrev pub isOrigin : Control P → View P → ℕ → ℕ → Bool
+  isOrigin k v b = originBy cards (newestSites P k b) (λ c. held (v c b))
 
   -- The moves of a block, cards rising.
   unfoldable pub movesOf : Control P → View P → ℕ → List Entry

@@ -5,7 +5,8 @@ use lib.ListN.{length, take}
 use mathlib.Core.Bool.{Bool, _&&_, _||_, cond, false, not, true}
 use mathlib.Core.List.{List, [], _∷_}
 use mathlib.Core.Option.{Option, none, some}
-use Rattle.lists.specs.Tests.{all, allBelow, any, anyBelow, concatMap, count, countNot, elem, keepIf, sumBelow}
+use Rattle.lists.specs.Tests.{allBelow, any, anyBelow, concatMap, count, countNot, elem, keepIf, sumBelow}
+use Rattle.method.specs.BlockMoves.{settledBy}
 use Rattle.method.specs.Changes.{Control, addedBy, marked, replaced, startedBy}
 use Rattle.method.specs.ControlPart.{active, begunAt, closed, halted, isOpen, onlyNewest, opened}
 use Rattle.method.specs.ControlPart.{withCards}
@@ -154,10 +155,8 @@ module _ (P : Parameters) where
   anyLocked x = anyBelow slots (λ p. not (eqb ((slot x p) .lock) 0))
 
   -- A block held on a working card is held by all its newest sites and by no other working card.
-  unfoldable pub settledAt : Control P → View → ℕ → Bool
-  settledAt k v b =
-      allBelow cards (λ c. not (held (v c b))
-      || (elem c (newestSites k b) && all (λ x. held (v x b)) (newestSites k b)))
+  abbrev pub settledAt : Control P → View → ℕ → Bool
+  settledAt k v b = settledBy cards (newestSites k b) (λ c. held (v c b))
 
   unfoldable pub settled : Control P → View → Bool
   settled k v = allBelow (blocks (k .setting)) (settledAt k v)

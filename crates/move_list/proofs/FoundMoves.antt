@@ -19,7 +19,7 @@ use Rattle.mask.proofs.SiteTables.{MasksBelow}
 use Rattle.slot.specs.Blocks.{anyLocked as anyLockedIn, isHeld}
 use Rattle.method.specs.MoveList.{Entry, anyMoveLocked, entryAt, isOrigin, moveList, movesOf}
 use Rattle.method.proofs.MoveList.{origin-holds}
-use Rattle.method.specs.Rules.{anyLocked, newestSites, settledAt}
+use Rattle.method.specs.Rules.{anyLocked, newestSites}
 use Rattle.control.specs.Meaning.{meaning}
 use Rattle.control.specs.declared.Control.{Control}
 use Rattle.cabinet_rules.specs.Cabinet.{cabinet}
@@ -29,9 +29,9 @@ use Rattle.promise.specs.Given.{Given, viewOf}
 use Rattle.promise.proofs.View.{held-look, look-on}
 use Rattle.trail.specs.Trail.{holdsAt}
 use Rattle.trail.proofs.Holding.{holds-seen}
-use Rattle.reorganise.specs.Reorganise.{blockSettled}
+use Rattle.method.specs.BlockMoves.{settledBy}
 use Rattle.reorganise.proofs.Looks.{newest-are}
-use Rattle.move_list.specs.Origins.{originOf}
+use Rattle.method.specs.BlockMoves.{originBy}
 use Rattle.move_list.specs.Plans.{Finds, movesAt, movesIn}
 use Rattle.move_list.proofs.OriginMasks.{same-origins}
 
@@ -46,9 +46,9 @@ movesOfBlock g b = movesOf cabinet (controlIn g) (viewOf g) b
 module _ (k : Control) (g : Image) (is : Given k g) where
   -- the code's sites and holders are the rules'
   pub origin-is : (b sites : ℕ) → b < blockCount → AreMembers sites (isSite (meaning k .newest) b)
-      → (c : ℕ) → originOf (members (byte sites)) (holdsAt g (byte (k .working)) b) c ≡ origin g b c
-  unfolding originOf isOrigin settledAt blockSettled
-  origin-is b sites h s c = ap (λ (f : ℕ → Bool). originOf (members (byte sites)) f c) (fun-ext (λ x. holds-seen k g is b x h))
+      → (c : ℕ) → originBy cardCount (members (byte sites)) (holdsAt g (byte (k .working)) b) c ≡ origin g b c
+  unfolding originBy settledBy
+  origin-is b sites h s c = ap (λ (f : ℕ → Bool). originBy cardCount (members (byte sites)) f c) (fun-ext (λ x. holds-seen k g is b x h))
       ∙ same-origins (members (byte sites)) (newestSites cabinet (controlIn g) b) (λ x. elem-members (byte sites) x ∙ s x ∙ ap (elem x) (newest-are k g is b)) (λ x. isHeld (viewOf g x b)) c
 
 module _ (g : Image) (b from : ℕ) (hb : b < blockCount) (m : AreMembers from (origin g b)) where

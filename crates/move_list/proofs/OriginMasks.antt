@@ -13,25 +13,25 @@ use Rattle.lists.proofs.Counts.{below-all}
 use Rattle.image.specs.Layout.{cardCount}
 use Rattle.mask.specs.Masks.{AreMembers, Byte, byte, hasCard, members, withCard}
 use Rattle.mask.proofs.Masks.{elem-members, has-card, has-none, has-with}
-use Rattle.reorganise.specs.Reorganise.{blockSettled}
+use Rattle.method.specs.BlockMoves.{settledBy}
 use Rattle.reorganise.proofs.SettledMasks.{same-sites}
-use Rattle.move_list.specs.Origins.{lowestOf, originOf, strayOf}
+use Rattle.method.specs.BlockMoves.{lowestBy, originBy, strayBy}
 
 -- ---- the lowest card
 lowestIs : ℕ → Bool
 lowestIs n = eqb n 0
-    || (ltb (leadingZeros 8 n) cardCount && allBelow cardCount (λ c. Bool·beq (eqb c (leadingZeros 8 n)) (lowestOf (hasCard (byte n)) c)))
+    || (ltb (leadingZeros 8 n) cardCount && allBelow cardCount (λ c. Bool·beq (eqb c (leadingZeros 8 n)) (lowestBy (hasCard (byte n)) c)))
 
 test-lowest : allBelow 256 lowestIs ≡ true
 unfolding lowestIs leadingZeros hasCard
 test-lowest = refl
 
 -- no card of no card
-pub lowest-none : (n : ℕ) → n ≡ 0 → AreMembers 0 (lowestOf (hasCard (byte n)))
+pub lowest-none : (n : ℕ) → n ≡ 0 → AreMembers 0 (lowestBy (hasCard (byte n)))
 lowest-none n e c = has-none c ∙ sym (ap (λ (t : Bool). t && not (anyBelow c (hasCard (byte n)))) (ap (λ (k : ℕ). hasCard (byte k) c) e ∙ has-none c))
 
 module _ (n : ℕ) (h : n < 256) (some : n ≢ 0) where
-  found : (ltb (leadingZeros 8 n) cardCount && allBelow cardCount (λ c. Bool·beq (eqb c (leadingZeros 8 n)) (lowestOf (hasCard (byte n)) c))) ≡ true
+  found : (ltb (leadingZeros 8 n) cardCount && allBelow cardCount (λ c. Bool·beq (eqb c (leadingZeros 8 n)) (lowestBy (hasCard (byte n)) c))) ≡ true
   unfolding lowestIs
   found = rw (ne-eqb n 0 some) at (below-all 256 lowestIs n test-lowest h)
 
@@ -39,16 +39,16 @@ module _ (n : ℕ) (h : n < 256) (some : n ≢ 0) where
   lowest-card = ltb-true (leadingZeros 8 n) cardCount (and-l (ltb (leadingZeros 8 n) cardCount) _ found)
 
   -- the count of leading zeros
-  pub lowest-is : (r : ℕ) → byte r ≡ withCard (byte 0) (leadingZeros 8 n) → AreMembers r (lowestOf (hasCard (byte n)))
+  pub lowest-is : (r : ℕ) → byte r ≡ withCard (byte 0) (leadingZeros 8 n) → AreMembers r (lowestBy (hasCard (byte n)))
   lowest-is r e c = ap (λ (b : Byte). hasCard b c) e ∙ has-with (byte 0) (leadingZeros 8 n) c (lt-ltb (leadingZeros 8 n) cardCount lowest-card) ∙ go (split (ltb c cardCount))
     where
       none : (t : Bool) → (t || hasCard (byte 0) c) ≡ t
       none true = refl
       none false = has-none c
 
-      go : (ltb c cardCount ≡ true) ⊎ (ltb c cardCount ≡ false) → (eqb c (leadingZeros 8 n) || hasCard (byte 0) c) ≡ lowestOf (hasCard (byte n)) c
+      go : (ltb c cardCount ≡ true) ⊎ (ltb c cardCount ≡ false) → (eqb c (leadingZeros 8 n) || hasCard (byte 0) c) ≡ lowestBy (hasCard (byte n)) c
       go (inl i) = none (eqb c (leadingZeros 8 n))
-          ∙ same-bool _ _ (below-all cardCount (λ c. Bool·beq (eqb c (leadingZeros 8 n)) (lowestOf (hasCard (byte n)) c)) c
+          ∙ same-bool _ _ (below-all cardCount (λ c. Bool·beq (eqb c (leadingZeros 8 n)) (lowestBy (hasCard (byte n)) c)) c
           (and-r (ltb (leadingZeros 8 n) cardCount) _ found) (ltb-true c cardCount i))
       go (inr o) = none (eqb c (leadingZeros 8 n))
           ∙ ne-eqb c (leadingZeros 8 n) (λ p. tf (ltb c cardCount) (rw p (lt-ltb (leadingZeros 8 n) cardCount lowest-card)) o)
@@ -60,9 +60,9 @@ module _ (n : ℕ) (h : n < 256) (some : n ≢ 0) where
 
 -- ---- the cards that a block must move from
 -- They depend on which cards are its sites, and not on their order.
-pub same-origins : (l m : List ℕ) → ((c : ℕ) → elem c l ≡ elem c m) → (holds : ℕ → Bool) → (c : ℕ) → originOf l holds c ≡ originOf m holds c
-unfolding originOf
-same-origins l m e holds c = ap₂ (λ (t : Bool) (site : ℕ → Bool). not t && cond (anyBelow cardCount (λ x. holds x && not (site x))) (holds c && not (site c)) (lowestOf holds c))
+pub same-origins : (l m : List ℕ) → ((c : ℕ) → elem c l ≡ elem c m) → (holds : ℕ → Bool) → (c : ℕ) → originBy cardCount l holds c ≡ originBy cardCount m holds c
+unfolding originBy
+same-origins l m e holds c = ap₂ (λ (t : Bool) (site : ℕ → Bool). not t && cond (anyBelow cardCount (λ x. holds x && not (site x))) (holds c && not (site c)) (lowestBy holds c))
     (same-sites l m e holds) (fun-ext e)
 
 -- ---- the same of the masks of the cards that hold it and of its sites
@@ -78,25 +78,25 @@ module _ (held sites : ℕ) where
   siteCards = members (byte sites)
 
   -- none of a settled block
-  pub settled-stays : true ≡ blockSettled siteCards holds → AreMembers 0 (originOf siteCards holds)
-  unfolding originOf
+  pub settled-stays : true ≡ settledBy cardCount siteCards holds → AreMembers 0 (originBy cardCount siteCards holds)
+  unfolding originBy
   settled-stays e c = has-none c ∙ sym (rw (sym e))
 
-  module _ (unsettled : false ≡ blockSettled siteCards holds) (strays : ℕ) (small : strays < 256)
+  module _ (unsettled : false ≡ settledBy cardCount siteCards holds) (strays : ℕ) (small : strays < 256)
       (are : AreMembers strays (λ c. hasCard (byte held) c && not (hasCard (byte sites) c))) where
-    stray-mask : AreMembers strays (strayOf siteCards holds)
+    stray-mask : AreMembers strays (strayBy siteCards holds)
     stray-mask c = are c ∙ ap (λ (t : Bool). holds c && not t) (sym (elem-members (byte sites) c))
 
-    any-stray : anyBelow cardCount (strayOf siteCards holds) ≡ not (eqb strays 0)
+    any-stray : anyBelow cardCount (strayBy siteCards holds) ≡ not (eqb strays 0)
     any-stray = ap (anyBelow cardCount) (fun-ext (λ c. sym (stray-mask c)))
         ∙ same-bool _ _ (below-all 256 (λ n. Bool·beq (anyBelow cardCount (hasCard (byte n))) (not (eqb n 0))) strays test-some small)
 
     -- the strays, where there are some
-    pub strays-move : strays ≢ 0 → AreMembers strays (originOf siteCards holds)
-    unfolding originOf
+    pub strays-move : strays ≢ 0 → AreMembers strays (originBy cardCount siteCards holds)
+    unfolding originBy
     strays-move d c = stray-mask c ∙ sym (rw (sym unsettled, any-stray, ne-eqb strays 0 d))
 
     -- else the lowest that holds it
-    pub lowest-moves : strays ≡ 0 → (r : ℕ) → AreMembers r (lowestOf holds) → AreMembers r (originOf siteCards holds)
-    unfolding originOf
+    pub lowest-moves : strays ≡ 0 → (r : ℕ) → AreMembers r (lowestBy holds) → AreMembers r (originBy cardCount siteCards holds)
+    unfolding originBy
     lowest-moves z r e c = e c ∙ sym (rw (sym unsettled, any-stray, eq-eqb strays 0 z))

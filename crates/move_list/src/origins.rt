@@ -8,7 +8,7 @@ ghost use Rattle.mask.specs.Masks.{AreMembers, byte, hasCard, members};
 ghost use Rattle.slot.specs.Blocks.{anyLocked};
 ghost use Rattle.cabinet_rules.specs.Images.{blockIn};
 ghost use Rattle.trail.specs.Trail.{holdsAt};
-ghost use Rattle.move_list.specs.Origins.{lowestOf, originOf};
+ghost use Rattle.method.specs.BlockMoves.{lowestBy, originBy};
 use image::Block;
 use image::Card;
 use mask::Placement;
@@ -16,7 +16,7 @@ use reorganise::looking;
 
 // The lowest card of a mask alone; none of none.
 fn lowest(held: u8) -> u8
-    ensures { λ r. ⌜ AreMembers r (lowestOf (hasCard (byte held))) ⌝ }
+    ensures { λ r. ⌜ AreMembers r (lowestBy (hasCard (byte held))) ⌝ }
 {
     if held == 0 {
         return 0;
@@ -27,7 +27,7 @@ fn lowest(held: u8) -> u8
 
 // The cards that a block must move from, of the masks of the cards that hold it and of its sites.
 fn origins_of(held: u8, sites: u8) -> u8
-    ensures { λ r. ⌜ AreMembers r (originOf (members (byte sites)) (hasCard (byte held))) ⌝ }
+    ensures { λ r. ⌜ AreMembers r (originBy cardCount (members (byte sites)) (hasCard (byte held))) ⌝ }
 {
     if looking::block_settled(held, sites) {
         return 0;
@@ -43,7 +43,7 @@ fn origins_of(held: u8, sites: u8) -> u8
 pub fn of_block(image: &[u8], working: u8, sites: u8, block: Block) -> u8
     requires { ⌜ Whole (now image) × (block .0 < blockCount) ⌝ }
     ensures { λ r.
-        ⌜ AreMembers r (originOf (members (byte sites)) (holdsAt (now (image .entry)) (byte working) (block .0))) ⌝ }
+        ⌜ AreMembers r (originBy cardCount (members (byte sites)) (holdsAt (now (image .entry)) (byte working) (block .0))) ⌝ }
 {
     origins_of(trail::held_by(image, working, block), sites)
 }

@@ -15,11 +15,11 @@ use Rattle.image.specs.Layout.{cardCount}
 use Rattle.mask.specs.Masks.{byte, hasCard, members}
 use Rattle.mask.proofs.Masks.{elem-members, has-card, has-none, same-number}
 use Rattle.mask.proofs.SiteLaws.{some-card}
-use Rattle.reorganise.specs.Reorganise.{blockSettled, cardSettled}
+use Rattle.method.specs.BlockMoves.{settledBy, cardSettled}
 
 -- It depends on which cards are sites, and not on their order.
-pub same-sites : (l m : List ℕ) → ((c : ℕ) → elem c l ≡ elem c m) → (holds : ℕ → Bool) → blockSettled l holds ≡ blockSettled m holds
-unfolding blockSettled
+pub same-sites : (l m : List ℕ) → ((c : ℕ) → elem c l ≡ elem c m) → (holds : ℕ → Bool) → settledBy cardCount l holds ≡ settledBy cardCount m holds
+unfolding settledBy
 same-sites l m e holds = ap (allBelow cardCount) (fun-ext (λ c. ap₂ (λ (x y : Bool). not (holds c) || (x && y)) (e c) (all-same holds l m e)))
 
 module _ (held sites : ℕ) where
@@ -29,24 +29,24 @@ module _ (held sites : ℕ) where
   abbrev siteCards : List ℕ
   siteCards = members (byte sites)
 
-  settled-by : ((c : ℕ) → holds c ≡ true → (elem c siteCards && all holds siteCards) ≡ true) → blockSettled siteCards holds ≡ true
-  unfolding blockSettled
+  settled-by : ((c : ℕ) → holds c ≡ true → (elem c siteCards && all holds siteCards) ≡ true) → settledBy cardCount siteCards holds ≡ true
+  unfolding settledBy
   settled-by h = all-below cardCount (cardSettled siteCards holds) (λ c l. imp (holds c) _ (h c))
 
   -- no card holds it
-  pub held-by-none : held ≡ 0 → true ≡ blockSettled siteCards holds
+  pub held-by-none : held ≡ 0 → true ≡ settledBy cardCount siteCards holds
   held-by-none e = sym (settled-by (λ c h. tf (holds c) h (ap (λ (n : ℕ). hasCard (byte n) c) e ∙ has-none c)))
 
   -- some do: they are the sites
-  pub held-by-some : held < 256 → sites < 256 → held ≢ 0 → eqb held sites ≡ blockSettled siteCards holds
-  unfolding blockSettled
-  held-by-some hh hs some = same-test (eqb held sites) (blockSettled siteCards holds) (λ e. up (eqb-true held sites e)) (λ e. eq-eqb held sites (down e))
+  pub held-by-some : held < 256 → sites < 256 → held ≢ 0 → eqb held sites ≡ settledBy cardCount siteCards holds
+  unfolding settledBy
+  held-by-some hh hs some = same-test (eqb held sites) (settledBy cardCount siteCards holds) (λ e. up (eqb-true held sites e)) (λ e. eq-eqb held sites (down e))
     where
-      up : held ≡ sites → blockSettled siteCards holds ≡ true
+      up : held ≡ sites → settledBy cardCount siteCards holds ≡ true
       up e = settled-by (λ c h. and-in (elem c siteCards) (all holds siteCards) (elem-members (byte sites) c ∙ ap (λ (n : ℕ). hasCard (byte n) c) (sym e) ∙ h)
           (all-in holds siteCards (λ x i. ap (λ (n : ℕ). hasCard (byte n) x) e ∙ sym (elem-members (byte sites) x) ∙ in-elem x siteCards i)))
 
-      down : blockSettled siteCards holds ≡ true → held ≡ sites
+      down : settledBy cardCount siteCards holds ≡ true → held ≡ sites
       down e = sym (mod-eq-of-lt hh) ∙ same-number (byte held) (byte sites) (λ c. same-test (holds c) (hasCard (byte sites) c) (site c) (holder c)) ∙ mod-eq-of-lt hs
         where
           at : (c : ℕ) → holds c ≡ true → (elem c siteCards && all holds siteCards) ≡ true

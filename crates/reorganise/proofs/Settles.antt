@@ -5,7 +5,7 @@ use mathlib.Core.Bool.{Bool, false, not, true}
 use mathlib.Core.Path.{_∙_, _≡_, ap, fun-ext, sym}
 use Rattle.lists.specs.Tests.{allBelow, elem}
 use Rattle.lists.proofs.Counts.{all-fails}
-use Rattle.image.specs.Layout.{blockCount}
+use Rattle.image.specs.Layout.{cardCount, blockCount}
 use Rattle.mask.specs.Masks.{AreMembers, byte, hasCard, members}
 use Rattle.mask.specs.SiteTable.{isSite}
 use Rattle.mask.proofs.Masks.{elem-members}
@@ -22,7 +22,7 @@ use Rattle.promise.specs.Given.{Given, rowsOn, viewOf}
 use Rattle.promise.proofs.SharedRows.{stopped-is}
 use Rattle.trail.specs.Trail.{holdsAt}
 use Rattle.trail.proofs.Holding.{holds-seen}
-use Rattle.reorganise.specs.Reorganise.{blockSettled}
+use Rattle.method.specs.BlockMoves.{settledBy}
 use Rattle.reorganise.proofs.Looks.{newest-are}
 use Rattle.reorganise.proofs.SettledMasks.{same-sites}
 
@@ -37,9 +37,9 @@ all-pass k v n e h = sym (ap (λ (m : ℕ). allBelow m (settledAt cabinet k v)) 
 
 module _ (k : Control) (g : Image) (is : Given k g) where
   pub block-is-settled : (b held sites : ℕ) → b < blockCount → AreMembers held (holdsAt g (byte (k .working)) b) → AreMembers sites (isSite (meaning k .newest) b)
-      → blockSettled (members (byte sites)) (hasCard (byte held)) ≡ settledAt cabinet (controlIn g) (viewOf g) b
-  unfolding settledAt blockSettled
-  block-is-settled b held sites h m s = ap (blockSettled (members (byte sites))) (fun-ext (λ c. m c ∙ holds-seen k g is b c h))
+      → settledBy cardCount (members (byte sites)) (hasCard (byte held)) ≡ settledAt cabinet (controlIn g) (viewOf g) b
+  unfolding settledBy
+  block-is-settled b held sites h m s = ap (settledBy cardCount (members (byte sites))) (fun-ext (λ c. m c ∙ holds-seen k g is b c h))
       ∙ same-sites (members (byte sites)) (newestSites cabinet (controlIn g) b) (λ c. elem-members (byte sites) c ∙ s c ∙ ap (elem c) (newest-are k g is b)) (λ c. isHeld (viewOf g c b))
 
   pub settle-rows : row 4 (k .stopped) (row 13 (not (settled cabinet (controlIn g) (viewOf g))) 0) ≡ rowsOn settle g

@@ -2,12 +2,12 @@
 ghost use mathlib.Core.Path.{_≡_};
 ghost use Prim.Native.Nat.{_<_};
 ghost use Rattle.lists.specs.Tests.{elem};
-ghost use Rattle.image.specs.Layout.{blockCount};
+ghost use Rattle.image.specs.Layout.{blockCount, cardCount};
 ghost use Rattle.mask.specs.Placements.{AreSites, Usable, siteList};
 ghost use Rattle.mask.specs.Masks.{byte, hasCard, members};
 ghost use Rattle.mask.specs.SiteTable.{SitesIn};
 ghost use Rattle.control.specs.Meaning.{Counted, meaning};
-ghost use Rattle.reorganise.specs.Reorganise.{blockSettled};
+ghost use Rattle.method.specs.BlockMoves.{settledBy};
 use control::Control;
 use image::Block;
 use image::Card;
@@ -37,7 +37,7 @@ pub fn newest_table(k: Control) -> SiteTable
 // Whether a block held on some card is held by all its sites and by no other card: of the masks of the cards that hold
 // it and of its sites.
 pub fn block_settled(held: u8, sites: u8) -> bool
-    ensures { λ r. ⌜ r ≡ blockSettled (members (byte sites)) (hasCard (byte held)) ⌝ }
+    ensures { λ r. ⌜ r ≡ settledBy cardCount (members (byte sites)) (hasCard (byte held)) ⌝ }
 {
     if held == 0 {
         return true;

@@ -12,13 +12,14 @@ use Rattle.lists.specs.Tests.{all, elem}
 use Rattle.lists.proofs.Bools.{and-l, and-r, not-not-is, split, tf}
 use Rattle.lists.proofs.Counts.{below-all}
 use Rattle.lists.proofs.Lists.{all-out, elem-in}
+use Rattle.method.specs.BlockMoves.{settledBy}
 use Rattle.method.specs.Changes.{Control}
 use Rattle.method.specs.ControlPart.{active, onlyNewest}
 use Rattle.method.specs.OneRecordList.{isZero, plainObserve, quiet}
 use Rattle.method.specs.Parameters.{Parameters}
 use Rattle.method.specs.PlainList.{plainAct, plainNext, plainRefusal, unlessRefused}
 use Rattle.method.specs.Rules.{View, act, guarded, load, move, moveWrites, newestSites, plan, refusal, refused}
-use Rattle.method.specs.Rules.{row, settle, settled, settledAt, state, updated}
+use Rattle.method.specs.Rules.{row, settle, settled, state, updated}
 use Rattle.method.specs.Slots.{Slot}
 use Rattle.method.proofs.Calls.Agreement.{Agrees, Good, idle-any, idle-still, plainOf}
 use Rattle.method.proofs.ControlForms.{form-settled}
@@ -98,7 +99,7 @@ module _ (P : Parameters) (L : Laws P) where
 
     -- ---- settle
     settle-inv : settled P k v ≡ true → Invariant P (onlyNewest k) (nextView P L (onlyNewest k) (λ c b. none) v) records
-    unfolding settled settledAt nextView
+    unfolding settled settledBy nextView
     settle-inv yes-settled = rw (same-view P L k v records i) record {
       form = form-settled P L k (i .form);
       idle = i .idle;

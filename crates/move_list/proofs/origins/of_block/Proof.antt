@@ -3,8 +3,9 @@ use Prim.Native.Nat.{ℕ}
 use borrow.Author.Needs.{needs}
 use mathlib.Core.Bool.{Bool}
 use mathlib.Core.Path.{_∙_, ap, fun-ext}
+use Rattle.image.specs.Layout.{cardCount}
 use Rattle.mask.specs.Masks.{byte, members}
-use Rattle.move_list.specs.Origins.{originOf}
+use Rattle.method.specs.BlockMoves.{originBy}
 use Rattle.move_list.proofs.origins.of_block.Statement.{statement}
 use Rattle.move_list.proofs.origins.of_block.Tie as tie
 
@@ -18,7 +19,7 @@ returns : tie.Need-returns
 returns c =
     let h = c .before in
     let a = h .before .before .args in
-    (λ x. c .origins-of .ensures x ∙ ap (λ (holds : ℕ → Bool). originOf (members (byte (a .sites))) holds x) (fun-ext (h .held-by .ensures)))
+    (λ x. c .origins-of .ensures x ∙ ap (λ (holds : ℕ → Bool). originBy cardCount (members (byte (a .sites))) holds x) (fun-ext (h .held-by .ensures)))
 
 pub of-block-spec : {M : Type 1} → statement M
 of-block-spec = tie.close (tie.spec held-by-requires origins-of-requires returns)

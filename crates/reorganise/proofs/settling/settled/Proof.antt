@@ -17,7 +17,7 @@ use Rattle.cabinet_rules.specs.Images.{controlIn}
 use Rattle.promise.specs.Given.{viewOf}
 use Rattle.promise.proofs.Finish.{given-whole}
 use Rattle.trail.specs.Trail.{holdsAt}
-use Rattle.reorganise.specs.Reorganise.{blockSettled}
+use Rattle.method.specs.BlockMoves.{settledBy}
 use Rattle.reorganise.proofs.Looks.{newest-at, newest-counts, newest-fits, newest-next, newest-usable}
 use Rattle.reorganise.proofs.Settles.{all-pass, block-is-settled, some-fails}
 use Rattle.reorganise.proofs.settling.settled.Statement.{statement}
@@ -67,7 +67,7 @@ module _ (l : tie.At-loop Inv-loop μ-loop) (b place : ℕ) (at : place ≡ b % 
 
   -- what is found of a block there is what the rules say of it
   found : (held : ℕ) (r : Bool) → b < blockCount → AreMembers held (holdsAt (l .before .before .before .args .image .now) (byte (l .before .before .before .args .k .working)) b)
-      → r ≡ blockSettled (members (byte (getD (l .before .newest-table .result .masks) place 0))) (hasCard (byte held))
+      → r ≡ settledBy cardCount (members (byte (getD (l .before .newest-table .result .masks) place 0))) (hasCard (byte held))
       → r ≡ settledAt cabinet (controlIn (l .before .before .before .args .image .now)) (viewOf (l .before .before .before .args .image .now)) b
   found held r h m e =
       let s = l .before .before .before in
