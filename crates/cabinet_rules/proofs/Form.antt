@@ -1,7 +1,6 @@
 -- The control form holds of the control part of a store that runs with the invariant, and of the one that a stopping fail leaves. Assumes nothing.
 use Prim.Native.Nat.{_+_, _<_, _≤_, suc, zero, ℕ}
 use borrow.Author.Tests.{eq-eqb, le-leb, le-ltb, leb-false, leb-true, lt-leb, lt-ltb, ltb-false, ltb-true}
-use denote.Steps.{opens}
 use lib.Dec.{eqb, leb, ltb}
 use lib.ListN.{length}
 use mathlib.Core.Bool.{_&&_, _||_, false, not, true}
@@ -14,7 +13,7 @@ use Rattle.lists.specs.Tests.{In, anyBelow, count}
 use Rattle.lists.proofs.Bools.{and-in, imp, is-not, nand, or-l, or-r, split, tf}
 use Rattle.lists.proofs.Counts.{all-below, any-below}
 use Rattle.lists.proofs.Lists.{all-in}
-use Rattle.image.specs.Layout.{cardCount, controlSize, copyCount, tranBound}
+use Rattle.image.specs.Layout.{cardCount, controlSize, copyCount, mostActive, mostPlaced, tranBound}
 use Rattle.mask.specs.Masks.{Byte, areApart, common, hasCard, isOneMore, isWithin, isWithinEither, size, withCard}
 use Rattle.mask.specs.Placements.{Placement}
 use Rattle.mask.proofs.Masks.{has-card, has-with, same-number}
@@ -26,7 +25,7 @@ use Rattle.method.proofs.Stopped.{Rests}
 use Rattle.control.specs.ControlBytes.{Part, controlByte, countIn}
 use Rattle.control_form.specs.ControlForm.{countOk, formOk, fourthOk, homeOk, isSafe, membersOk, partOk, zeroFieldsOk}
 use Rattle.control_form.proofs.RoundTrip.{read-control, read-count}
-use Rattle.cabinet_rules.specs.Cabinet.{cabinet, mostPlaced, tranOk}
+use Rattle.cabinet_rules.specs.Cabinet.{cabinet, tranOk}
 use Rattle.cabinet_rules.specs.Delivery.{belowWire, current}
 use Rattle.cabinet_rules.proofs.Lawful.{ControlLaws, DeliveryLaws, lawful, no-stamps, ruleLaws}
 
@@ -59,7 +58,7 @@ fourth-ok d newest j (a ∷ b ∷ []) c h = refl
 fourth-ok d newest j (a ∷ b ∷ p ∷ q ∷ l) c h = refl
 fourth-ok d newest j (a ∷ b ∷ p ∷ []) c h = go j c h
   where
-    go : (j : ℕ) → Chain cabinet lawful d j newest (p ∷ b ∷ a ∷ []) → 4 ≤ mostPlaced + j → anyBelow cardCount
+    go : (j : ℕ) → Chain cabinet lawful d j newest (p ∷ b ∷ a ∷ []) → mostActive ≤ mostPlaced + j → anyBelow cardCount
         (λ x. hasCard d x && (not (hasCard (newest .mask) x) && eqb (p .mask .0) (withCard (newest .mask) x .0))) ≡ true
     go zero c h = absurd (omega arith)
     go (suc j) c h =
@@ -72,7 +71,7 @@ fourth-ok d newest j (a ∷ b ∷ p ∷ []) c h = go j c h
 
 module _ (k : Part) (f : Form cabinet k) (u : ControlInv cabinet lawful k) where
   -- never more than four placements
-  pub few-older : length (k .older) ≤ mostPlaced
+  pub few-older : suc (length (k .older)) ≤ mostActive
   few-older = let h : suc (length (k .older)) < mostPlaced + copyCount = bounded cabinet lawful k f (u .room) in omega arith
 
   -- members are working or failed
@@ -101,7 +100,7 @@ module _ (k : Part) (f : Form cabinet k) (u : ControlInv cabinet lawful k) where
 
 -- ---- a store that has stopped
 module _ (k : Part) (r : Rests cabinet lawful k) where
-  few-resting : length (k .older) ≤ mostPlaced
+  few-resting : suc (length (k .older)) ≤ mostActive
   few-resting = let h : suc (length (k .older)) < mostPlaced + copyCount = r .bound in omega arith
 
   known-resting : (p : Placement) (c : ℕ) → In p (active k) → hasCard (p .mask) c ≡ true → (hasCard (k .working) c || hasCard (k .failed) c) ≡ true
@@ -123,12 +122,12 @@ module _ (k : Part) (r : Rests cabinet lawful k) where
       (all-below tranBound (λ t. homeOk (k .stopped) (k .working) (k .home t)) (λ t h. rw (r .shut t)))))))
 
 -- ---- bytes that were written from a control part that meets the clauses have the control form
-pub written-form : (k : Part) → length (k .older) ≤ mostPlaced → ((t : ℕ) → isOpen k t ≡ true → tranOk t ≡ true) → ((t h : ℕ) → k .home t ≡ some h → h < cardCount)
+pub written-form : (k : Part) → suc (length (k .older)) ≤ mostActive → ((t : ℕ) → isOpen k t ≡ true → tranOk t ≡ true) → ((t h : ℕ) → k .home t ≡ some h → h < cardCount)
     → partOk k ≡ true → (g : ℕ → ℕ) → ((n : ℕ) → n < controlSize → g n ≡ controlByte k n) → formOk g ≡ true
 unfolding formOk countOk zeroFieldsOk
 written-form k few opens homes part g wrote =
     let n : countIn (g 0) ≡ suc (length (k .older)) = read-count k few opens homes g wrote in
-    and-in _ _ (and-in _ _ (le-leb 1 (countIn (g 0)) (omega arith)) (le-leb (countIn (g 0)) 4 (omega arith)))
+    and-in _ _ (and-in _ _ (le-leb 1 (countIn (g 0)) (omega arith)) (le-leb (countIn (g 0)) mostActive (omega arith)))
     (rw (read-control k few opens homes g wrote) (and-in _ _ (all-below controlSize _ (λ i h. eq-eqb (g i) (controlByte k i) (wrote i h))) part))
 
 -- ---- the same of a control part in which no transaction is open

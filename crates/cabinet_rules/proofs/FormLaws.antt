@@ -14,9 +14,9 @@ use Rattle.lists.specs.Tests.{In, elem}
 use Rattle.lists.proofs.Bools.{and-l, and-r, imp-out, not-is, split, tf}
 use Rattle.lists.proofs.Counts.{any-below-out, below-all}
 use Rattle.lists.proofs.Lists.{all-out, in-right}
-use Rattle.image.specs.Layout.{blockCount, cardCount, tranBound}
+use Rattle.image.specs.Layout.{blockCount, cardCount, leastMembers, mostActive, mostPlaced, tranBound}
 use Rattle.mask.specs.Masks.{Byte, areApart, hasCard, isOneMore, isWithin, isWithinEither, size, withCard}
-use Rattle.mask.specs.Placements.{Placement, Usable, leastMembers, sitesOf}
+use Rattle.mask.specs.Placements.{Placement, Usable, sitesOf}
 use Rattle.mask.proofs.Masks.{byte-path, has-card, has-with}
 use Rattle.mask.proofs.SiteLaws.{site-member}
 use Rattle.method.specs.ControlPart.{active, isOpen}
@@ -25,11 +25,12 @@ use Rattle.method.specs.Slots.{isSome}
 use Rattle.method.proofs.Capacity.{Chain, ControlInv, OneMore}
 use Rattle.method.proofs.Invariant.{Form}
 use Rattle.method.proofs.Stopped.{Rests}
-use Rattle.control.specs.ControlBytes.{controlOf, countIn, homeIn, placementAt}
+use Rattle.control.specs.ControlBytes.{controlOf, countIn, homeIn, placementAt, homeAt}
 use Rattle.control_form.specs.ControlForm.{controlForm, fourthOk, homeOk, isSafe, membersOk}
 use Rattle.control_form.proofs.RoundTrip.{Clauses, form-count, form-part, part-clauses}
 use Rattle.control.proofs.Struct.{length-placements}
-use Rattle.cabinet_rules.specs.Cabinet.{cabinet, mostPlaced, tranOk}
+use Rattle.control.proofs.Fields.{shown-home}
+use Rattle.cabinet_rules.specs.Cabinet.{cabinet, tranOk}
 use Rattle.cabinet_rules.specs.Images.{Image, controlIn}
 use Rattle.cabinet_rules.proofs.Form.{safe-is}
 use Rattle.cabinet_rules.proofs.Lawful.{lawful}
@@ -146,10 +147,9 @@ module _ (g : Image) (form : controlForm g ≡ true) where
 
   -- an open transaction has its number in range
   open-in-range : (t : ℕ) → isOpen (controlIn g) t ≡ true → tranOk t ≡ true
-  unfolding controlOf
-  open-in-range t o = go (tranOk t) o
+  open-in-range t o = go (tranOk t) (sym (ap isSome (shown-home (λ n. getD g n 0) t)) ∙ o)
     where
-      go : (r : Bool) → isSome (cond r (homeIn (getD g (t + 7) 0)) none) ≡ true → r ≡ true
+      go : (r : Bool) → isSome (cond r (homeIn (getD g (homeAt t) 0)) none) ≡ true → r ≡ true
       go true e = refl
       go false e = tf false e refl
 
@@ -164,7 +164,7 @@ module _ (g : Image) (form : controlForm g ≡ true) where
   unfolding controlOf
   few-older =
       let n : ℕ = countIn (getD g 0 0) in
-      let c : n ≤ 4 = form-count (λ n. getD g n 0) form .1 in
+      let c : n ≤ mostActive = form-count (λ n. getD g n 0) form .1 in
       let l : length (controlIn g .older) ≡ n - 1 = length-placements (placementAt (λ n. getD g n 0)) (n - 1) in
       omega (arith, c, l)
 

@@ -9,7 +9,7 @@ use mathlib.Core.Logic.{_⊎_, inl, inr}
 use mathlib.Core.Path.{_∙_, _≡_, ap, refl, subst, sym}
 use native.Mathlib.Omega.{arith}
 use Rattle.lists.proofs.Bools.{and-l, and-r, split}
-use Rattle.image.specs.Layout.{Layout, blockCount, cardCount, controlSize, copyCount, imageSizeOf}
+use Rattle.image.specs.Layout.{Layout, blockCount, cardCount, controlSize, copyCount, imageSizeOf, mostPlaced}
 use Rattle.slot.specs.Blocks.{emptyBlock}
 use Rattle.method.specs.Growth.{Growth, grownControl, grownPlain, grownState}
 use Rattle.method.specs.Parameters.{Parameters}
@@ -19,7 +19,7 @@ use Rattle.method.proofs.Growth.{Keeps, legal-grown, ready-grown}
 use Rattle.method.proofs.Laws.{Laws}
 use Rattle.method.proofs.Legal.{Legal}
 use Rattle.method.proofs.Run.{Ready}
-use Rattle.cabinet_rules.specs.Cabinet.{mostPlaced, rulesOf}
+use Rattle.cabinet_rules.specs.Cabinet.{rulesOf}
 use Rattle.cabinet_rules.specs.Delivery.{Delivery, PartOf}
 use Rattle.cabinet_rules.specs.GoesOn.{BegunBy, ImageLeftBy, LeftBy, StoreBy, Succession, TakenOver, growthOf}
 use Rattle.cabinet_rules.specs.Images.{Image, blockBy, controlBy, endBy, isThere, stateBy, tailBy}

@@ -11,10 +11,9 @@ use native.Mathlib.Omega.{arith}
 use Rattle.lists.specs.Tests.{distinct, elem}
 use Rattle.lists.proofs.Bools.{and-r, imp-out, nor-l, nor-r, not-not-is}
 use Rattle.lists.proofs.Counts.{below-all}
-use Rattle.image.specs.Layout.{blockCount, cardCount, controlSize, copyCount, recordCount, slotCount, tranBound}
+use Rattle.image.specs.Layout.{blockCount, cardCount, controlSize, copyCount, leastMembers, mostPlaced, recordCount, slotCount, tranBound}
 use Rattle.image.specs.Layout.{valueBound}
 use Rattle.mask.specs.Masks.{Byte, hasCard, isWithin, size, withoutCard}
-use Rattle.mask.specs.Placements.{leastMembers}
 use Rattle.mask.proofs.Masks.{has-card, has-none, has-with, has-without}
 use Rattle.mask.proofs.SiteLaws.{site-count, site-distinct, site-member}
 use Rattle.slot.specs.Blocks.{BlockBytes, endSlots, freshBlock, lockSlot, slotAt}
@@ -31,8 +30,8 @@ use Rattle.method.proofs.Laws.{Laws}
 use Rattle.method.proofs.Legal.{Legal}
 use Rattle.method.proofs.Refusals.{row-clear}
 use Rattle.method.proofs.Stopped.{Rests}
-use Rattle.cabinet_rules.specs.Cabinet.{cabinet, mostPlaced, placeRows, rulesOf, slotSeen, startRow, tranOk}
-use Rattle.control.specs.ControlBytes.{Setting}
+use Rattle.cabinet_rules.specs.Cabinet.{cabinet, placeRows, rulesOf, slotSeen, startRow, tranOk}
+use Rattle.control.specs.ControlBytes.{Setting, Serial}
 use Rattle.cabinet_rules.specs.Delivery.{Delivery, PartOf, againByRails, belowWire, brokenWire, current, railed, storable}
 
 -- ---- slots, as the rules see them

@@ -4,7 +4,7 @@ use lib.Dec.{leb, ltb}
 use lib.ListN.{length}
 use mathlib.Core.Bool.{Bool, _||_, not}
 use Rattle.mask.specs.Masks.{Byte, isWithin, size}
-use Rattle.mask.specs.Placements.{leastMembers}
+use Rattle.image.specs.Layout.{leastMembers, mostPlaced}
 use Rattle.method.specs.ControlPart.{ControlPart, active}
 use Rattle.method.specs.Rules.{row}
 use Rattle.control.specs.ControlBytes.{Setting}
@@ -12,10 +12,6 @@ use Rattle.control.specs.ControlBytes.{Setting}
 -- start, place: under two members is 9.
 unfoldable pub startRow : Byte → ℕ
 startRow m = row 9 (ltb (size m) leastMembers) 0
-
--- The most active placements that a place call leaves.
-abbrev pub mostPlaced : ℕ
-mostPlaced = 3
 
 -- place: also a member not working, or the newest mask again, is 9; with three or more active it is 10.
 unfoldable pub placeRows : {A S : Type 0} → (A → Byte → Bool) → ControlPart Byte A Setting S → Byte → ℕ

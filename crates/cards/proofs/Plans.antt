@@ -4,9 +4,9 @@ use borrow.Author.Tests.{eq-eqb, le-ltb, lt-ltb, ne-eqb}
 use lib.ListN.{length}
 use mathlib.Core.Option.{some}
 use mathlib.Core.Path.{_∙_, _≡_, refl}
-use Rattle.image.specs.Layout.{Whole, imageSize}
+use Rattle.image.specs.Layout.{Whole, imageSize, leastMembers}
 use Rattle.mask.specs.Masks.{Byte, size, withCard, withoutCard}
-use Rattle.mask.specs.Placements.{fromMask, leastMembers}
+use Rattle.mask.specs.Placements.{fromMask}
 use Rattle.slot.specs.Blocks.{emptyBlock}
 use Rattle.method.specs.Changes.{startedBy}
 use Rattle.method.specs.ControlPart.{added, withCards}

@@ -9,9 +9,8 @@ use mathlib.Core.List.{[], _++_, _∷_}
 use mathlib.Core.Path.{_∙_, _≡_, ap, ap₂, refl, sym}
 use native.Mathlib.Omega.{arith}
 use Rattle.lists.specs.Tests.{anyBelow}
-use Rattle.image.specs.Layout.{cardCount, tranBound}
+use Rattle.image.specs.Layout.{cardCount, leastMembers, mostPlaced, tranBound}
 use Rattle.mask.specs.Masks.{Byte, byte, hasCard, isWithin, size}
-use Rattle.mask.specs.Placements.{leastMembers}
 use Rattle.method.specs.ControlPart.{begunAt}
 use Rattle.method.specs.PlainList.{noBlocks}
 use Rattle.method.specs.Rules.{Call, View, fit, inActive, place, refusal, row, withdraw}
@@ -19,7 +18,7 @@ use Rattle.method.proofs.Refusals.{row-3, row-clear}
 use Rattle.control.specs.ControlBytes.{Part, placementsIn}
 use Rattle.control.specs.Meaning.{Counted, meaning, placementIn}
 use Rattle.control.proofs.Struct.{active-is, length-placements}
-use Rattle.cabinet_rules.specs.Cabinet.{cabinet, mostPlaced, placeRows}
+use Rattle.cabinet_rules.specs.Cabinet.{cabinet, placeRows}
 use Rattle.cabinet_rules.specs.Delivery.{againByRails}
 use Rattle.promise.specs.Rows.{cardRows}
 use Rattle.promise.proofs.SharedRows.{card-accepted}

@@ -17,9 +17,6 @@ use image::Card;
 use mask::Placement;
 use promise::Answer;
 
-// The most active placements that a place call leaves.
-const MOST_PLACED: u8 = 3;
-
 // All tables are zeroed.
 fn clear_tables(image: &mut [u8])
     requires { ⌜ Whole (now image) ⌝ }
@@ -164,7 +161,7 @@ fn place_refusal(k: Control, mask: u8) -> u8
     if is_again(k.newest(), mask) {
         return 9;
     }
-    if k.count >= MOST_PLACED {
+    if k.count >= image::MOST_PLACED {
         return 10;
     }
     0

@@ -12,19 +12,19 @@ use lib.ListN.{getD, length, set, replicate}
 use lib.Seq.{getD-set-same, getD-set-other}
 use borrow.Author.Tests.{eqb-true, eqb-false, eq-eqb, ne-eqb, ltb-true, lt-ltb, le-leb}
 use Rattle.lists.proofs.Bools.{tf, split, and-l, and-r, and-in, or-r}
-use Rattle.image.specs.Layout.{cardCount, tranBound}
+use Rattle.image.specs.Layout.{cardCount, mostActive, tranBound, tranCount}
 use Rattle.mask.specs.Masks.{Byte, bitOf, byte, noCards}
 use Rattle.mask.specs.Placements.{fromMask, meant}
 use Rattle.mask.specs.declared.Placement.{Placement as Struct}
 use Rattle.method.specs.ControlPart.{active, isCard, begunAt, started, withHome, withCards, withPlacements, opened, closed, added, onlyNewest, halted}
-use Rattle.control.specs.ControlBytes.{homeIn, homeOf, keptAs, markIn, placementsIn}
-use Rattle.control.specs.Meaning.{placementIn, meaning, mostActive, keptHome, Counted, Is}
+use Rattle.control.specs.ControlBytes.{field, fieldBound, homeIn, homeOf, keptAs, markIn, openBit, placementsIn}
+use Rattle.control.specs.Meaning.{placementIn, meaning, keptHome, Counted, Is}
 use Rattle.control.specs.declared.Control.{Control}
 use Rattle.control.proofs.Marks.{mark-first, mark-set}
 use Rattle.control.proofs.Struct.{placements-same, active-is}
 
 -- The homes after a store at transaction t's place.
-home-set : (l : List ℕ) (t v : ℕ) → length l ≡ 15 → 0 < t → t < tranBound → (x : ℕ)
+home-set : (l : List ℕ) (t v : ℕ) → length l ≡ tranCount → 0 < t → t < tranBound → (x : ℕ)
     → homeOf x (getD (set l (t - 1) v) (x - 1) 0) ≡ cond (eqb x t) (homeIn v) (homeOf x (getD l (x - 1) 0))
 home-set l t v n lo hi x = go (split (ltb 0 x && ltb x tranBound)) (split (eqb x t))
   where
@@ -65,24 +65,24 @@ module _ (k : Control) (w : Counted k) where
   unfolding meaning
   homes-are l f same = record { counted = record { some = w .some; few = w .few }; means = ap (withHome (meaning k)) (fun-ext same) }
 
-  pub open-is : (t h : ℕ) → length (k .homes) ≡ 15 → 0 < t → t < tranBound → h < cardCount
-      → Is (withHomes k (set (k .homes) (t - 1) (128 + h * 16))) (opened (meaning k) t h)
+  pub open-is : (t h : ℕ) → length (k .homes) ≡ tranCount → 0 < t → t < tranBound → h < cardCount
+      → Is (withHomes k (set (k .homes) (t - 1) (openBit + h * field))) (opened (meaning k) t h)
   unfolding meaning
-  open-is t h n lo hi b = homes-are (set (k .homes) (t - 1) (128 + h * 16)) _
-      (λ x. home-set (k .homes) t (128 + h * 16) n lo hi x ∙ ap (λ (o : Option ℕ). cond (eqb x t) o (homeOf x (getD (k .homes) (x - 1) 0))) home)
+  open-is t h n lo hi b = homes-are (set (k .homes) (t - 1) (openBit + h * field)) _
+      (λ x. home-set (k .homes) t (openBit + h * field) n lo hi x ∙ ap (λ (o : Option ℕ). cond (eqb x t) o (homeOf x (getD (k .homes) (x - 1) 0))) home)
     where
-      same : (128 + h * 16) / 16 % 8 ≡ h
+      same : (openBit + h * field) / field % fieldBound ≡ h
       same = omega arith
 
-      home : homeIn (128 + h * 16) ≡ some h
-      home = rw (le-leb 128 (128 + h * 16) (omega arith)) (ap {B = Option ℕ} some same)
+      home : homeIn (openBit + h * field) ≡ some h
+      home = rw (le-leb openBit (openBit + h * field) (omega arith)) (ap {B = Option ℕ} some same)
 
-  pub close-is : (t : ℕ) → length (k .homes) ≡ 15 → 0 < t → t < tranBound
+  pub close-is : (t : ℕ) → length (k .homes) ≡ tranCount → 0 < t → t < tranBound
       → Is (withHomes k (set (k .homes) (t - 1) 0)) (closed (meaning k) (λ x. eqb x t))
   unfolding meaning
   close-is t n lo hi = homes-are (set (k .homes) (t - 1) 0) _ (λ x. home-set (k .homes) t 0 n lo hi x)
 
-  pub close-at-is : (c : ℕ) (l : List ℕ) → ((j : ℕ) → j < 15 → getD l j 0 ≡ keptHome c (getD (k .homes) j 0))
+  pub close-at-is : (c : ℕ) (l : List ℕ) → ((j : ℕ) → j < tranCount → getD l j 0 ≡ keptHome c (getD (k .homes) j 0))
       → Is (withHomes k l) (closed (meaning k) (begunAt (meaning k) c))
   unfolding meaning
   close-at-is c l same = homes-are l _ (λ t. go t (split (ltb 0 t && ltb t tranBound)))
@@ -95,7 +95,7 @@ module _ (k : Control) (w : Counted k) where
           let b : t < tranBound = ltb-true t tranBound (and-r (ltb 0 t) (ltb t tranBound) e) in
           rw e (ap homeIn (same (t - 1) (omega arith)) ∙ kept-home c (getD (k .homes) (t - 1) 0))
 
-  pub add-is : (m : ℕ) → length (k .masks) ≡ 4 → k .count < mostActive
+  pub add-is : (m : ℕ) → length (k .masks) ≡ mostActive → k .count < mostActive
       → Is (record {
         stopped = k .stopped;
         count = k .count + 1;
@@ -151,20 +151,20 @@ at-zeros zero i = refl
 at-zeros (suc n) zero = refl
 at-zeros (suc n) (suc i) = at-zeros n i
 
-none-open : (t : ℕ) → homeOf t (getD (replicate 15 0) (t - 1) 0) ≡ none
-none-open t = rw (at-zeros 15 (t - 1)) (go (ltb 0 t && ltb t tranBound))
+none-open : (t : ℕ) → homeOf t (getD (replicate tranCount 0) (t - 1) 0) ≡ none
+none-open t = rw (at-zeros tranCount (t - 1)) (go (ltb 0 t && ltb t tranBound))
   where
     go : (b : Bool) → cond b (homeIn 0) none ≡ none
     go true = refl
     go false = refl
 
 pub halt-is : (k : Control) → Counted k
-    → Is (record { stopped = true; count = k .count; masks = k .masks; working = k .working; failed = k .failed; marks = k .marks; homes = replicate 15 0 }) (halted (meaning k))
+    → Is (record { stopped = true; count = k .count; masks = k .masks; working = k .working; failed = k .failed; marks = k .marks; homes = replicate tranCount 0 }) (halted (meaning k))
 unfolding meaning
 halt-is k w = record { counted = record { some = w .some; few = w .few }; means = ap (withHome (halted (meaning k))) (fun-ext none-open) }
 
 pub start-is : (m : ℕ)
-    → Is (record { stopped = false; count = 1; masks = m ∷ 0 ∷ 0 ∷ 0 ∷ []; working = m; failed = 0; marks = 128; homes = replicate 15 0 })
+    → Is (record { stopped = false; count = 1; masks = m ∷ 0 ∷ 0 ∷ 0 ∷ []; working = m; failed = 0; marks = bitOf 0; homes = replicate tranCount 0 })
     (started (fromMask (byte m)) (byte m) noCards tt tt)
 unfolding meaning
 start-is m = record {

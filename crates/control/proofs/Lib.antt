@@ -1,4 +1,5 @@
 pub mod Marks
+pub mod Fields
 pub mod Struct
 pub mod Changes
 pub mod Written

@@ -1,4 +1,4 @@
--- The marks of byte 7: what is written of them and what is read. Facts of one byte are computed, all cases. Assumes nothing.
+-- The byte of the marks: what is written of them and what is read. Facts of one byte are computed, all cases. Assumes nothing.
 use mathlib.Core.Path.{_≡_, refl, ap, _∙_}
 use mathlib.Core.Bool.{Bool, true, false, not, _&&_, _||_, cond, Bool·beq}
 use mathlib.Core.List.{List, [], _∷_}
@@ -11,13 +11,13 @@ use borrow.Author.Tests.{eqb-true, lt-ltb}
 use Rattle.lists.specs.Tests.{allBelow}
 use Rattle.lists.proofs.Bools.{and-l, and-r, same-bool}
 use Rattle.lists.proofs.Counts.{at-pair}
-use Rattle.image.specs.Layout.{cardCount}
+use Rattle.image.specs.Layout.{cardCount, mostActive}
 use Rattle.mask.specs.Masks.{bitOf}
 use Rattle.mask.specs.Placements.{Placement}
 use Rattle.mask.proofs.Masks.{bit-or, has-byte, hasBit}
 use Rattle.mask.proofs.Sets.{bit-is}
 use Rattle.control.specs.ControlBytes.{keptAs, markIn, marksFrom, placementsIn}
-use Rattle.control.specs.Meaning.{bitsFrom, mostActive}
+use Rattle.control.specs.Meaning.{bitsFrom}
 
 -- ---- one mark
 -- The code's test of a bit.
@@ -43,14 +43,14 @@ mark-first false = refl
 marksKept : ℕ → ℕ → Bool
 marksKept n m = eqb (bitAnd m (255 - bitsFrom n)) (marksFrom 0 (placementsIn (λ i. keptAs i 0 m) n))
 
-test-kept : allBelow 5 (λ n. allBelow 256 (marksKept n)) ≡ true
+test-kept : allBelow (suc mostActive) (λ n. allBelow 256 (marksKept n)) ≡ true
 unfolding marksKept bitsFrom
 test-kept = refl
 
 pub marks-kept : (f : ℕ → ℕ) (n m : ℕ) → n ≤ mostActive → m < 256
     → bitAnd m (255 - bitsFrom n) ≡ marksFrom 0 (placementsIn (λ i. keptAs i (f i) m) n)
 unfolding marksKept
-marks-kept f n m few h = eqb-true _ _ (at-pair marksKept 5 256 test-kept n (omega arith) m h) ∙ same n few
+marks-kept f n m few h = eqb-true _ _ (at-pair marksKept (suc mostActive) 256 test-kept n (omega arith) m h) ∙ same n few
   where
     same : (n : ℕ) → n ≤ mostActive → marksFrom 0 (placementsIn (λ i. keptAs i 0 m) n) ≡ marksFrom 0 (placementsIn (λ i. keptAs i (f i) m) n)
     same zero few = refl
@@ -64,13 +64,13 @@ marks-kept f n m few h = eqb-true _ _ (at-pair marksKept 5 256 test-kept n (omeg
 marksClean : ℕ → ℕ → Bool
 marksClean n m = Bool·beq (eqb m (bitAnd m (255 - bitsFrom n))) (eqb (bitAnd m (bitsFrom n)) 0)
 
-test-clean : allBelow 5 (λ n. allBelow 256 (marksClean n)) ≡ true
+test-clean : allBelow (suc mostActive) (λ n. allBelow 256 (marksClean n)) ≡ true
 unfolding marksClean bitsFrom
 test-clean = refl
 
 pub marks-clean : (n m : ℕ) → n ≤ mostActive → m < 256 → eqb m (bitAnd m (255 - bitsFrom n)) ≡ eqb (bitAnd m (bitsFrom n)) 0
 unfolding marksClean
-marks-clean n m few h = same-bool _ _ (at-pair marksClean 5 256 test-clean n (omega arith) m h)
+marks-clean n m few h = same-bool _ _ (at-pair marksClean (suc mostActive) 256 test-clean n (omega arith) m h)
 
 -- ---- what is written is read again
 either : (f : Bool → Bool) → (f true && f false) ≡ true → (b : Bool) → f b ≡ true

@@ -3,15 +3,15 @@ use mathlib.Core.Path.{_≡_}
 use mathlib.Core.Bool.{cond}
 use mathlib.Core.List.{List, [], _∷_}
 use Prim.Native.Nat.{ℕ, zero, suc, _-_, _/_, _^_, _≤_}
-use lib.Dec.{leb}
 use lib.ListN.{getD}
 use Rattle.lists.specs.Tabulate.{tabulate}
 use Rattle.lists.specs.Segments.{splice}
-use Rattle.image.specs.Layout.{controlSize}
+use Rattle.image.specs.Layout.{controlSize, mostActive, tranCount}
 use Rattle.mask.specs.Masks.{byte}
 use Rattle.mask.specs.Placements.{Placement}
 use Rattle.method.specs.ControlPart.{isCard}
-use Rattle.control.specs.ControlBytes.{Part, controlByte, countIn, homeIn, homeOf, keptAs, placementsIn}
+use Rattle.control.specs.ControlBytes.{Part, controlByte, countIn, failedAt, homeIn, homeOf, homesAt, keptAs}
+use Rattle.control.specs.ControlBytes.{marksAt, masksAt, placementsIn, stoppedIn, workingAt}
 use Rattle.control.specs.declared.Control.{Control}
 
 -- The n elements of l from index a, written out.
@@ -22,13 +22,13 @@ rowOf l a (suc n) = getD l a 0 ∷ rowOf l (suc a) n
 -- The struct that is read off bytes.
 unfoldable pub structOf : List ℕ → Control
 structOf l = record {
-  stopped = leb 128 (getD l 0 0);
+  stopped = stoppedIn (getD l 0 0);
   count = countIn (getD l 0 0);
-  masks = rowOf l 1 4;
-  working = getD l 5 0;
-  failed = getD l 6 0;
-  marks = getD l 7 0;
-  homes = rowOf l 8 15;
+  masks = rowOf l masksAt mostActive;
+  working = getD l workingAt 0;
+  failed = getD l failedAt 0;
+  marks = getD l marksAt 0;
+  homes = rowOf l homesAt tranCount;
 }
 
 -- Mask i, and the mask of the newest placement: the last that counts.
@@ -57,9 +57,6 @@ meaning k = record {
 }
 
 -- The count is 1 to 4.
-abbrev pub mostActive : ℕ
-mostActive = 4
-
 pub record Counted (k : Control) : Type 0 where
   pub some : 1 ≤ k .count
   pub few : k .count ≤ mostActive

@@ -7,21 +7,22 @@ ghost use lib.Bits.{bitAnd};
 ghost use lib.Dec.{ltb};
 ghost use lib.ListN.{getD, length};
 ghost use Rattle.lists.specs.Tabulate.{tabulate};
-ghost use Rattle.image.specs.Layout.{cardCount, controlSize, tranBound};
+ghost use Rattle.image.specs.Layout.{cardCount, controlSize, tranBound, mostActive};
 ghost use Rattle.mask.specs.Placements.{meant};
 ghost use Rattle.method.specs.ControlPart.{isCard, isOpen};
 ghost use Rattle.method.specs.Slots.{isSome};
-ghost use Rattle.control.specs.ControlBytes.{homeByte, controlByte, controlOf, homeIn, placementAt};
-ghost use Rattle.control.specs.Meaning.{structOf, meaning, mostActive, bitsFrom, Counted, putControl};
+ghost use Rattle.control.specs.ControlBytes.{controlByte, controlOf, homeByte, homeIn, placementAt, stoppedBit};
+ghost use Rattle.control.specs.Meaning.{structOf, meaning, bitsFrom, Counted, putControl};
 use crate::Control;
 use crate::FIRST_MARK;
 use crate::MASK_COUNT;
-use crate::TRAN_COUNT;
 use image::Card;
+use image::TRAN_COUNT;
 use image::Tran;
 use mask::Placement;
 
-// Where the fields start; byte 0 has the stopped bit and the count. Those from HOMES_END on are zero.
+// Where the fields start, each behind the one before; the first byte, 0, has the stopped bit and the count. Those from
+// HOMES_END on are zero.
 pub const MASKS_AT: usize = 1;
 
 pub const WORKING_AT: usize = MASKS_AT + MASK_COUNT;
@@ -37,7 +38,7 @@ pub const HOMES_END: usize = HOMES_AT + TRAN_COUNT;
 // All bits of the marks.
 const ALL_MARKS: u8 = 0xff;
 
-// The highest bit: stopped in byte 0, open in a transaction's byte.
+// The highest bit: stopped in the first byte, open in a transaction's byte.
 pub const STOPPED: u8 = 0x80;
 
 pub const OPEN: u8 = 0x80;
@@ -55,7 +56,8 @@ fn home_of(b: u8) -> u8
     b / FIELD % FIELD_BOUND
 }
 
-// Whether a transaction's byte is open with this home card: its upper four bits are 8 and the card.
+// Whether a transaction's byte is open with this home card: its upper four bits are the field's bound and the
+// card.
 pub fn is_home(b: u8, card: Card) -> bool
     ensures { λ r. ⌜ r ≡ isCard (homeIn b) (card .0) ⌝ }
 {
@@ -72,9 +74,9 @@ fn home_byte(b: u8) -> u8
     0
 }
 
-// The stopped bit of byte 0.
+// The stopped bit of the first byte.
 fn stopped_bit(stopped: bool) -> u8
-    ensures { λ r. ⌜ r ≡ cond stopped 128 0 ⌝ }
+    ensures { λ r. ⌜ r ≡ cond stopped stoppedBit 0 ⌝ }
 {
     if stopped {
         return STOPPED;
@@ -149,26 +151,31 @@ pub fn decode(s: &[u8]) -> Control
     Control {
         stopped: s[0] >= STOPPED,
         count: s[0] / FIELD % FIELD_BOUND,
-        masks: [s[1], s[2], s[3], s[4]],
-        working: s[5],
-        failed: s[6],
-        marks: s[7],
+        masks: [
+            s[MASKS_AT],
+            s[MASKS_AT + 1],
+            s[MASKS_AT + 2],
+            s[MASKS_AT + 3],
+        ],
+        working: s[WORKING_AT],
+        failed: s[FAILED_AT],
+        marks: s[MARKS_AT],
         homes: [
-            s[8],
-            s[9],
-            s[10],
-            s[11],
-            s[12],
-            s[13],
-            s[14],
-            s[15],
-            s[16],
-            s[17],
-            s[18],
-            s[19],
-            s[20],
-            s[21],
-            s[22],
+            s[HOMES_AT],
+            s[HOMES_AT + 1],
+            s[HOMES_AT + 2],
+            s[HOMES_AT + 3],
+            s[HOMES_AT + 4],
+            s[HOMES_AT + 5],
+            s[HOMES_AT + 6],
+            s[HOMES_AT + 7],
+            s[HOMES_AT + 8],
+            s[HOMES_AT + 9],
+            s[HOMES_AT + 10],
+            s[HOMES_AT + 11],
+            s[HOMES_AT + 12],
+            s[HOMES_AT + 13],
+            s[HOMES_AT + 14],
         ],
     }
 }

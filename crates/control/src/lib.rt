@@ -3,7 +3,7 @@ ghost use mathlib.Core.Path.{_≡_};
 ghost use mathlib.Core.Bool.{cond};
 ghost use Prim.Native.Nat.{_+_, _-_, _<_};
 ghost use lib.Dec.{eqb};
-ghost use Rattle.image.specs.Layout.{cardCount, tranBound};
+ghost use Rattle.image.specs.Layout.{cardCount, tranBound, mostActive};
 ghost use Rattle.mask.specs.Masks.{bitOf, byte, noCards, withCard, withoutCard};
 ghost use Rattle.mask.specs.Placements.{fromMask, meant};
 ghost use Rattle.method.specs.ControlPart.{
@@ -17,23 +17,19 @@ ghost use Rattle.method.specs.ControlPart.{
   halted,
   isOpen,
 };
-ghost use Rattle.control.specs.Meaning.{meaning, mostActive, newestMask, placementIn, keptHome, Counted, Is};
+ghost use Rattle.control.specs.Meaning.{meaning, newestMask, placementIn, keptHome, Counted, Is};
 
 pub mod codec;
 
 use codec::FIELD;
 use codec::OPEN;
 use image::Card;
+use image::TRAN_COUNT;
 use image::Tran;
 use mask::Placement;
 
-// Transactions 1 to 15.
-pub const TRAN_COUNT: usize = 15;
-
-// At most four active placements, and as many masks.
-pub const MOST_ACTIVE: u8 = 4;
-
-pub const MASK_COUNT: usize = MOST_ACTIVE as usize;
+// As many masks as active placements at most.
+pub const MASK_COUNT: usize = image::MOST_ACTIVE as usize;
 
 // The mark of the oldest placement: the highest bit.
 pub const FIRST_MARK: u8 = 0x80;

@@ -10,7 +10,7 @@ use borrow.Author.Tests.{not-true, not-false, lt-ltb, leb-true}
 use Rattle.lists.specs.Tests.{all, allBelow}
 use Rattle.lists.proofs.Bools.{and-l, and-r}
 use Rattle.lists.proofs.Counts.{all-fails}
-use Rattle.image.specs.Layout.{tranBound}
+use Rattle.image.specs.Layout.{mostActive, tranBound}
 use Rattle.mask.specs.Masks.{Byte, byte, isOneMore}
 use Rattle.mask.specs.Placements.{Placement}
 use Rattle.method.specs.ControlPart.{active}
@@ -61,8 +61,8 @@ module _ (f : Byte → Byte → Placement → Bool) (k : Control) (w : Counted k
   every-passed i e h = sym (every-is ∙ ap (λ (n : ℕ). allBelow n (placementTest f k)) e ∙ h)
 
 -- ---- the fourth mask
-fourth-by : (d : Byte) (f : ℕ → Placement) (n : ℕ) → 1 ≤ n → n ≤ 4
-    → cond (eqb n 4) (isOneMore d (f 3 .mask) (f 2 .mask)) true ≡ fourthOk d (f (n - 1)) (placementsIn f (n - 1))
+fourth-by : (d : Byte) (f : ℕ → Placement) (n : ℕ) → 1 ≤ n → n ≤ mostActive
+    → cond (eqb n mostActive) (isOneMore d (f (mostActive - 1) .mask) (f (mostActive - 2) .mask)) true ≡ fourthOk d (f (n - 1)) (placementsIn f (n - 1))
 unfolding fourthOk
 fourth-by d f zero lo hi = absurd (omega arith)
 fourth-by d f (suc zero) lo hi = refl
@@ -72,7 +72,7 @@ fourth-by d f (suc (suc (suc (suc zero)))) lo hi = refl
 fourth-by d f (suc (suc (suc (suc (suc n))))) lo hi = absurd (omega arith)
 
 pub fourth-is : (k : Control) → Counted k
-    → cond (eqb (k .count) 4) (isOneMore (byte (k .failed)) (byte (maskIn k 3)) (byte (maskIn k 2))) true ≡ fourthOk (meaning k .failed) (meaning k .newest) (meaning k .older)
+    → cond (eqb (k .count) mostActive) (isOneMore (byte (k .failed)) (byte (maskIn k (mostActive - 1))) (byte (maskIn k (mostActive - 2)))) true ≡ fourthOk (meaning k .failed) (meaning k .newest) (meaning k .older)
 unfolding meaning
 fourth-is k w = fourth-by (byte (k .failed)) (placementIn k) (k .count) (w .some) (w .few)
 
@@ -107,8 +107,8 @@ module _ (l : List ℕ) (k : Control) (e : k ≡ structOf l) where
   unfolding countOk
   count-counted h =
       let n : ℕ = countIn (getD l 0 0) in
-      let lo : 1 ≤ n = leb-true 1 n (and-l (leb 1 n) (leb n 4) h) in
-      let hi : n ≤ 4 = leb-true n 4 (and-r (leb 1 n) (leb n 4) h) in
+      let lo : 1 ≤ n = leb-true 1 n (and-l (leb 1 n) (leb n mostActive) h) in
+      let hi : n ≤ mostActive = leb-true n mostActive (and-r (leb 1 n) (leb n mostActive) h) in
       record { some = omega (arith, count-is); few = omega (arith, count-is) }
 
   -- Where the form holds, the struct is the control part that the bytes show.

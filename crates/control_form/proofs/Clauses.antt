@@ -6,25 +6,26 @@ use mathlib.Core.List.{List}
 use Prim.Native.Nat.{ℕ, zero, suc, _+_, _-_, _%_, _≤_, _<_}
 use native.Mathlib.Omega.{arith}
 use lib.Bits.{bitAnd}
-use lib.Dec.{eqb, leb}
+use lib.Dec.{eqb}
 use lib.ListN.{getD}
 use borrow.Author.Tests.{eqb-true}
 use Rattle.lists.specs.Tests.{all, allBelow}
 use Rattle.lists.proofs.Bools.{and-r, same-test}
 use Rattle.lists.proofs.Counts.{all-below, below-all, below-ext}
-use Rattle.image.specs.Layout.{controlSize, tranBound}
+use Rattle.image.specs.Layout.{controlSize, mostActive, tranBound, tranCount}
 use Rattle.mask.specs.Masks.{Byte, areApart, byte, isWithin}
 use Rattle.mask.specs.Placements.{Placement, fromMask}
 use Rattle.method.specs.ControlPart.{active}
-use Rattle.control.specs.ControlBytes.{controlOf, countIn, homeByte, homeIn}
-use Rattle.control.specs.Meaning.{Counted, bitsFrom, meaning, structOf}
+use Rattle.control.specs.ControlBytes.{controlOf, countIn, failedAt, field, homeByte, homeIn}
+use Rattle.control.specs.ControlBytes.{homesAt, homesEnd, lastMaskAt, marksAt, masksAt, stoppedIn, workingAt}
+use Rattle.control.specs.Meaning.{Counted, bitsFrom, meaning, rowOf, structOf}
 use Rattle.control.proofs.Struct.{at-row}
 use Rattle.control_form.specs.ControlForm.{countOk, formOk, fourthOk, homeOk, isSafe, membersOk, partOk, zeroFieldsOk}
 use Rattle.control_form.specs.Reading.{allFrom, fourthIn, homeFitsAt, homeOkAt, isHomeAt, isZeroAt}
-use Rattle.control_form.specs.Reading.{maskTest, newestIn, otherZeros, placementOk}
+use Rattle.control_form.specs.Reading.{maskTest, newestIn, otherZeros, placementOk, wordsEnd}
 use Rattle.control_form.proofs.Checks.{count-counted, every-is, fourth-is, home-none, home-test, homeTest, homes-are}
 use Rattle.control_form.proofs.Checks.{means-is, placementTest}
-use Rattle.control_form.proofs.Ranges.{all-from, from-all, from-both}
+use Rattle.control_form.proofs.Ranges.{from-all, from-both, from-each}
 use Rattle.control_form.proofs.ZeroFields.{zero-fields-by}
 
 -- ---- the order of the clauses
@@ -81,19 +82,19 @@ pair (suc n) stopped f g = step (f n) (g n) (allBelow n f) (allBelow n g) stoppe
 
 -- The clauses in the code's order, from each of them on.
 abbrev pub fromNewest : List ℕ → Bool
-fromNewest l = newestIn l && allFrom 8 24 (homeFitsAt l)
+fromNewest l = newestIn l && allFrom homesAt wordsEnd (homeFitsAt l)
 
 abbrev pub fromFourth : List ℕ → Bool
 fromFourth l = fourthIn l && fromNewest l
 
 abbrev pub placementsIn : List ℕ → Bool
-placementsIn l = allBelow (countIn (getD l 0 0)) (maskTest (placementOk (leb 128 (getD l 0 0))) l)
+placementsIn l = allBelow (countIn (getD l 0 0)) (maskTest (placementOk (stoppedIn (getD l 0 0))) l)
 
 abbrev pub fromPlacements : List ℕ → Bool
 fromPlacements l = placementsIn l && fromFourth l
 
 abbrev pub apartIn : List ℕ → Bool
-apartIn l = areApart (byte (getD l 5 0)) (byte (getD l 6 0))
+apartIn l = areApart (byte (getD l workingAt 0)) (byte (getD l failedAt 0))
 
 abbrev pub fromApart : List ℕ → Bool
 fromApart l = apartIn l && fromPlacements l
@@ -121,7 +122,7 @@ module _ (l : List ℕ) (ok : countOk (λ n. getD l n 0) ≡ true) (bytes : (n :
   w : Counted (structOf l)
   w = count-counted l (structOf l) refl ok
 
-  counted : countIn (getD l 0 0) ≤ 4
+  counted : countIn (getD l 0 0) ≤ mostActive
   counted = unfold structOf in (w .few)
 
   masks-are : (f : Byte → Byte → Placement → Bool) → ((a b : Byte) (p : Placement) → f a b p ≡ f a b (fromMask (p .mask)))
@@ -130,7 +131,7 @@ module _ (l : List ℕ) (ok : countOk (λ n. getD l n 0) ≡ true) (bytes : (n :
     where
       one : (i : ℕ) → i < countIn (getD l 0 0) → placementTest f (structOf l) i ≡ maskTest f l i
       one i h = unfold placementTest maskTest structOf in
-          (only (byte (getD l 5 0)) (byte (getD l 6 0)) _ ∙ ap (λ (m : ℕ). f (byte (getD l 5 0)) (byte (getD l 6 0)) (fromMask (byte m))) (at-row l 4 1 i (omega (arith, counted))))
+          (only (byte (getD l workingAt 0)) (byte (getD l failedAt 0)) _ ∙ ap (λ (m : ℕ). f (byte (getD l workingAt 0)) (byte (getD l failedAt 0)) (fromMask (byte m))) (at-row l mostActive masksAt i (omega (arith, counted))))
 
   -- members, safety: only the mask of a placement matters
   only-members : (a b : Byte) (p : Placement) → membersOk a b p ≡ membersOk a b (fromMask (p .mask))
@@ -149,82 +150,82 @@ module _ (l : List ℕ) (ok : countOk (λ n. getD l n 0) ≡ true) (bytes : (n :
   unfolding newestIn meaning structOf
   newest-as =
       let some : 1 ≤ countIn (getD l 0 0) = w .some in
-      let at : 1 + (countIn (getD l 0 0) - 1) ≡ countIn (getD l 0 0) = omega arith in
-      ap (λ (m : ℕ). leb 128 (getD l 0 0) || isWithin (byte m) (byte (getD l 5 0)))
-      (at-row l 4 1 (countIn (getD l 0 0) - 1) (omega (arith, counted)) ∙ ap (λ (j : ℕ). getD l j 0) at)
+      let at : masksAt + (countIn (getD l 0 0) - 1) ≡ lastMaskAt (countIn (getD l 0 0)) = omega arith in
+      ap (λ (m : ℕ). stoppedIn (getD l 0 0) || isWithin (byte m) (byte (getD l workingAt 0)))
+      (at-row l mostActive masksAt (countIn (getD l 0 0) - 1) (omega (arith, counted)) ∙ ap (λ (j : ℕ). getD l j 0) at)
 
   safe-as : (meaning (structOf l) .stopped || all (isSafe (meaning (structOf l) .working) (meaning (structOf l) .failed)) (active (meaning (structOf l))))
-      ≡ (leb 128 (getD l 0 0) || allBelow (countIn (getD l 0 0)) (maskTest isSafe l))
+      ≡ (stoppedIn (getD l 0 0) || allBelow (countIn (getD l 0 0)) (maskTest isSafe l))
   safe-as = ap (λ (t : Bool). meaning (structOf l) .stopped || t) (masks-are isSafe only-safe) ∙ unfold meaning structOf in refl
 
   -- the homes
-  home-at : (n : ℕ) → 8 ≤ n → n < 23 → homeTest (structOf l) (n - 7) ≡ homeOkAt (leb 128 (getD l 0 0)) l n
+  home-at : (i : ℕ) → i < tranCount → homeTest (structOf l) (suc i) ≡ homeOkAt (stoppedIn (getD l 0 0)) l (homesAt + i)
   unfolding structOf homeOkAt
-  home-at n p q =
-      let s : 8 + (n - 7 - 1) ≡ n = omega arith in
-      home-test (structOf l) (n - 7) (omega arith) (omega arith)
-      ∙ ap (λ (b : ℕ). homeOk (leb 128 (getD l 0 0)) (byte (getD l 5 0)) (homeIn b)) (at-row l 15 8 (n - 7 - 1) (omega arith) ∙ ap (λ (j : ℕ). getD l j 0) s)
+  home-at i h =
+      let s : suc i - 1 ≡ i = omega arith in
+      home-test (structOf l) (suc i) (omega arith) (omega arith)
+      ∙ ap (λ (b : ℕ). homeOk (stoppedIn (getD l 0 0)) (byte (getD l workingAt 0)) (homeIn b))
+      (ap (λ (j : ℕ). getD (rowOf l homesAt tranCount) j 0) s ∙ at-row l tranCount homesAt i h)
 
-  opened-as : allBelow tranBound (homeTest (structOf l)) ≡ allFrom 8 23 (homeOkAt (leb 128 (getD l 0 0)) l)
-  opened-as = same-test (allBelow tranBound (homeTest (structOf l))) (allFrom 8 23 (homeOkAt (leb 128 (getD l 0 0)) l))
-      (λ t. all-from 8 (homeOkAt (leb 128 (getD l 0 0)) l) 23 (λ n p q. sym (home-at n p q) ∙ below-all tranBound (homeTest (structOf l)) (n - 7) t (omega arith)))
+  opened-as : allBelow tranBound (homeTest (structOf l)) ≡ allFrom homesAt homesEnd (homeOkAt (stoppedIn (getD l 0 0)) l)
+  opened-as = same-test (allBelow tranBound (homeTest (structOf l))) (allFrom homesAt homesEnd (homeOkAt (stoppedIn (getD l 0 0)) l))
+      (λ t. from-each homesAt (homeOkAt (stoppedIn (getD l 0 0)) l) tranCount homesEnd refl
+      (λ i h. sym (home-at i h) ∙ below-all tranBound (homeTest (structOf l)) (suc i) t (omega arith)))
       (λ t. all-below tranBound (homeTest (structOf l)) (back t))
     where
-      back : allFrom 8 23 (homeOkAt (leb 128 (getD l 0 0)) l) ≡ true → (t : ℕ) → t < tranBound → homeTest (structOf l) t ≡ true
+      back : allFrom homesAt homesEnd (homeOkAt (stoppedIn (getD l 0 0)) l) ≡ true → (t : ℕ) → t < tranBound → homeTest (structOf l) t ≡ true
       back e zero h = below-all 1 (homeTest (structOf l)) 0 (home-none (structOf l)) (omega arith)
-      back e (suc t) h =
-          let n : ℕ = suc t + 7 in
-          let s : n - 7 ≡ suc t = omega arith in
-          ap (homeTest (structOf l)) (sym s) ∙ home-at n (omega arith) (omega arith) ∙ from-all 8 (homeOkAt (leb 128 (getD l 0 0)) l) 23 n e (omega arith) (omega arith)
+      back e (suc i) h = home-at i (omega arith)
+          ∙ from-all homesAt (homeOkAt (stoppedIn (getD l 0 0)) l) homesEnd (homesAt + i) e (omega arith) (omega arith)
 
   abbrev homesOpen : Bool
   homesOpen = allBelow tranBound (λ t. homeOk (meaning (structOf l) .stopped) (meaning (structOf l) .working) (meaning (structOf l) .home t))
 
-  homes-as : (allFrom 8 23 (isHomeAt l) && homesOpen) ≡ allFrom 8 23 (homeFitsAt l)
+  homes-as : (allFrom homesAt homesEnd (isHomeAt l) && homesOpen) ≡ allFrom homesAt homesEnd (homeFitsAt l)
   unfolding homeFitsAt
-  homes-as = ap (λ (t : Bool). allFrom 8 23 (isHomeAt l) && t) (homes-are (structOf l) ∙ opened-as)
-      ∙ sym (from-both 8 23 (isHomeAt l) (homeOkAt (leb 128 (getD l 0 0)) l))
+  homes-as = ap (λ (t : Bool). allFrom homesAt homesEnd (isHomeAt l) && t) (homes-are (structOf l) ∙ opened-as)
+      ∙ sym (from-both homesAt homesEnd (isHomeAt l) (homeOkAt (stoppedIn (getD l 0 0)) l))
 
-  zeros-as : zeroFieldsOk (λ n. getD l n 0) ≡ (otherZeros l && allFrom 8 23 (isHomeAt l))
+  zeros-as : zeroFieldsOk (λ n. getD l n 0) ≡ (otherZeros l && allFrom homesAt homesEnd (isHomeAt l))
   unfolding otherZeros
   zeros-as = zero-fields-by l ok bytes
-      ∙ tail-four (eqb (getD l 0 0 % 16) 0) (allFrom (1 + countIn (getD l 0 0)) 5 (isZeroAt l)) (eqb (bitAnd (getD l 7 0) (bitsFrom (countIn (getD l 0 0)))) 0)
-      (allFrom 23 controlSize (isZeroAt l)) (allFrom 8 23 (isHomeAt l))
+      ∙ tail-four (eqb (getD l 0 0 % field) 0) (allFrom (masksAt + countIn (getD l 0 0)) workingAt (isZeroAt l)) (eqb (bitAnd (getD l marksAt 0) (bitsFrom (countIn (getD l 0 0)))) 0)
+      (allFrom homesEnd controlSize (isZeroAt l)) (allFrom homesAt homesEnd (isHomeAt l))
 
-  zero-behind : otherZeros l ≡ true → getD l 23 0 ≡ 0
+  zero-behind : otherZeros l ≡ true → getD l homesEnd 0 ≡ 0
   unfolding otherZeros
   zero-behind t =
-      let z : allFrom 23 controlSize (isZeroAt l) ≡ true = last-of (eqb (getD l 0 0 % 16) 0) (allFrom (1 + countIn (getD l 0 0)) 5 (isZeroAt l))
-      (eqb (bitAnd (getD l 7 0) (bitsFrom (countIn (getD l 0 0)))) 0) (allFrom 23 controlSize (isZeroAt l)) t in
-      zero-out l 23 (from-all 23 (isZeroAt l) controlSize 23 z (omega arith) (omega arith))
+      let z : allFrom homesEnd controlSize (isZeroAt l) ≡ true = last-of (eqb (getD l 0 0 % field) 0) (allFrom (masksAt + countIn (getD l 0 0)) workingAt (isZeroAt l))
+      (eqb (bitAnd (getD l marksAt 0) (bitsFrom (countIn (getD l 0 0)))) 0) (allFrom homesEnd controlSize (isZeroAt l)) t in
+      zero-out l homesEnd (from-all homesEnd (isZeroAt l) controlSize homesEnd z (omega arith) (omega arith))
 
-  apart-as : areApart (meaning (structOf l) .working) (meaning (structOf l) .failed) ≡ areApart (byte (getD l 5 0)) (byte (getD l 6 0))
+  apart-as : areApart (meaning (structOf l) .working) (meaning (structOf l) .failed) ≡ areApart (byte (getD l workingAt 0)) (byte (getD l failedAt 0))
   unfolding meaning structOf
   apart-as = refl
 
-  part-as : partOk (controlOf (λ n. getD l n 0)) ≡ (areApart (byte (getD l 5 0)) (byte (getD l 6 0))
+  part-as : partOk (controlOf (λ n. getD l n 0)) ≡ (areApart (byte (getD l workingAt 0)) (byte (getD l failedAt 0))
       && (allBelow (countIn (getD l 0 0)) (maskTest membersOk l)
       && (fourthIn l
       && (newestIn l
-      && ((leb 128 (getD l 0 0) || allBelow (countIn (getD l 0 0)) (maskTest isSafe l)) && homesOpen)))))
+      && ((stoppedIn (getD l 0 0) || allBelow (countIn (getD l 0 0)) (maskTest isSafe l)) && homesOpen)))))
   unfolding partOk
   part-as = ap partOk (sym (means-is l (structOf l) refl w))
       ∙ ap₂ _&&_ apart-as (ap₂ _&&_ (masks-are membersOk only-members) (ap₂ _&&_ fourth-as (ap₂ _&&_ newest-as (ap (λ (t : Bool). t && homesOpen) safe-as))))
 
-  placements-as : (allBelow (countIn (getD l 0 0)) (maskTest membersOk l) && (leb 128 (getD l 0 0) || allBelow (countIn (getD l 0 0)) (maskTest isSafe l)))
-      ≡ allBelow (countIn (getD l 0 0)) (maskTest (placementOk (leb 128 (getD l 0 0))) l)
-  placements-as = pair (countIn (getD l 0 0)) (leb 128 (getD l 0 0)) (maskTest membersOk l) (maskTest isSafe l)
-      ∙ below-ext (countIn (getD l 0 0)) (λ i. maskTest membersOk l i && (leb 128 (getD l 0 0) || maskTest isSafe l i)) (maskTest (placementOk (leb 128 (getD l 0 0))) l)
+  placements-as : (allBelow (countIn (getD l 0 0)) (maskTest membersOk l) && (stoppedIn (getD l 0 0) || allBelow (countIn (getD l 0 0)) (maskTest isSafe l)))
+      ≡ allBelow (countIn (getD l 0 0)) (maskTest (placementOk (stoppedIn (getD l 0 0))) l)
+  placements-as = pair (countIn (getD l 0 0)) (stoppedIn (getD l 0 0)) (maskTest membersOk l) (maskTest isSafe l)
+      ∙ below-ext (countIn (getD l 0 0)) (λ i. maskTest membersOk l i && (stoppedIn (getD l 0 0) || maskTest isSafe l i)) (maskTest (placementOk (stoppedIn (getD l 0 0))) l)
       (λ i h. unfold maskTest placementOk in refl)
 
   -- with the byte behind them, which the other clauses ask to be zero
-  sixteen : (x : Bool → Bool) → (otherZeros l && x (allFrom 8 23 (homeFitsAt l))) ≡ (otherZeros l && x (allFrom 8 24 (homeFitsAt l)))
+  sixteen : (x : Bool → Bool) → (otherZeros l && x (allFrom homesAt homesEnd (homeFitsAt l))) ≡ (otherZeros l && x (allFrom homesAt wordsEnd (homeFitsAt l)))
   sixteen x = go (otherZeros l) refl
     where
-      last : otherZeros l ≡ true → homeFitsAt l 23 ≡ true
-      last t = unfold homeFitsAt isHomeAt homeOkAt in (zero-fits (byte (getD l 5 0)) (leb 128 (getD l 0 0)) (getD l 23 0) (zero-behind t))
+      last : otherZeros l ≡ true → homeFitsAt l homesEnd ≡ true
+      last t = unfold homeFitsAt isHomeAt homeOkAt in (zero-fits (byte (getD l workingAt 0)) (stoppedIn (getD l 0 0)) (getD l homesEnd 0) (zero-behind t))
 
-      go : (b : Bool) → otherZeros l ≡ b → (b && x (allFrom 8 23 (homeFitsAt l))) ≡ (b && x (allFrom 8 24 (homeFitsAt l)))
+      go : (b : Bool) → otherZeros l ≡ b → (b && x (allFrom homesAt homesEnd (homeFitsAt l))) ≡ (b && x (allFrom homesAt wordsEnd (homeFitsAt l)))
       go false e = refl
       go true e = ap x (unfold allFrom in (rw (last e)))
 
@@ -232,8 +233,8 @@ module _ (l : List ℕ) (ok : countOk (λ n. getD l n 0) ≡ true) (bytes : (n :
   unfolding formOk
   form-by = ap (λ (t : Bool). t && (zeroFieldsOk (λ n. getD l n 0) && partOk (controlOf (λ n. getD l n 0)))) ok
       ∙ ap₂ _&&_ zeros-as part-as
-      ∙ order (otherZeros l) (allFrom 8 23 (isHomeAt l)) (areApart (byte (getD l 5 0)) (byte (getD l 6 0))) (allBelow (countIn (getD l 0 0)) (maskTest membersOk l)) (fourthIn l) (newestIn l)
-      (leb 128 (getD l 0 0) || allBelow (countIn (getD l 0 0)) (maskTest isSafe l)) homesOpen
-      ∙ ap₂ (λ (p h : Bool). otherZeros l && (areApart (byte (getD l 5 0)) (byte (getD l 6 0)) && (p && (fourthIn l && (newestIn l && h))))) placements-as homes-as
-      ∙ sixteen (λ h. areApart (byte (getD l 5 0)) (byte (getD l 6 0))
-      && (allBelow (countIn (getD l 0 0)) (maskTest (placementOk (leb 128 (getD l 0 0))) l) && (fourthIn l && (newestIn l && h))))
+      ∙ order (otherZeros l) (allFrom homesAt homesEnd (isHomeAt l)) (areApart (byte (getD l workingAt 0)) (byte (getD l failedAt 0))) (allBelow (countIn (getD l 0 0)) (maskTest membersOk l)) (fourthIn l) (newestIn l)
+      (stoppedIn (getD l 0 0) || allBelow (countIn (getD l 0 0)) (maskTest isSafe l)) homesOpen
+      ∙ ap₂ (λ (p h : Bool). otherZeros l && (areApart (byte (getD l workingAt 0)) (byte (getD l failedAt 0)) && (p && (fourthIn l && (newestIn l && h))))) placements-as homes-as
+      ∙ sixteen (λ h. areApart (byte (getD l workingAt 0)) (byte (getD l failedAt 0))
+      && (allBelow (countIn (getD l 0 0)) (maskTest (placementOk (stoppedIn (getD l 0 0))) l) && (fourthIn l && (newestIn l && h))))

@@ -18,9 +18,9 @@ use Rattle.mask.specs.Masks.{AreMembers, Byte, byte, hasCard, members, withoutC
 use Rattle.mask.proofs.FirstMember.{first-in, some-members}
 use Rattle.mask.proofs.Masks.{has-none, has-without}
 use Rattle.method.specs.ControlPart.{isCard}
-use Rattle.control.specs.ControlBytes.{homeIn}
+use Rattle.control.specs.ControlBytes.{field, fieldBound, homeIn, homesAt, openBit, workingAt}
 use Rattle.control_form.specs.ControlForm.{homeOk}
-use Rattle.control_form.specs.Reading.{allFrom, homeOkAt}
+use Rattle.control_form.specs.Reading.{allFrom, homeOkAt, secondAt, wordsEnd}
 use Rattle.control_form.proofs.Ranges.{all-from, from-all, from-split}
 
 test-all : allBelow cardCount (λ c. hasCard (byte 255) c) ≡ true
@@ -55,7 +55,7 @@ not-works w b h true d = go (split (hasCard w h))
 -- ---- all of them
 -- No open transaction has the home c.
 abbrev pub Lacking : List ℕ → ℕ → Type 0
-Lacking l c = allFrom 8 24 (λ n. not (isCard (homeIn (getD l n 0)) c)) ≡ true
+Lacking l c = allFrom homesAt wordsEnd (λ n. not (isCard (homeIn (getD l n 0)) c)) ≡ true
 
 -- One fewer is left.
 pub less : (left next : ℕ) → left < 256 → left ≢ 0 → members (byte next) ≡ drop 1 (members (byte left)) → length (members (byte next)) < length (members (byte left))
@@ -63,27 +63,27 @@ less left next h d e = rw (e, length-drop 1 (members (byte left))) (omega (arith
 
 -- The cards that do not work and are not left have been tried.
 abbrev pub Tried : List ℕ → ℕ → Type 0
-Tried l left = (c : ℕ) → c < cardCount → hasCard (byte (getD l 5 0)) c ≡ false → hasCard (byte left) c ≡ false → Lacking l c
+Tried l left = (c : ℕ) → c < cardCount → hasCard (byte (getD l workingAt 0)) c ≡ false → hasCard (byte left) c ≡ false → Lacking l c
 
 -- The cards that are left do not work.
 abbrev pub Idle : List ℕ → ℕ → Type 0
-Idle l left = (c : ℕ) → hasCard (byte left) c ≡ true → hasCard (byte (getD l 5 0)) c ≡ false
+Idle l left = (c : ℕ) → hasCard (byte left) c ≡ true → hasCard (byte (getD l workingAt 0)) c ≡ false
 
 module _ (l : List ℕ) where
   -- before the first
-  pub idle-all : (left : ℕ) → AreMembers left (λ c. hasCard (byte 255) c && not (hasCard (byte (getD l 5 0)) c)) → Idle l left
-  idle-all left are c t = go (hasCard (byte 255) c) (hasCard (byte (getD l 5 0)) c) (sym (are c) ∙ t)
+  pub idle-all : (left : ℕ) → AreMembers left (λ c. hasCard (byte 255) c && not (hasCard (byte (getD l workingAt 0)) c)) → Idle l left
+  idle-all left are c t = go (hasCard (byte 255) c) (hasCard (byte (getD l workingAt 0)) c) (sym (are c) ∙ t)
     where
       go : (a b : Bool) → (a && not b) ≡ true → b ≡ false
       go true false e = refl
       go true true e = tf false e refl
       go false b e = tf false e refl
 
-  pub tried-none : (left : ℕ) → AreMembers left (λ c. hasCard (byte 255) c && not (hasCard (byte (getD l 5 0)) c)) → Tried l left
+  pub tried-none : (left : ℕ) → AreMembers left (λ c. hasCard (byte 255) c && not (hasCard (byte (getD l workingAt 0)) c)) → Tried l left
   tried-none left are c h idle gone = tf false (sym (sym (are c) ∙ gone) ∙ rw (all-cards c h, idle)) refl
 
   -- the first that is left does not work
-  pub first-idle : (left c : ℕ) → left < 256 → left ≢ 0 → c ≡ getD (members (byte left)) 0 0 → Idle l left → hasCard (byte (getD l 5 0)) c ≡ false
+  pub first-idle : (left c : ℕ) → left < 256 → left ≢ 0 → c ≡ getD (members (byte left)) 0 0 → Idle l left → hasCard (byte (getD l workingAt 0)) c ≡ false
   first-idle left c h d e i = i c (ap (hasCard (byte left)) e ∙ first-in (byte left) (some-members left h d))
 
   -- one more
@@ -107,27 +107,27 @@ module _ (l : List ℕ) where
         left-too false b e f = refl
 
         go : (eqb x c ≡ true) ⊎ (eqb x c ≡ false) → Lacking l x
-        go (inl e) = ap (λ (y : ℕ). allFrom 8 24 (λ n. not (isCard (homeIn (getD l n 0)) y))) (eqb-true x c e) ∙ k
+        go (inl e) = ap (λ (y : ℕ). allFrom homesAt wordsEnd (λ n. not (isCard (homeIn (getD l n 0)) y))) (eqb-true x c e) ∙ k
         go (inr e) = h x p d (left-too (hasCard (byte left) x) (eqb x c) e (sym (left-of x) ∙ gone))
 
   -- a card that does not work, and is a home: among the first eight bytes or the others
-  pub lacking : (c : ℕ) → allFrom 8 16 (λ n. not (isCard (homeIn (getD l n 0)) c)) ≡ true → allFrom 16 24 (λ n. not (isCard (homeIn (getD l n 0)) c)) ≡ true → Lacking l c
-  lacking c s t = from-split 8 16 24 (λ n. not (isCard (homeIn (getD l n 0)) c)) (omega arith) (omega arith) ∙ and-in _ _ s t
+  pub lacking : (c : ℕ) → allFrom homesAt secondAt (λ n. not (isCard (homeIn (getD l n 0)) c)) ≡ true → allFrom secondAt wordsEnd (λ n. not (isCard (homeIn (getD l n 0)) c)) ≡ true → Lacking l c
+  lacking c s t = from-split homesAt secondAt wordsEnd (λ n. not (isCard (homeIn (getD l n 0)) c)) (omega arith) (omega arith) ∙ and-in _ _ s t
 
-  pub begun-there : (c a e : ℕ) → hasCard (byte (getD l 5 0)) c ≡ false → 8 ≤ a → e ≤ 24
-      → allFrom a e (λ n. not (isCard (homeIn (getD l n 0)) c)) ≡ false → false ≡ allFrom 8 24 (homeOkAt false l)
-  begun-there c a e d lo hi f = go (split (allFrom 8 24 (homeOkAt false l)))
+  pub begun-there : (c a e : ℕ) → hasCard (byte (getD l workingAt 0)) c ≡ false → homesAt ≤ a → e ≤ wordsEnd
+      → allFrom a e (λ n. not (isCard (homeIn (getD l n 0)) c)) ≡ false → false ≡ allFrom homesAt wordsEnd (homeOkAt false l)
+  begun-there c a e d lo hi f = go (split (allFrom homesAt wordsEnd (homeOkAt false l)))
     where
-      all-not : allFrom 8 24 (homeOkAt false l) ≡ true → allFrom a e (λ n. not (isCard (homeIn (getD l n 0)) c)) ≡ true
+      all-not : allFrom homesAt wordsEnd (homeOkAt false l) ≡ true → allFrom a e (λ n. not (isCard (homeIn (getD l n 0)) c)) ≡ true
       all-not t = all-from a (λ n. not (isCard (homeIn (getD l n 0)) c)) e (λ n p q.
-          works-not (byte (getD l 5 0)) c d (homeIn (getD l n 0)) (unfold homeOkAt in (from-all 8 (homeOkAt false l) 24 n t (omega arith) (omega arith))))
+          works-not (byte (getD l workingAt 0)) c d (homeIn (getD l n 0)) (unfold homeOkAt in (from-all homesAt (homeOkAt false l) wordsEnd n t (omega arith) (omega arith))))
 
-      go : (allFrom 8 24 (homeOkAt false l) ≡ true) ⊎ (allFrom 8 24 (homeOkAt false l) ≡ false) → false ≡ allFrom 8 24 (homeOkAt false l)
+      go : (allFrom homesAt wordsEnd (homeOkAt false l) ≡ true) ⊎ (allFrom homesAt wordsEnd (homeOkAt false l) ≡ false) → false ≡ allFrom homesAt wordsEnd (homeOkAt false l)
       go (inl t) = tf false (sym f ∙ all-not t) refl
       go (inr t) = sym t
 
   -- none is left
-  pub all-work : (left : ℕ) → left ≡ 0 → Tried l left → true ≡ allFrom 8 24 (homeOkAt false l)
-  all-work left z h = sym (all-from 8 (homeOkAt false l) 24 (λ n p q. unfold homeOkAt in
-      (not-works (byte (getD l 5 0)) (getD l n 0) (getD l n 0 / 16 % 8) (leb 128 (getD l n 0)) (λ d. from-all 8 (λ n'. not (isCard (homeIn (getD l n' 0)) (getD l n 0 / 16 % 8))) 24 n
-      (h (getD l n 0 / 16 % 8) (omega arith) d (ap (λ (m : ℕ). hasCard (byte m) (getD l n 0 / 16 % 8)) z ∙ has-none (getD l n 0 / 16 % 8))) p q))))
+  pub all-work : (left : ℕ) → left ≡ 0 → Tried l left → true ≡ allFrom homesAt wordsEnd (homeOkAt false l)
+  all-work left z h = sym (all-from homesAt (homeOkAt false l) wordsEnd (λ n p q. unfold homeOkAt in
+      (not-works (byte (getD l workingAt 0)) (getD l n 0) (getD l n 0 / field % fieldBound) (leb openBit (getD l n 0)) (λ d. from-all homesAt (λ n'. not (isCard (homeIn (getD l n' 0)) (getD l n 0 / field % fieldBound))) wordsEnd n
+      (h (getD l n 0 / field % fieldBound) (omega arith) d (ap (λ (m : ℕ). hasCard (byte m) (getD l n 0 / field % fieldBound)) z ∙ has-none (getD l n 0 / field % fieldBound))) p q))))

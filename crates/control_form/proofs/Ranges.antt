@@ -1,7 +1,7 @@
 -- Laws of a test of the numbers from a on and below e: its instances, its parts, and what it shares with others.
 -- Assumes nothing.
 use mathlib.Core.Path.{_≡_, sym, ap, _∙_}
-use mathlib.Core.Logic.{_⊎_, ⊎-elim}
+use mathlib.Core.Logic.{⊎-elim}
 use mathlib.Core.Bool.{Bool, true, false, _&&_, _||_}
 use Prim.Native.Nat.{ℕ, suc, _+_, _-_, _≤_, _<_}
 use native.Mathlib.Omega.{arith}
@@ -35,6 +35,10 @@ module _ (a : ℕ) (f : ℕ → Bool) where
   from-below k e s = same-test (allBelow k (λ i. f (a + i))) (allFrom a e f)
       (λ t. all-from e (λ n p q. let m : a + (n - a) ≡ n = omega arith in ap f (sym m) ∙ below-all k (λ i. f (a + i)) (n - a) t (omega arith)))
       (λ t. all-below k (λ i. f (a + i)) (λ i h. from-all e (a + i) t (omega arith) (omega arith)))
+
+  -- each of them passes
+  pub from-each : (k e : ℕ) → e ≡ a + k → ((i : ℕ) → i < k → f (a + i) ≡ true) → allFrom a e f ≡ true
+  from-each k e s h = sym (from-below k e s) ∙ all-below k (λ i. f (a + i)) h
 
 -- A first number that passes.
 pub from-first : (a e : ℕ) (f : ℕ → Bool) → f a ≡ true → allFrom (suc a) e f ≡ allFrom a e f

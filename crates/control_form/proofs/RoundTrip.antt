@@ -1,7 +1,7 @@
 -- What is written is read again, and what is read is written back; the clauses of the form, taken out. Assumes nothing.
 use mathlib.Core.Path.{_≡_, refl, sym, ap, ap₂, _∙_, fun-ext}
 use mathlib.Core.Logic.{_⊎_, inl, inr}
-use mathlib.Core.Bool.{Bool, true, false, _&&_, _||_, cond}
+use mathlib.Core.Bool.{Bool, true, false, _&&_, _||_}
 use mathlib.Core.Option.{Option, some, none}
 use mathlib.Core.List.{List, [], _∷_, _++_}
 use Prim.Native.Nat.{ℕ, zero, suc, _+_, _-_, _*_, _/_, _%_, _≤_, _<_}
@@ -9,19 +9,21 @@ use native.Mathlib.Omega.{arith}
 use native.Mathlib.Nat.{mod-eq-of-lt}
 use lib.Dec.{leb, ltb, eqb}
 use lib.ListN.{getD, length, length-append}
-use borrow.Author.Tests.{eqb-true, ne-eqb, ltb-true, lt-ltb, le-ltb, leb-true, le-leb, lt-leb}
+use borrow.Author.Tests.{eqb-true, ltb-true, leb-true, le-leb, lt-leb}
 use Rattle.lists.specs.Tests.{all, allBelow}
 use Rattle.lists.proofs.Bools.{split, and-l, and-r}
 use Rattle.lists.proofs.Counts.{below-all}
-use Rattle.image.specs.Layout.{cardCount, tranBound, controlSize}
+use Rattle.image.specs.Layout.{cardCount, controlSize, mostActive, tranBound}
 use Rattle.mask.specs.Masks.{Byte, byte, areApart, isWithin}
 use Rattle.mask.specs.Placements.{Placement}
 use Rattle.mask.proofs.Masks.{byte-path}
 use Rattle.method.specs.ControlPart.{active, isOpen}
 use Rattle.control.specs.ControlBytes.{Part, maskBytes, marksFrom, homeByte, controlByte, countIn, homeOf, keptAs, markIn, placementAt}
-use Rattle.control.specs.ControlBytes.{placementsIn, controlOf}
+use Rattle.control.specs.ControlBytes.{controlOf, failedAt, field, fieldBound, firstByte, homeAt, lastMaskAt}
+use Rattle.control.specs.ControlBytes.{marksAt, masksAt, openBit, placementsIn, stoppedBit, stoppedIn, workingAt}
 use Rattle.control_form.specs.ControlForm.{countOk, zeroFieldsOk, membersOk, fourthOk, isSafe, homeOk, partOk, formOk}
 use Rattle.control.proofs.Marks.{mark-back}
+use Rattle.control.proofs.Fields.{at-failed, at-first, at-home, at-marks, at-mask, at-working}
 
 -- ---- what is written is read again
 byte-back : (n : ℕ) (m : Byte) → n ≡ m .0 → byte n ≡ m
@@ -42,96 +44,76 @@ placements-back (q ∷ l) p f h =
 
 module _
     (k : Part)
-    (few : length (k .older) ≤ 3)
+    (few : suc (length (k .older)) ≤ mostActive)
     (opens : (t : ℕ) → isOpen k t ≡ true → (ltb 0 t && ltb t tranBound) ≡ true)
     (homes : (t h : ℕ) → k .home t ≡ some h → h < cardCount)
     (g : ℕ → ℕ)
     (wrote : (n : ℕ) → n < controlSize → g n ≡ controlByte k n)
   where
-    first : g 0 ≡ cond (k .stopped) 128 0 + suc (length (k .older)) * 16
-    unfolding controlByte
-    first = wrote 0 (omega arith)
+    first : g 0 ≡ firstByte (k .stopped) (suc (length (k .older)))
+    first = wrote 0 (omega arith) ∙ at-first k
 
     pub read-count : countIn (g 0) ≡ suc (length (k .older))
     read-count = rw first (go (k .stopped))
       where
-        go : (b : Bool) → countIn (cond b 128 0 + suc (length (k .older)) * 16) ≡ suc (length (k .older))
+        go : (b : Bool) → countIn (firstByte b (suc (length (k .older)))) ≡ suc (length (k .older))
         go true = omega arith
         go false = omega arith
 
-    read-stopped : leb 128 (g 0) ≡ k .stopped
+    read-stopped : stoppedIn (g 0) ≡ k .stopped
     read-stopped = rw first (go (k .stopped))
       where
-        go : (b : Bool) → leb 128 (cond b 128 0 + suc (length (k .older)) * 16) ≡ b
-        go true = le-leb 128 (128 + suc (length (k .older)) * 16) (omega arith)
-        go false = lt-leb 128 (0 + suc (length (k .older)) * 16) (omega arith)
+        go : (b : Bool) → stoppedIn (firstByte b (suc (length (k .older)))) ≡ b
+        go true = le-leb stoppedBit (firstByte true (suc (length (k .older)))) (omega arith)
+        go false = lt-leb stoppedBit (firstByte false (suc (length (k .older)))) (omega arith)
 
-    read-mask : (i : ℕ) → i ≤ length (k .older) → g (suc i) ≡ getD (maskBytes (active k)) i 0
-    unfolding controlByte
-    read-mask i h = wrote (suc i) (omega arith)
-        ∙ rw (ne-eqb (suc i) 0 (λ e. omega arith), lt-ltb (suc i) 5 (omega arith)) (ap (λ (x : ℕ). getD (maskBytes (active k)) x 0) sub)
-      where
-        sub : suc i - 1 ≡ i
-        sub = omega arith
+    read-mask : (i : ℕ) → i ≤ length (k .older) → g (masksAt + i) ≡ getD (maskBytes (active k)) i 0
+    read-mask i h = wrote (masksAt + i) (omega arith) ∙ at-mask k i (omega arith)
 
-    read-marks : g 7 ≡ marksFrom 0 (active k)
-    unfolding controlByte
-    read-marks = wrote 7 (omega arith)
+    read-marks : g marksAt ≡ marksFrom 0 (active k)
+    read-marks = wrote marksAt (omega arith) ∙ at-marks k
 
     read-placement : (i : ℕ) → i ≤ length (k .older) → placementAt g i ≡ getD (active k) i (k .newest)
     read-placement i h =
         let long : length (active k) ≡ suc (length (k .older)) = length-append (k .older) (k .newest ∷ []) ∙ add-one (length (k .older)) in
         ap₂ (λ (m : Byte) (r : Bool). record { mask = m; byRails = r })
-        (byte-back (g (suc i)) (getD (active k) i (k .newest) .mask) (read-mask i h ∙ mask-of (active k) i (k .newest) (omega (arith, long))))
+        (byte-back (g (masksAt + i)) (getD (active k) i (k .newest) .mask) (read-mask i h ∙ mask-of (active k) i (k .newest) (omega (arith, long))))
         (ap (λ (n : ℕ). markIn n i) read-marks ∙ mark-back (active k) i (k .newest) (omega (arith, long)) (omega (arith, long)))
       where
         add-one : (n : ℕ) → n + 1 ≡ suc n
         add-one n = omega arith
 
-    read-home : (t : ℕ) → homeOf t (g (t + 7)) ≡ k .home t
-    unfolding controlByte
+    read-home : (t : ℕ) → homeOf t (g (homeAt t)) ≡ k .home t
     read-home t = go (k .home t) refl (split (ltb 0 t && ltb t tranBound))
       where
-        home-at : (ltb 0 t && ltb t tranBound) ≡ true → g (t + 7) ≡ homeByte (k .home t)
+        home-at : (ltb 0 t && ltb t tranBound) ≡ true → g (homeAt t) ≡ homeByte (k .home t)
         home-at e =
             let a : 0 < t = ltb-true 0 t (and-l (ltb 0 t) (ltb t tranBound) e) in
             let b : t < tranBound = ltb-true t tranBound (and-r (ltb 0 t) (ltb t tranBound) e) in
-            wrote (t + 7) (omega arith)
-            ∙ rw (
-              ne-eqb (t + 7) 0 (λ e. omega arith),
-              le-ltb (t + 7) 5 (omega arith),
-              ne-eqb (t + 7) 5 (λ e. omega arith),
-              ne-eqb (t + 7) 6 (λ e. omega arith),
-              ne-eqb (t + 7) 7 (λ e. omega arith),
-              lt-ltb 7 (t + 7) (omega arith),
-              lt-ltb (t + 7) 23 (omega arith),
-            )
-            (ap (λ (x : ℕ). homeByte (k .home x)) (sub a))
-          where
-            sub : 0 < t → t + 7 - 7 ≡ t
-            sub a = omega arith
+            let s : suc (t - 1) ≡ t = omega arith in
+            wrote (homeAt t) (omega arith) ∙ at-home k (t - 1) (omega arith) ∙ ap (λ (x : ℕ). homeByte (k .home x)) s
 
         go : (o : Option ℕ) → k .home t ≡ o → ((ltb 0 t && ltb t tranBound) ≡ true) ⊎ ((ltb 0 t && ltb t tranBound) ≡ false)
-            → homeOf t (g (t + 7)) ≡ k .home t
+            → homeOf t (g (homeAt t)) ≡ k .home t
         go none e (inl r) = rw (home-at r, e, r)
         go none e (inr r) = rw (r, e)
         go (some h) e z =
             let r : (ltb 0 t && ltb t tranBound) ≡ true = opens t (rw e) in
             let b : h < cardCount = homes t h e in
-            rw (home-at r, e, r, le-leb 128 (128 + h * 16) (omega arith)) (ap {B = Option ℕ} some (same h b))
+            rw (home-at r, e, r, le-leb openBit (openBit + h * field) (omega arith)) (ap {B = Option ℕ} some (same h b))
           where
-            same : (h : ℕ) → h < cardCount → (128 + h * 16) / 16 % 8 ≡ h
+            same : (h : ℕ) → h < cardCount → (openBit + h * field) / field % fieldBound ≡ h
             same h b = omega arith
 
     -- The control part that the bytes show is the one that was written.
     pub read-control : controlOf g ≡ k
-    unfolding controlOf controlByte
+    unfolding controlOf
     read-control = λ i. record {
       stopped = read-stopped i;
       older = old i;
       newest = new i;
-      working = byte-back (g 5) (k .working) (wrote 5 (omega arith)) i;
-      failed = byte-back (g 6) (k .failed) (wrote 6 (omega arith)) i;
+      working = byte-back (g workingAt) (k .working) (wrote workingAt (omega arith) ∙ at-working k) i;
+      failed = byte-back (g failedAt) (k .failed) (wrote failedAt (omega arith) ∙ at-failed k) i;
       home = fun-ext read-home i;
       setting = tt;
       serial = tt;
@@ -146,8 +128,11 @@ module _
         old : placementsIn (placementAt g) (countIn (g 0) - 1) ≡ k .older
         old = ap (placementsIn (placementAt g)) one-less ∙ both .0
 
-        new : keptAs (countIn (g 0) - 1) (g (countIn (g 0))) (g 7) ≡ k .newest
-        new = ap₂ (λ (i n : ℕ). keptAs i (g n) (g 7)) one-less read-count ∙ both .1
+        last : lastMaskAt (countIn (g 0)) ≡ masksAt + length (k .older)
+        last = omega (arith, read-count)
+
+        new : keptAs (countIn (g 0) - 1) (g (lastMaskAt (countIn (g 0)))) (g marksAt) ≡ k .newest
+        new = ap₂ (λ (i n : ℕ). keptAs i (g n) (g marksAt)) one-less last ∙ both .1
 
 -- ---- what is read is written back
 module _ (g : ℕ → ℕ) (form : formOk g ≡ true) where
@@ -162,12 +147,12 @@ module _ (g : ℕ → ℕ) (form : formOk g ≡ true) where
       (below-all controlSize (λ n. eqb (g n) (controlByte (controlOf g) n)) n (and-l (zeroFieldsOk g) (partOk (controlOf g)) form-rest) h))
 
   -- The count is 1 to 4, and the clauses on the control part hold.
-  pub form-count : (1 ≤ countIn (g 0)) × (countIn (g 0) ≤ 4)
+  pub form-count : (1 ≤ countIn (g 0)) × (countIn (g 0) ≤ mostActive)
   unfolding formOk countOk
   form-count =
       let c : countOk g ≡ true = and-l (countOk g) (zeroFieldsOk g && partOk (controlOf g)) form in (
-        leb-true 1 (countIn (g 0)) (and-l (leb 1 (countIn (g 0))) (leb (countIn (g 0)) 4) c),
-        leb-true (countIn (g 0)) 4 (and-r (leb 1 (countIn (g 0))) (leb (countIn (g 0)) 4) c),
+        leb-true 1 (countIn (g 0)) (and-l (leb 1 (countIn (g 0))) (leb (countIn (g 0)) mostActive) c),
+        leb-true (countIn (g 0)) mostActive (and-r (leb 1 (countIn (g 0))) (leb (countIn (g 0)) mostActive) c),
       )
 
   pub form-part : partOk (controlOf g) ≡ true

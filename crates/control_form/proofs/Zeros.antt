@@ -3,7 +3,7 @@
 use mathlib.Core.Path.{_≡_, refl, sym, ap, ap₂, _∙_}
 use mathlib.Core.Bool.{Bool, true, false, not, _&&_, _||_, Bool·beq, cond}
 use mathlib.Core.List.{List}
-use mathlib.Core.Option.{Option, none, some}
+use mathlib.Core.Option.{none, some}
 use Prim.Native.Nat.{ℕ, _+_, _-_, _*_, _/_, _^_, _≤_, _<_}
 use native.Mathlib.Nat.{add-assoc}
 use native.Mathlib.Omega.{arith}
@@ -14,15 +14,15 @@ use Rattle.lists.specs.Tests.{allBelow}
 use Rattle.lists.proofs.Bools.{imp-out, same-bool}
 use Rattle.lists.proofs.Bytes.{bytes-behind, zero-test}
 use Rattle.lists.proofs.Counts.{below-all, below-ext}
-use Rattle.image.specs.Layout.{controlSize}
+use Rattle.image.specs.Layout.{controlSize, mostActive}
 use Rattle.mask.specs.Masks.{Byte, byte}
-use Rattle.control.specs.ControlBytes.{homeByte, homeIn}
+use Rattle.control.specs.ControlBytes.{homeByte, homeIn, homesAt, homesEnd, masksAt, openBit, workingAt}
 use Rattle.control_form.specs.ControlForm.{homeOk}
-use Rattle.control_form.specs.Reading.{allFrom, homeOkAt, isHomeAt, isZeroAt}
+use Rattle.control_form.specs.Reading.{allFrom, halfSize, homeOkAt, isHomeAt, isZeroAt, secondAt, wordSize, wordsEnd}
 use Rattle.control_form.proofs.Ranges.{from-all, from-below, from-ext, from-first, from-split}
 
 -- A closed transaction's byte is zero; where none may be open, every byte must be.
-test-closed : allBelow 256 (λ b. not (eqb b (homeByte (homeIn b))) || Bool·beq (eqb b 0) (not (leb 128 b))) ≡ true
+test-closed : allBelow 256 (λ b. not (eqb b (homeByte (homeIn b))) || Bool·beq (eqb b 0) (not (leb openBit b))) ≡ true
 test-closed = refl
 
 closed-home : (w : Byte) (b : Bool) (h : ℕ) → not b ≡ homeOk true w (cond b (some h) none)
@@ -32,33 +32,33 @@ closed-home w false h = refl
 
 module _ (l : List ℕ) (small : (n : ℕ) → getD l n 0 < 256) where
   -- eight bytes from an index on
-  pub zeros-at : (at w : ℕ) → w ≡ ofBytes (λ i. getD l (at + i) 0) 8 → eqb w 0 ≡ allFrom at (at + 8) (isZeroAt l)
+  pub zeros-at : (at w : ℕ) → w ≡ ofBytes (λ i. getD l (at + i) 0) wordSize → eqb w 0 ≡ allFrom at (at + wordSize) (isZeroAt l)
   unfolding isZeroAt
-  zeros-at at w e = ap (λ (n : ℕ). eqb n 0) e ∙ zero-test (λ i. getD l (at + i) 0) (λ i. small (at + i)) 8
-      ∙ from-below at (isZeroAt l) 8 (at + 8) refl
+  zeros-at at w e = ap (λ (n : ℕ). eqb n 0) e ∙ zero-test (λ i. getD l (at + i) 0) (λ i. small (at + i)) wordSize
+      ∙ from-below at (isZeroAt l) wordSize (at + wordSize) refl
 
-  pub masks-by : (count n : ℕ) → 1 ≤ count → count ≤ 4 → n ≡ ofBytes (λ i. getD l (1 + i) 0) 4
-      → eqb (n / 2 ^ (count * 8)) 0 ≡ allFrom (1 + count) 5 (isZeroAt l)
+  pub masks-by : (count n : ℕ) → 1 ≤ count → count ≤ mostActive → n ≡ ofBytes (λ i. getD l (masksAt + i) 0) halfSize
+      → eqb (n / 2 ^ (count * 8)) 0 ≡ allFrom (masksAt + count) workingAt (isZeroAt l)
   unfolding isZeroAt
   masks-by count n lo hi e =
       ap (λ (m : ℕ). eqb (m / 2 ^ (count * 8)) 0) e
-      ∙ ap (λ (m : ℕ). eqb m 0) (bytes-behind (λ i. getD l (1 + i) 0) (λ i. small (1 + i)) count lo hi)
-      ∙ zero-test (λ i. getD l (1 + (count + i)) 0) (λ i. small (1 + (count + i))) (4 - count)
-      ∙ below-ext (4 - count) (λ i. eqb (getD l (1 + (count + i)) 0) 0) (λ i. isZeroAt l (1 + count + i)) (λ i h. ap (λ (m : ℕ). eqb (getD l m 0) 0) (sym (add-assoc 1 count i)))
-      ∙ from-below (1 + count) (isZeroAt l) (4 - count) 5 (omega arith)
+      ∙ ap (λ (m : ℕ). eqb m 0) (bytes-behind (λ i. getD l (masksAt + i) 0) (λ i. small (masksAt + i)) count lo hi)
+      ∙ zero-test (λ i. getD l (masksAt + (count + i)) 0) (λ i. small (masksAt + (count + i))) (mostActive - count)
+      ∙ below-ext (mostActive - count) (λ i. eqb (getD l (masksAt + (count + i)) 0) 0) (λ i. isZeroAt l (masksAt + count + i)) (λ i h. ap (λ (m : ℕ). eqb (getD l m 0) 0) (sym (add-assoc masksAt count i)))
+      ∙ from-below (masksAt + count) (isZeroAt l) (mostActive - count) workingAt (omega arith)
 
-  pub tail-by : (w : ℕ) → isZeroAt l 23 ≡ true → w ≡ ofBytes (λ i. getD l (24 + i) 0) 8 → eqb w 0 ≡ allFrom 23 controlSize (isZeroAt l)
-  tail-by w z e = zeros-at 24 w e ∙ from-first 23 controlSize (isZeroAt l) z
+  pub tail-by : (w : ℕ) → isZeroAt l homesEnd ≡ true → w ≡ ofBytes (λ i. getD l (homesEnd + 1 + i) 0) wordSize → eqb w 0 ≡ allFrom homesEnd controlSize (isZeroAt l)
+  tail-by w z e = zeros-at (homesEnd + 1) w e ∙ from-first homesEnd controlSize (isZeroAt l) z
 
   closed-at : (n : ℕ) → isHomeAt l n ≡ true → isZeroAt l n ≡ homeOkAt true l n
   unfolding isHomeAt isZeroAt homeOkAt
   closed-at n t =
-      same-bool _ _ (imp-out _ _ (below-all 256 (λ b. not (eqb b (homeByte (homeIn b))) || Bool·beq (eqb b 0) (not (leb 128 b))) (getD l n 0) test-closed (small n)) t)
-      ∙ closed-home (byte (getD l 5 0)) (leb 128 (getD l n 0)) _
+      same-bool _ _ (imp-out _ _ (below-all 256 (λ b. not (eqb b (homeByte (homeIn b))) || Bool·beq (eqb b 0) (not (leb openBit b))) (getD l n 0) test-closed (small n)) t)
+      ∙ closed-home (byte (getD l workingAt 0)) (leb openBit (getD l n 0)) _
 
-  pub open-by : (v w : ℕ) → allFrom 8 24 (isHomeAt l) ≡ true → v ≡ ofBytes (λ i. getD l (8 + i) 0) 8 → w ≡ ofBytes (λ i. getD l (16 + i) 0) 8
-      → (eqb v 0 && eqb w 0) ≡ allFrom 8 24 (homeOkAt true l)
+  pub open-by : (v w : ℕ) → allFrom homesAt wordsEnd (isHomeAt l) ≡ true → v ≡ ofBytes (λ i. getD l (homesAt + i) 0) wordSize → w ≡ ofBytes (λ i. getD l (secondAt + i) 0) wordSize
+      → (eqb v 0 && eqb w 0) ≡ allFrom homesAt wordsEnd (homeOkAt true l)
   open-by v w t p q =
-      ap₂ _&&_ (zeros-at 8 v p) (zeros-at 16 w q)
-      ∙ sym (from-split 8 16 24 (isZeroAt l) (omega arith) (omega arith))
-      ∙ from-ext 8 24 (isZeroAt l) (homeOkAt true l) (λ n lo hi. closed-at n (from-all 8 (isHomeAt l) 24 n t lo hi))
+      ap₂ _&&_ (zeros-at homesAt v p) (zeros-at secondAt w q)
+      ∙ sym (from-split homesAt secondAt wordsEnd (isZeroAt l) (omega arith) (omega arith))
+      ∙ from-ext homesAt wordsEnd (isZeroAt l) (homeOkAt true l) (λ n lo hi. closed-at n (from-all homesAt (isHomeAt l) wordsEnd n t lo hi))

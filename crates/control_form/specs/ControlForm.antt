@@ -6,16 +6,16 @@ use mathlib.Core.Bool.{Bool, _&&_, _||_, false, not, true}
 use mathlib.Core.List.{List, [], _∷_}
 use mathlib.Core.Option.{Option, none, some}
 use Rattle.lists.specs.Tests.{all, allBelow}
-use Rattle.image.specs.Layout.{controlSize, copyCount, imageSize, tranBound}
+use Rattle.image.specs.Layout.{controlSize, copyCount, imageSize, leastMembers, mostActive, tranBound}
 use Rattle.mask.specs.Masks.{Byte, areApart, common, hasCard, isOneMore, isWithin, isWithinEither, size}
-use Rattle.mask.specs.Placements.{Placement, leastMembers}
+use Rattle.mask.specs.Placements.{Placement}
 use Rattle.method.specs.ControlPart.{active}
 use Rattle.method.specs.Rules.{row}
 use Rattle.control.specs.ControlBytes.{Part, controlByte, controlOf, countIn}
 
 -- Count is 1 to 4.
 unfoldable pub countOk : (ℕ → ℕ) → Bool
-countOk g = leb 1 (countIn (g 0)) && leb (countIn (g 0)) 4
+countOk g = leb 1 (countIn (g 0)) && leb (countIn (g 0)) mostActive
 
 -- Zero fields are zero, marks of placements that are not there among them: the bytes are those of the control part that
 -- they show.

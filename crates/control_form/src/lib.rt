@@ -2,16 +2,15 @@
 ghost use mathlib.Core.Path.{_≡_};
 ghost use mathlib.Core.Bool.{true, false};
 ghost use Prim.Native.Nat.{_+_, _≤_};
-ghost use lib.Dec.{leb};
 ghost use lib.ListN.{length, getD};
 ghost use Rattle.lists.specs.Tests.{all, allBelow};
-ghost use Rattle.image.specs.Layout.{controlSize};
+ghost use Rattle.image.specs.Layout.{controlSize, mostActive};
 ghost use Rattle.mask.specs.Masks.{byte};
 ghost use Rattle.mask.specs.Placements.{fromMask};
 ghost use Rattle.method.specs.ControlPart.{active};
-ghost use Rattle.control.specs.ControlBytes.{countIn};
+ghost use Rattle.control.specs.ControlBytes.{countIn, homesAt, homesEnd, masksAt, stoppedIn, workingAt};
 ghost use Rattle.control_form.specs.ControlForm.{countOk, membersOk, isSafe, controlForm};
-ghost use Rattle.control.specs.Meaning.{meaning, mostActive, Counted};
+ghost use Rattle.control.specs.Meaning.{meaning, Counted};
 ghost use Rattle.control_form.specs.Reading.{
   Reads,
   allFrom,
@@ -24,12 +23,13 @@ ghost use Rattle.control_form.specs.Reading.{
   newestIn,
   otherZeros,
   placementOk,
+  wordsEnd,
 };
 
 mod words;
 
 use control::Control;
-use control::MOST_ACTIVE;
+use control::MASK_COUNT;
 use control::codec::FAILED_AT;
 use control::codec::FIELD;
 use control::codec::FIELD_BOUND;
@@ -41,6 +41,7 @@ use control::codec::STOPPED;
 use control::codec::WORKING_AT;
 use control::codec::decode;
 use control::codec::no_marks;
+use image::MOST_ACTIVE;
 use words::WORD_SIZE;
 
 // Row 1 or 2 of the refusal table, or else 0 and the control part.
@@ -51,6 +52,14 @@ pub struct Found {
 
 // The mask of all cards.
 const ALL_CARDS: u8 = 0xff;
+
+// The last mask, and the one before it.
+const FOURTH_AT: usize = MASKS_AT + MASK_COUNT - 1;
+
+const THIRD_AT: usize = FOURTH_AT - 1;
+
+// Bits of a byte.
+const BYTE_BITS: u8 = 8;
 
 // Every record lies on as many cards.
 pub const COPIES: u32 = image::COPY_COUNT as u32;
@@ -71,15 +80,15 @@ fn count_ok(s: &[u8]) -> bool
 fn masks_end(s: &[u8], count: u8) -> bool
     requires { ⌜ controlSize ≤ length (now s) ⌝ }
     requires { ⌜ (1 ≤ count) × (count ≤ mostActive) ⌝ }
-    ensures { λ r. ⌜ r ≡ allFrom (1 + count) 5 (isZeroAt (now (s .entry))) ⌝ }
+    ensures { λ r. ⌜ r ≡ allFrom (masksAt + count) workingAt (isZeroAt (now (s .entry))) ⌝ }
 {
-    words::half(s, MASKS_AT) >> (count * 8) == 0
+    words::half(s, MASKS_AT) >> (count * BYTE_BITS) == 0
 }
 
 // The bytes behind the transactions' are zero.
 fn tail_ok(s: &[u8]) -> bool
     requires { ⌜ controlSize ≤ length (now s) ⌝ }
-    ensures { λ r. ⌜ r ≡ allFrom 23 controlSize (isZeroAt (now (s .entry))) ⌝ }
+    ensures { λ r. ⌜ r ≡ allFrom homesEnd controlSize (isZeroAt (now (s .entry))) ⌝ }
 {
     if s[HOMES_END] != 0 {
         return false;
@@ -123,7 +132,7 @@ fn fourth_ok(s: &[u8]) -> bool
     ensures { λ r. ⌜ r ≡ fourthIn (now (s .entry)) ⌝ }
 {
     if s[0] / FIELD % FIELD_BOUND == MOST_ACTIVE {
-        return mask::one_more(s[FAILED_AT], s[MASKS_AT + 3], s[MASKS_AT + 2]);
+        return mask::one_more(s[FAILED_AT], s[FOURTH_AT], s[THIRD_AT]);
     }
     true
 }
@@ -137,7 +146,7 @@ fn newest_works(s: &[u8]) -> bool
         return true;
     }
     let count = (s[0] / FIELD % FIELD_BOUND) as usize;
-    mask::within(s[count], s[WORKING_AT])
+    mask::within(s[MASKS_AT + count - 1], s[WORKING_AT])
 }
 
 // A placement with this mask has at most one failed and at least two working members.
@@ -184,7 +193,7 @@ fn placement_ok(stopped: bool, working: u8, failed: u8, mask: u8) -> bool
 fn placements_ok(s: &[u8]) -> bool
     requires { ⌜ controlSize ≤ length (now s) ⌝ }
     ensures { λ r. ⌜ r ≡ allBelow (countIn (getD (now (s .entry)) 0 0))
-        (maskTest (placementOk (leb 128 (getD (now (s .entry)) 0 0))) (now (s .entry))) ⌝ }
+        (maskTest (placementOk (stoppedIn (getD (now (s .entry)) 0 0))) (now (s .entry))) ⌝ }
 {
     let stopped = s[0] >= STOPPED;
     let count = (s[0] / FIELD % FIELD_BOUND) as usize;
@@ -203,8 +212,8 @@ fn placements_ok(s: &[u8]) -> bool
 // No transaction is open.
 fn none_open(s: &[u8]) -> bool
     requires { ⌜ controlSize ≤ length (now s) ⌝ }
-    requires { ⌜ allFrom 8 24 (isHomeAt (now s)) ≡ true ⌝ }
-    ensures { λ r. ⌜ r ≡ allFrom 8 24 (homeOkAt true (now (s .entry))) ⌝ }
+    requires { ⌜ allFrom homesAt wordsEnd (isHomeAt (now s)) ≡ true ⌝ }
+    ensures { λ r. ⌜ r ≡ allFrom homesAt wordsEnd (homeOkAt true (now (s .entry))) ⌝ }
 {
     if words::word(s, HOMES_AT) != 0 {
         return false;
@@ -215,8 +224,8 @@ fn none_open(s: &[u8]) -> bool
 // Each open transaction's home works: none is a card that does not.
 fn homes_work(s: &[u8]) -> bool
     requires { ⌜ controlSize ≤ length (now s) ⌝ }
-    requires { ⌜ allFrom 8 24 (isHomeAt (now s)) ≡ true ⌝ }
-    ensures { λ r. ⌜ r ≡ allFrom 8 24 (homeOkAt false (now (s .entry))) ⌝ }
+    requires { ⌜ allFrom homesAt wordsEnd (isHomeAt (now s)) ≡ true ⌝ }
+    ensures { λ r. ⌜ r ≡ allFrom homesAt wordsEnd (homeOkAt false (now (s .entry))) ⌝ }
 {
     let mut idle = mask::without(ALL_CARDS, s[WORKING_AT]);
     while idle != 0 {
@@ -236,7 +245,7 @@ fn homes_work(s: &[u8]) -> bool
 // not stopped and its home works. The byte behind them, which is zero, fills the second word.
 fn homes_ok(s: &[u8]) -> bool
     requires { ⌜ controlSize ≤ length (now s) ⌝ }
-    ensures { λ r. ⌜ r ≡ allFrom 8 24 (homeFitsAt (now (s .entry))) ⌝ }
+    ensures { λ r. ⌜ r ≡ allFrom homesAt wordsEnd (homeFitsAt (now (s .entry))) ⌝ }
 {
     if !words::are_homes(s, HOMES_AT) {
         return false;

@@ -8,11 +8,12 @@ ghost use Rattle.lists.specs.Bytes.{ofBytes};
 ghost use Rattle.image.specs.Layout.{cardCount};
 ghost use Rattle.method.specs.ControlPart.{isCard};
 ghost use Rattle.control.specs.ControlBytes.{homeIn};
-ghost use Rattle.control_form.specs.Reading.{allFrom, isHomeAt};
+ghost use Rattle.control_form.specs.Reading.{allFrom, halfSize, isHomeAt, wordSize};
 use control::codec::FIELD;
 use control::codec::FIELD_BOUND;
 use control::codec::OPEN;
 use image::Card;
+use image::wide;
 
 // Bytes of a word, and half of them.
 pub const WORD_SIZE: usize = 8;
@@ -25,22 +26,20 @@ const ONES: u64 = 0x0101_0101_0101_0101;
 // The highest bit of each byte.
 const OPENS: u64 = OPEN as u64 * ONES;
 
+// Four bits; and by how much the highest bit of a byte outweighs the lowest of its upper four.
+const NIBBLE: u64 = FIELD as u64 - 1;
+
+const DOWN: u64 = FIELD_BOUND as u64;
+
 // Four bits, and the bit behind them, in each byte.
-const NIBBLES: u64 = 15 * ONES;
+const NIBBLES: u64 = NIBBLE * ONES;
 
-const CARRIES: u64 = 16 * ONES;
-
-// A byte as a number of 64 bits.
-fn wide(b: u8) -> u64
-    ensures { λ r. ⌜ (r ≡ b) × (r < 256) ⌝ }
-{
-    b as u64
-}
+const CARRIES: u64 = FIELD as u64 * ONES;
 
 // The four bytes from an index on.
 pub fn half(s: &[u8], at: usize) -> u64
-    requires { ⌜ at + 4 ≤ length (now s) ⌝ }
-    ensures { λ r. ⌜ (r ≡ ofBytes (λ i. getD (now (s .entry)) (at + i) 0) 4) × (r < 2 ^ 32) ⌝ }
+    requires { ⌜ at + halfSize ≤ length (now s) ⌝ }
+    ensures { λ r. ⌜ (r ≡ ofBytes (λ i. getD (now (s .entry)) (at + i) 0) halfSize) × (r < 2 ^ 32) ⌝ }
 {
     wide(s[at])
         + wide(s[at + 1]) * 0x100
@@ -50,8 +49,8 @@ pub fn half(s: &[u8], at: usize) -> u64
 
 // The eight bytes from an index on.
 pub fn word(s: &[u8], at: usize) -> u64
-    requires { ⌜ at + 8 ≤ length (now s) ⌝ }
-    ensures { λ r. ⌜ r ≡ ofBytes (λ i. getD (now (s .entry)) (at + i) 0) 8 ⌝ }
+    requires { ⌜ at + wordSize ≤ length (now s) ⌝ }
+    ensures { λ r. ⌜ r ≡ ofBytes (λ i. getD (now (s .entry)) (at + i) 0) wordSize ⌝ }
 {
     half(s, at) + half(s, at + HALF_SIZE) * 0x1_0000_0000
 }
@@ -59,21 +58,21 @@ pub fn word(s: &[u8], at: usize) -> u64
 // Eight transactions' bytes are zero or open, with nothing behind the home card: where the highest bit is set it lets the
 // upper four bits stand, and every bit must be among those that stand.
 pub fn are_homes(s: &[u8], at: usize) -> bool
-    requires { ⌜ at + 8 ≤ length (now s) ⌝ }
-    ensures { λ r. ⌜ r ≡ allFrom at (at + 8) (isHomeAt (now (s .entry))) ⌝ }
+    requires { ⌜ at + wordSize ≤ length (now s) ⌝ }
+    ensures { λ r. ⌜ r ≡ allFrom at (at + wordSize) (isHomeAt (now (s .entry))) ⌝ }
 {
     let w = word(s, at);
-    (w & ((w & OPENS) / 8 * 15)) == w
+    (w & ((w & OPENS) / DOWN * NIBBLE)) == w
 }
 
 // None of eight transactions' bytes is open with this home: its upper four bits differ from those of such a byte, and
 // where they do, 15 more carry into the bit behind them.
 pub fn lack_home(s: &[u8], at: usize, home: Card) -> bool
-    requires { ⌜ at + 8 ≤ length (now s) ⌝ }
+    requires { ⌜ at + wordSize ≤ length (now s) ⌝ }
     requires { ⌜ home .0 < cardCount ⌝ }
-    requires { ⌜ allFrom at (at + 8) (isHomeAt (now s)) ≡ true ⌝ }
+    requires { ⌜ allFrom at (at + wordSize) (isHomeAt (now s)) ≡ true ⌝ }
     ensures { λ r.
-        ⌜ r ≡ allFrom at (at + 8) (λ n. not (isCard (homeIn (getD (now (s .entry)) n 0)) (home .0))) ⌝ }
+        ⌜ r ≡ allFrom at (at + wordSize) (λ n. not (isCard (homeIn (getD (now (s .entry)) n 0)) (home .0))) ⌝ }
 {
     let w = word(s, at);
     let differ = (w / FIELD as u64) ^ (wide(FIELD_BOUND + home.0) * ONES);

@@ -13,7 +13,7 @@ use Rattle.lists.specs.Tests.{In, all, any, count}
 use Rattle.lists.proofs.Bools.{and-l, and-r, eqb-self, not-is, or-l, or-r, tf}
 use Rattle.lists.proofs.Counts.{any-below-out, pigeon}
 use Rattle.lists.proofs.Lists.{any-none}
-use Rattle.image.specs.Layout.{cardCount, copyCount}
+use Rattle.image.specs.Layout.{cardCount, copyCount, mostPlaced}
 use Rattle.mask.specs.Masks.{Byte, byte, hasCard, isOneMore, withCard, withoutCard}
 use Rattle.mask.specs.Placements.{Placement, fromMask}
 use Rattle.mask.proofs.Masks.{byte-path, has-card, has-with}
@@ -27,7 +27,7 @@ use Rattle.control_form.specs.ControlForm.{formRefusal, fourthOk, isSafe}
 use Rattle.control.specs.Meaning.{Is, meaning, newestMask, placementIn}
 use Rattle.control_form.proofs.RoundTrip.{form-part, part-clauses}
 use Rattle.control.proofs.Struct.{length-placements, newest-mask-is}
-use Rattle.cabinet_rules.specs.Cabinet.{cabinet, mostPlaced}
+use Rattle.cabinet_rules.specs.Cabinet.{cabinet}
 use Rattle.cabinet_rules.specs.Images.{Image, controlIn, planOn, stateIn}
 use Rattle.cabinet_rules.proofs.Form.{safe-is}
 use Rattle.promise.proofs.Finish.{form-good}

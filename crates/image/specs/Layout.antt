@@ -1,4 +1,4 @@
--- The image: document 01, "The image". The counts, the ranges and the sizes stand here and nowhere else; the fields of
+-- The image: document 01, "The image". The counts, the limits and the sizes stand here and nowhere else; the fields of
 -- the control part, of a block's first byte and of a slot's 40 bits stand with their codecs.
 --
 --   offset in the image      size     what
@@ -11,7 +11,7 @@
 -- Assumes nothing.
 use mathlib.Core.Path.{_≡_}
 use mathlib.Core.List.{List}
-use Prim.Native.Nat.{ℕ, _+_, _*_}
+use Prim.Native.Nat.{ℕ, _+_, _-_, _*_}
 use lib.ListN.{length, replicate}
 use Rattle.lists.specs.Segments.{segment, splice}
 
@@ -32,11 +32,30 @@ recordCount = blockCount * slotCount
 abbrev pub tranBound : ℕ
 tranBound = 16
 
+abbrev pub tranCount : ℕ
+tranCount = tranBound - 1
+
 abbrev pub valueBound : ℕ
 valueBound = 65536
 
 abbrev pub copyCount : ℕ
 copyCount = 2
+
+-- A placement has as many members as copies at least.
+abbrev pub leastMembers : ℕ
+leastMembers = copyCount
+
+-- The most active placements that a place leaves. Behind them failures add fewer placements than there are copies, so
+-- that there are never more than these.
+abbrev pub mostPlaced : ℕ
+mostPlaced = 3
+
+abbrev pub mostActive : ℕ
+mostActive = mostPlaced + copyCount - 1
+
+-- Cards 0 to 3 hang on one supply rail and 4 to 7 on the other.
+abbrev pub railSize : ℕ
+railSize = 4
 
 -- Sizes in bytes.
 abbrev pub controlSize : ℕ

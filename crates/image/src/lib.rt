@@ -19,7 +19,7 @@ ghost use Rattle.image.specs.Layout.{
   zeros,
 };
 
-// The layout: counts, and sizes in bytes.
+// Counts: cards, blocks of a table, slots of a block, copies of a record, transactions.
 pub const CARD_COUNT: usize = 8;
 
 pub const BLOCK_COUNT: usize = 64;
@@ -28,6 +28,19 @@ pub const SLOT_COUNT: usize = 8;
 
 pub const COPY_COUNT: usize = 2;
 
+pub const TRAN_COUNT: usize = 15;
+
+// Limits: the least members of a placement; the most active placements that a place leaves, and that there ever are; the
+// cards on a supply rail.
+pub const LEAST_MEMBERS: u32 = COPY_COUNT as u32;
+
+pub const MOST_PLACED: u8 = 3;
+
+pub const MOST_ACTIVE: u8 = MOST_PLACED + COPY_COUNT as u8 - 1;
+
+pub const RAIL_SIZE: u8 = 4;
+
+// Sizes in bytes.
 pub const CONTROL_SIZE: usize = 32;
 
 pub const SLOT_SIZE: usize = 5;
@@ -49,6 +62,13 @@ pub struct Rec(pub u16);
 
 // A transaction, 1 to 15.
 pub struct Tran(pub u8);
+
+// A byte as a number of 64 bits.
+pub fn wide(b: u8) -> u64
+    ensures { λ r. ⌜ (r ≡ b) × (r < 256) ⌝ }
+{
+    b as u64
+}
 
 // Writes bytes into s from index at.
 pub fn write_at(s: &mut [u8], at: usize, bytes: &[u8])

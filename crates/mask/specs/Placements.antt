@@ -7,7 +7,7 @@ use lib.Dec.{eqb, ltb}
 use lib.ListN.{length, getD}
 use Rattle.lists.specs.Tests.{anyBelow, keepIf}
 use Rattle.lists.specs.Tabulate.{tabulate}
-use Rattle.image.specs.Layout.{cardCount, copyCount}
+use Rattle.image.specs.Layout.{cardCount, leastMembers, railSize}
 use Rattle.mask.specs.declared.Placement.{Placement as Struct}
 use Rattle.mask.specs.declared.Sites.{Sites}
 use Rattle.mask.specs.Masks.{Byte, byte, hasCard, members, size}
@@ -22,10 +22,7 @@ unfoldable pub chainedSites : Byte → ℕ → List ℕ
 chainedSites m b = memberAt m b ∷ memberAt m (b + 1) ∷ []
 
 -- ---- the choice by rails
--- Cards 0 to 3 hang on one supply rail and 4 to 7 on the other.
-abbrev pub railSize : ℕ
-railSize = 4
-
+-- The supply rail of a card.
 abbrev pub railOf : ℕ → ℕ
 railOf c = c / railSize
 
@@ -77,13 +74,9 @@ meant s = record { mask = byte (s .mask); byRails = s .rails }
 unfoldable pub sitesOf : Placement → ℕ → List ℕ
 sitesOf p b = cond (p .byRails) (railSites (p .mask) b) (chainedSites (p .mask) b)
 
--- Two members at least.
-abbrev pub leastMembers : ℕ
-leastMembers = copyCount
-
 -- As many members as copies.
 abbrev pub Usable : Placement → Type 0
-Usable p = copyCount ≤ size (p .mask)
+Usable p = leastMembers ≤ size (p .mask)
 
 -- ---- what whoever asks for the sites of a block may rely on
 -- The sites as the rules list them.

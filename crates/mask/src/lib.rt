@@ -6,7 +6,7 @@ ghost use Prim.Native.Nat.{_+_, _-_, _<_, _≤_};
 ghost use lib.Bits.{bitAnd};
 ghost use lib.Dec.{leb};
 ghost use lib.ListN.{length, getD, drop, take};
-ghost use Rattle.image.specs.Layout.{cardCount, blockCount, copyCount};
+ghost use Rattle.image.specs.Layout.{cardCount, blockCount, copyCount, leastMembers};
 ghost use Rattle.mask.specs.Masks.{
   AreMembers,
   byte,
@@ -22,16 +22,7 @@ ghost use Rattle.mask.specs.Masks.{
   areApart,
   isOneMore,
 };
-ghost use Rattle.mask.specs.Placements.{
-  AreSites,
-  Usable,
-  fromMask,
-  leastMembers,
-  meant,
-  memberAt,
-  otherRail,
-  sitesOf,
-};
+ghost use Rattle.mask.specs.Placements.{AreSites, Usable, fromMask, meant, memberAt, otherRail, sitesOf};
 
 pub mod site_table;
 
@@ -44,9 +35,7 @@ const FIRST_BIT: u8 = 0x80;
 // All bits of a mask.
 const ALL_BITS: u8 = 0xff;
 
-// The cards on a supply rail, and the bits of the two rails.
-const RAIL_SIZE: u8 = 4;
-
+// The bits of the two supply rails.
 const FIRST_RAIL: u8 = 0xf0;
 
 const SECOND_RAIL: u8 = 0x0f;
@@ -202,7 +191,7 @@ pub fn nth_member(mask: u8, i: u8) -> u8
 fn other_rail(card: Card) -> u8
     ensures { λ r. ⌜ r ≡ otherRail (card .0) ⌝ }
 {
-    if card.0 < RAIL_SIZE {
+    if card.0 < image::RAIL_SIZE {
         return SECOND_RAIL;
     }
     FIRST_RAIL
@@ -222,9 +211,9 @@ pub struct Sites {
 
 impl Placement {
     // The cards of a cabinet, and the members that two copies need.
-    pub const MOST_CARDS: u8 = 8;
+    pub const MOST_CARDS: u8 = image::CARD_COUNT as u8;
 
-    pub const LEAST_MEMBERS: u32 = 2;
+    pub const LEAST_MEMBERS: u32 = image::LEAST_MEMBERS;
 
     // A placement comes from its mask alone: what start, place and fail make is by rails.
     pub fn from_mask(mask: u8) -> Placement

@@ -5,8 +5,8 @@ ghost use Rattle.cabinet_rules.specs.Cabinet.{tranOk};
 ghost use Rattle.promise.specs.Given.{Given};
 ghost use Rattle.promise.specs.Rows.{cardRows, tranRows};
 use control::Control;
-use control::TRAN_COUNT;
 use image::Card;
+use image::TRAN_COUNT;
 use image::Tran;
 use mask::Placement;
 

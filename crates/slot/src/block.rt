@@ -28,9 +28,9 @@ ghost use Rattle.slot.specs.Blocks.{
 use crate::Entry;
 use crate::HELD;
 use crate::Slot;
-use crate::wide;
 use image::SLOT_COUNT;
 use image::SLOT_SIZE;
+use image::wide;
 
 // The byte of a slot that has its lock, and the weight and the bound of the lock there.
 const LOCK_AT: usize = 3;

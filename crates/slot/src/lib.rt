@@ -2,7 +2,7 @@
 ghost use mathlib.Core.Path.{_≡_};
 ghost use mathlib.Core.Bool.{true, false};
 ghost use mathlib.Core.Option.{none};
-ghost use Prim.Native.Nat.{_%_, _^_, _<_};
+ghost use Prim.Native.Nat.{_^_, _<_};
 ghost use Rattle.slot.specs.Words.{
   InRange,
   bitNumber,
@@ -156,13 +156,6 @@ impl Slot {
         }
         self.drop()
     }
-}
-
-// A byte as a number of 64 bits.
-fn wide(x: u8) -> u64
-    ensures { λ r. ⌜ (r ≡ x % 256) × (r < 256) ⌝ }
-{
-    x as u64
 }
 
 // A held block with no records.

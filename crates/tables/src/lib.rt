@@ -14,13 +14,13 @@ ghost use Rattle.control.specs.Meaning.{meaning};
 ghost use Rattle.promise.proofs.Laid.{laid};
 ghost use Rattle.tables.specs.Tables.{endWrites, endedOn, endedTable, setOf, isBegun};
 use control::Control;
-use control::TRAN_COUNT;
 use control::codec::OPEN;
 use image::BLOCK_COUNT;
 use image::BLOCK_SIZE;
 use image::Block;
 use image::Card;
 use image::TABLE_SIZE;
+use image::TRAN_COUNT;
 use image::Tran;
 use mask::Placement;
 

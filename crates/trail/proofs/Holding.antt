@@ -24,7 +24,8 @@ use Rattle.method.specs.Rules.{holders, trail}
 use Rattle.control.specs.ControlBytes.{Part, countIn, placementAt, placementsIn}
 use Rattle.control.specs.Meaning.{meaning}
 use Rattle.control.specs.declared.Control.{Control}
-use Rattle.control.proofs.Struct.{placements-more, shown-active, shown-count, shown-newest}
+use Rattle.control.proofs.Fields.{placements-more, shown-active, shown-newest}
+use Rattle.control.proofs.Struct.{shown-count}
 use Rattle.control_form.specs.ControlForm.{controlForm}
 use Rattle.control_form.proofs.RoundTrip.{form-count}
 use Rattle.cabinet_rules.specs.Images.{Image, blockIn, controlIn}

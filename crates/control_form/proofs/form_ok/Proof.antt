@@ -5,10 +5,11 @@ use mathlib.Core.List.{List}
 use Prim.Native.Nat.{ℕ}
 use Rattle.control_form.specs.ControlForm.{controlForm, formOk}
 use Rattle.control_form.proofs.Checks.{failed-is, passed-is}
-use Rattle.control_form.specs.Reading.{allFrom, fourthIn, homeFitsAt, newestIn, otherZeros}
+use Rattle.control_form.specs.Reading.{allFrom, fourthIn, homeFitsAt, newestIn, otherZeros, wordsEnd}
 use Rattle.control_form.proofs.Clauses.{all-fail, apartIn, clauses, form-by, others-left, placementsIn}
 use Rattle.control_form.proofs.Clauses.{fromApart, fromFourth, fromNewest, fromPlacements}
 use borrow.Author.Needs.{needs}
+use Rattle.control.specs.ControlBytes.{homesAt}
 use Rattle.control_form.proofs.form_ok.Statement.{statement}
 use Rattle.control_form.proofs.form_ok.Tie as tie
 
@@ -98,7 +99,7 @@ newest-works-requires c κs = search needs
 returns-6 : tie.Need-returns-6
 returns-6 c =
     let g = at5 (c .before .before) in
-    all-fail (newestIn g) (allFrom 8 24 (homeFitsAt g)) (left5 (c .before .before)) (failed-is (c .before .newest-works .ensures) (c .if6 .taken))
+    all-fail (newestIn g) (allFrom homesAt wordsEnd (homeFitsAt g)) (left5 (c .before .before)) (failed-is (c .before .newest-works .ensures) (c .if6 .taken))
 
 homes-ok-requires : tie.Need-homes-ok-requires
 homes-ok-requires c κs = search needs
@@ -107,7 +108,7 @@ returns-7 : tie.Need-returns-7
 returns-7 c =
     let n = c .before in
     let g = at6 n in
-    c .homes-ok .ensures ∙ sym (others-left (newestIn g) (allFrom 8 24 (homeFitsAt g)) (left5 (n .before .before)) (passed-is (n .before .newest-works .ensures) (n .if6 .left)))
+    c .homes-ok .ensures ∙ sym (others-left (newestIn g) (allFrom homesAt wordsEnd (homeFitsAt g)) (left5 (n .before .before)) (passed-is (n .before .newest-works .ensures) (n .if6 .left)))
 
 pub form-ok-spec : {M : Type 1} → statement M
 form-ok-spec =

@@ -1,4 +1,4 @@
--- The proof of `fourth_ok`: by whether the count is 4. Assumes nothing.
+-- By whether as many placements are active as there can be. Assumes nothing.
 use mathlib.Core.Path.{_∙_}
 use borrow.Author.Tests.{eq-eqb, ne-eqb}
 use Rattle.control_form.specs.Reading.{fourthIn}
@@ -15,14 +15,8 @@ shared-slice-read-if1 c = search needs
 shared-slice-read-one-more : tie.Need-shared-slice-read-one-more
 shared-slice-read-one-more c = search needs
 
-add-one-more : tie.Need-add-one-more
-add-one-more c = search needs
-
 shared-slice-read-one-more-2 : tie.Need-shared-slice-read-one-more-2
 shared-slice-read-one-more-2 c = search needs
-
-add-one-more-2 : tie.Need-add-one-more-2
-add-one-more-2 c = search needs
 
 shared-slice-read-one-more-3 : tie.Need-shared-slice-read-one-more-3
 shared-slice-read-one-more-3 c = search needs
@@ -44,9 +38,7 @@ fourth-ok-spec =
     (tie.spec
     shared-slice-read-if1
     shared-slice-read-one-more
-    add-one-more
     shared-slice-read-one-more-2
-    add-one-more-2
     shared-slice-read-one-more-3
     one-more-requires
     returns

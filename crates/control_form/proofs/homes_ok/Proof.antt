@@ -1,13 +1,13 @@
--- The proof of `homes_ok`: the form of sixteen bytes, then their homes. Assumes nothing.
+-- The form of sixteen bytes, then their homes. Assumes nothing.
 use mathlib.Core.Path.{_≡_, _∙_, sym}
 use mathlib.Core.Bool.{Bool, true, false}
 use borrow.Author.Tests.{le-leb, lt-leb}
-use lib.Dec.{leb}
-use Rattle.control_form.specs.Reading.{allFrom, homeFitsAt, homeOkAt, isHomeAt}
+use Rattle.control_form.specs.Reading.{allFrom, homeFitsAt, homeOkAt, isHomeAt, wordsEnd}
 use lib.ListN.{getD}
 use Rattle.control_form.proofs.Checks.{failed-is, passed-is}
 use Rattle.control_form.proofs.Homes.{all-homes, fits-by}
 use borrow.Author.Needs.{needs}
+use Rattle.control.specs.ControlBytes.{homesAt, stoppedBit, stoppedIn}
 use Rattle.control_form.proofs.homes_ok.Statement.{statement}
 use Rattle.control_form.proofs.homes_ok.Tie as tie
 use Rattle.control_form.proofs.homes_ok.Reads as reads
@@ -38,13 +38,13 @@ shared-slice-read-if3 : tie.Need-shared-slice-read-if3
 shared-slice-read-if3 c = search needs
 
 -- all sixteen are formed, and what is left is their homes
-formed : (c : tie.Else2) → allFrom 8 24 (isHomeAt (c .before .before .before .before .before .args .s .now)) ≡ true
+formed : (c : tie.Else2) → allFrom homesAt wordsEnd (isHomeAt (c .before .before .before .before .before .args .s .now)) ≡ true
 formed c =
     let e = c .before .before in
     all-homes (e .before .before .before .args .s .now) (passed-is (e .before .are-homes .ensures) (e .if1 .left)) (passed-is (c .before .are-homes2 .ensures) (c .if2 .left))
 
-left : (c : tie.Else2) (stopped : Bool) → leb 128 (getD (c .before .before .before .before .before .args .s .now) 0 0) ≡ stopped
-    → allFrom 8 24 (homeFitsAt (c .before .before .before .before .before .args .s .now)) ≡ allFrom 8 24 (homeOkAt stopped (c .before .before .before .before .before .args .s .now))
+left : (c : tie.Else2) (stopped : Bool) → stoppedIn (getD (c .before .before .before .before .before .args .s .now) 0 0) ≡ stopped
+    → allFrom homesAt wordsEnd (homeFitsAt (c .before .before .before .before .before .args .s .now)) ≡ allFrom homesAt wordsEnd (homeOkAt stopped (c .before .before .before .before .before .args .s .now))
 left c stopped s =
     let e = c .before .before in
     let g = e .before .before .before .args .s .now in
@@ -54,13 +54,13 @@ none-open-requires : tie.Need-none-open-requires
 none-open-requires c κs = (c .before .before .before .before .before .before .before .pre, formed (c .before .before))
 
 returns-3 : tie.Need-returns-3
-returns-3 c = c .none-open .ensures ∙ sym (left (c .before .before .before) true (le-leb 128 _ (c .before .if3 .taken)))
+returns-3 c = c .none-open .ensures ∙ sym (left (c .before .before .before) true (le-leb stoppedBit _ (c .before .if3 .taken)))
 
 homes-work-requires : tie.Need-homes-work-requires
 homes-work-requires c κs = (c .before .before .before .before .before .before .before .pre, formed (c .before .before))
 
 returns-4 : tie.Need-returns-4
-returns-4 c = c .homes-work .ensures ∙ sym (left (c .before .before .before) false (lt-leb 128 _ (c .before .if3 .left)))
+returns-4 c = c .homes-work .ensures ∙ sym (left (c .before .before .before) false (lt-leb stoppedBit _ (c .before .if3 .left)))
 
 pub homes-ok-spec : {M : Type 1} → statement M
 homes-ok-spec =

@@ -1,4 +1,4 @@
--- The proof of `newest_works`: by whether the store is stopped. Assumes nothing.
+-- By whether the store is stopped. Assumes nothing.
 use borrow.Author.Tests.{le-leb, lt-leb}
 use Rattle.control_form.specs.Reading.{newestIn}
 use borrow.Author.Needs.{needs}
@@ -21,6 +21,12 @@ shared-slice-read-count c = search needs
 cast-count : tie.Need-cast-count
 cast-count c = search needs
 
+add-within : tie.Need-add-within
+add-within c = search needs
+
+sub-within : tie.Need-sub-within
+sub-within c = search needs
+
 shared-slice-read-within : tie.Need-shared-slice-read-within
 shared-slice-read-within c = search needs
 
@@ -42,6 +48,8 @@ newest-works-spec =
     returns
     shared-slice-read-count
     cast-count
+    add-within
+    sub-within
     shared-slice-read-within
     shared-slice-read-within-2
     within-requires

@@ -1,4 +1,4 @@
--- The proof of `none_open`: the bytes are zero, eight at a time. Assumes nothing.
+-- The bytes are zero, eight at a time. Assumes nothing.
 use mathlib.Core.Path.{_∙_, refl, sym, ap}
 use mathlib.Core.Bool.{Bool, _&&_}
 use borrow.Author.Tests.{eq-eqb, ne-eqb}
@@ -13,6 +13,7 @@ use Rattle.control_form.proofs.none_open.Tie as tie
 use Rattle.control_form.proofs.none_open.Reads as reads
 use Rattle.control_form.proofs.none_open.Lts as lts
 use Rattle.control_form.proofs.words.word.Reads as word-reads
+use Rattle.control_form.specs.Reading.{secondAt, wordSize}
 
 word-requires : tie.Need-word-requires
 word-requires c κs = search needs
@@ -22,8 +23,8 @@ returns c =
     let w = c .before in
     let k = w .before in
     let g = k .before .args .s .now in
-    ap (λ (t : Bool). t && eqb (ofBytes (λ i. getD g (16 + i) 0) 8) 0) (sym (ne-eqb (w .word .result) 0 (c .if1 .taken)))
-    ∙ open-by g (λ n. k .shared-slice-known .given n .fits) (w .word .result) (ofBytes (λ i. getD g (16 + i) 0) 8) (k .before .pre .1) (w .word .ensures) refl
+    ap (λ (t : Bool). t && eqb (ofBytes (λ i. getD g (secondAt + i) 0) wordSize) 0) (sym (ne-eqb (w .word .result) 0 (c .if1 .taken)))
+    ∙ open-by g (λ n. k .shared-slice-known .given n .fits) (w .word .result) (ofBytes (λ i. getD g (secondAt + i) 0) wordSize) (k .before .pre .1) (w .word .ensures) refl
 
 add-word : tie.Need-add-word
 add-word c = search needs

@@ -1,14 +1,13 @@
--- The proof of `placements_ok`: the masks before i pass. Assumes nothing.
+-- The masks before i pass. Assumes nothing.
 use mathlib.Core.Path.{_≡_, refl, sym, ap, _∙_}
 use mathlib.Core.Bool.{true}
 use Prim.Native.Nat.{ℕ, _≤_, _<_, _-_}
 use native.Mathlib.Omega.{arith}
-use lib.Dec.{leb}
 use lib.ListN.{getD}
 use borrow.Author.Needs.{needs}
 use Rattle.lists.specs.Tests.{allBelow}
 use Rattle.lists.proofs.Counts.{all-fails, all-more}
-use Rattle.control.specs.ControlBytes.{countIn}
+use Rattle.control.specs.ControlBytes.{countIn, fieldBound, stoppedIn}
 use Rattle.control_form.specs.Reading.{maskTest, placementOk}
 use Rattle.control_form.proofs.Checks.{failed-is, passed-is}
 use Rattle.control_form.proofs.placements_ok.Statement.{statement}
@@ -19,7 +18,7 @@ use Rattle.control_form.proofs.placement_ok.Reads as placement-ok-reads
 
 abbrev Inv-loop : tie.InvT-loop
 Inv-loop s stopped count working failed i₀ i =
-    (i ≤ count) × (count < 8) × (count ≡ countIn (getD s 0 0)) × (allBelow i (maskTest (placementOk (leb 128 (getD s 0 0))) s) ≡ true)
+    (i ≤ count) × (count < fieldBound) × (count ≡ countIn (getD s 0 0)) × (allBelow i (maskTest (placementOk (stoppedIn (getD s 0 0))) s) ≡ true)
 
 abbrev μ-loop : tie.MeasureT-loop
 μ-loop s stopped count working failed i₀ i = count - i
@@ -56,7 +55,7 @@ returns c =
     let t = c .before .before .before .before in
     let l = t .loop in
     let g = t .before .before .before .before .before .before .args .s .now in
-    sym (all-fails (maskTest (placementOk (leb 128 (getD g 0 0))) g) (countIn (getD g 0 0)) (l .i) (omega arith) (unfold maskTest in (failed-is (c .before .placement-ok .ensures) (c .if1 .taken))))
+    sym (all-fails (maskTest (placementOk (stoppedIn (getD g 0 0))) g) (countIn (getD g 0 0)) (l .i) (omega arith) (unfold maskTest in (failed-is (c .before .placement-ok .ensures) (c .if1 .taken))))
 
 add-i : tie.Need-add-i Inv-loop μ-loop
 add-i c = search needs
@@ -72,7 +71,7 @@ loop-again c =
       omega arith,
       l .inv .1,
       l .inv .2,
-      all-more (maskTest (placementOk (leb 128 (getD g 0 0))) g) (l .i) (unfold maskTest in (passed-is (c .before .placement-ok .ensures) (c .if1 .left))) (l .inv .3),
+      all-more (maskTest (placementOk (stoppedIn (getD g 0 0))) g) (l .i) (unfold maskTest in (passed-is (c .before .placement-ok .ensures) (c .if1 .left))) (l .inv .3),
     )
 
 returns-2 : tie.Need-returns-2 Inv-loop μ-loop
@@ -80,7 +79,7 @@ returns-2 c =
     let l = c .before .loop in
     let g = c .before .before .before .before .before .before .before .args .s .now in
     let e : countIn (getD g 0 0) ≡ l .i = omega arith in
-    sym (ap (λ (n : ℕ). allBelow n (maskTest (placementOk (leb 128 (getD g 0 0))) g)) e ∙ l .inv .3)
+    sym (ap (λ (n : ℕ). allBelow n (maskTest (placementOk (stoppedIn (getD g 0 0))) g)) e ∙ l .inv .3)
 
 pub placements-ok-spec : {M : Type 1} → statement M
 placements-ok-spec =

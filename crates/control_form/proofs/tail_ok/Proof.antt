@@ -1,4 +1,4 @@
--- The proof of `tail_ok`: the first byte, and the eight behind it as a number. Assumes nothing.
+-- The first byte, and the eight behind it as a number. Assumes nothing.
 use borrow.Author.Tests.{eq-eqb, ne-eqb}
 use native.Mathlib.Omega.{arith}
 use Rattle.image.specs.Layout.{controlSize}
@@ -6,6 +6,7 @@ use Rattle.control_form.specs.Reading.{isZeroAt}
 use Rattle.control_form.proofs.Ranges.{from-fails}
 use Rattle.control_form.proofs.Zeros.{tail-by}
 use borrow.Author.Needs.{needs}
+use Rattle.control.specs.ControlBytes.{homesEnd}
 use Rattle.control_form.proofs.tail_ok.Statement.{statement}
 use Rattle.control_form.proofs.tail_ok.Tie as tie
 use Rattle.control_form.proofs.tail_ok.Reads as reads
@@ -17,7 +18,7 @@ shared-slice-read-if1 c = search needs
 
 returns : tie.Need-returns
 returns c =
-    from-fails 23 (isZeroAt (c .before .before .before .args .s .now)) controlSize 23 (omega arith) (omega arith) (unfold isZeroAt in (ne-eqb _ 0 (c .if1 .taken)))
+    from-fails homesEnd (isZeroAt (c .before .before .before .args .s .now)) controlSize homesEnd (omega arith) (omega arith) (unfold isZeroAt in (ne-eqb _ 0 (c .if1 .taken)))
 
 add-word : tie.Need-add-word
 add-word c = search needs

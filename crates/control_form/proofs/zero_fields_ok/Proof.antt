@@ -1,8 +1,7 @@
--- The proof of `zero_fields_ok`: the parts in their order; a return takes those before it as passed. Assumes nothing.
+-- The parts in their order; a return takes those before it as passed. Assumes nothing.
 use mathlib.Core.Path.{_≡_, sym}
 use mathlib.Core.Bool.{true, false}
 use Prim.Native.Nat.{ℕ}
-use native.Mathlib.Omega.{arith}
 use borrow.Author.Tests.{eq-eqb, ne-eqb}
 use lib.Bits.{bitAnd}
 use lib.Dec.{eqb}
@@ -17,6 +16,7 @@ use Rattle.control_form.proofs.zero_fields_ok.Tie as tie
 use Rattle.control_form.proofs.zero_fields_ok.Reads as reads
 use Rattle.control_form.proofs.zero_fields_ok.Lts as lts
 use Rattle.control.proofs.codec.no_marks.Reads as no-marks-reads
+use Rattle.control.specs.ControlBytes.{marksAt}
 use Rattle.control_form.proofs.tail_ok.Reads as tail-ok-reads
 use Rattle.control_form.proofs.masks_end.Reads as masks-end-reads
 
@@ -61,7 +61,7 @@ returns-3 c =
     rw (
       eq-eqb _ _ (m .before .before .before .before .before .if1 .left),
       passed-is (m .before .before .before .masks-end .ensures) (m .before .before .if2 .left),
-      marks-fail (getD (a .before .args .s .now) 7 0) _ (m .no-marks .ensures) (c .if3 .taken),
+      marks-fail (getD (a .before .args .s .now) marksAt 0) _ (m .no-marks .ensures) (c .if3 .taken),
     )
 
 tail-ok-requires : tie.Need-tail-ok-requires
@@ -75,7 +75,7 @@ returns-4 c =
     rw (
       eq-eqb _ _ (m .before .before .before .before .before .if1 .left),
       passed-is (m .before .before .before .masks-end .ensures) (m .before .before .if2 .left),
-      marks-hold (getD (a .before .args .s .now) 7 0) _ (m .no-marks .ensures) (c .before .if3 .left),
+      marks-hold (getD (a .before .args .s .now) marksAt 0) _ (m .no-marks .ensures) (c .before .if3 .left),
     )
     (c .tail-ok .ensures)
 

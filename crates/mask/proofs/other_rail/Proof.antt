@@ -1,5 +1,6 @@
 use borrow.Author.Tests.{lt-ltb, le-ltb}
-use Rattle.mask.specs.Placements.{otherRail, railSize}
+use Rattle.image.specs.Layout.{railSize}
+use Rattle.mask.specs.Placements.{otherRail}
 use Rattle.mask.proofs.other_rail.Statement.{statement}
 use Rattle.mask.proofs.other_rail.Tie as tie
 

@@ -1,4 +1,4 @@
--- The proof of `is_begun`: open at all, or open with the card. Assumes nothing.
+-- Open at all, or open with the card. Assumes nothing.
 use Prim.Native.Nat.{ℕ}
 use mathlib.Core.Bool.{Bool, cond, false, true}
 use mathlib.Core.Option.{none, some}
@@ -6,15 +6,12 @@ use mathlib.Core.Path.{_≡_, refl}
 use lib.Dec.{leb}
 use borrow.Author.Needs.{needs}
 use Rattle.method.specs.Slots.{isSome}
+use Rattle.control.proofs.Struct.{open-bit}
 use Rattle.tables.proofs.is_begun.Statement.{statement}
 use Rattle.tables.proofs.is_begun.Tie as tie
 
-some-if : (b : Bool) (h : ℕ) → b ≡ isSome (cond b (some h) none)
-some-if true h = refl
-some-if false h = refl
-
 returns : tie.Need-returns
-returns c = rw (c .if1 .taken) (some-if (leb 128 (c .before .args .home)) _)
+returns c = rw (c .if1 .taken) (open-bit (c .before .args .home))
 
 is-home-requires : tie.Need-is-home-requires
 is-home-requires c κs = search needs

@@ -1,4 +1,4 @@
--- The proof of `Control::close_at`. Assumes nothing.
+-- The bytes before i are what is kept of them, the others as they were. Assumes nothing.
 use mathlib.Core.Path.{_≡_, refl, ap, _∙_}
 use Prim.Native.Nat.{ℕ, _≤_, _<_, _-_}
 use native.Mathlib.Nat.{not-suc-le-zero}
@@ -7,17 +7,18 @@ use borrow.Author.Needs.{needs}
 use lib.ListN.{length, getD, set, length-set}
 use lib.Seq.{getD-set-other}
 use Rattle.lists.proofs.Segments.{fill-more}
+use Rattle.image.specs.Layout.{tranCount}
 use Rattle.control.specs.Meaning.{keptHome}
 use Rattle.control.proofs.Changes.{close-at-is}
 use Rattle.control.proofs.Control.close_at.Statement.{statement}
 use Rattle.control.proofs.Control.close_at.Tie as tie
 
 abbrev Inv-loop : tie.InvT-loop
-Inv-loop self card homes₀ i₀ homes i = (i ≤ 15) × (length homes ≡ 15)
+Inv-loop self card homes₀ i₀ homes i = (i ≤ tranCount) × (length homes ≡ tranCount)
     × ((j : ℕ) → j < i → getD homes j 0 ≡ keptHome (card .0) (getD (self .homes) j 0)) × ((j : ℕ) → i ≤ j → getD homes j 0 ≡ getD (self .homes) j 0)
 
 abbrev μ-loop : tie.MeasureT-loop
-μ-loop self card homes₀ i₀ homes i = 15 - i
+μ-loop self card homes₀ i₀ homes i = tranCount - i
 
 loop-holds : tie.Need-loop-holds Inv-loop μ-loop
 loop-holds c = (search needs, search needs, (λ j h. absurd (not-suc-le-zero h)), (λ j h. refl))

@@ -1,29 +1,30 @@
--- The proof of `codec::encode`. Assumes nothing.
+-- The bytes are written from the front, field by field, each as the rules give it. Assumes nothing.
 use mathlib.Core.Path.{_≡_, ap, subst, _∙_}
 use Prim.Native.Nat.{ℕ, _+_, _*_, _-_, _≤_}
 use native.Mathlib.Omega.{arith}
 use mir.Syntax.{w8}
 use mir.Val.{Fits}
 use borrow.Author.Needs.{needs}
-use Rattle.control.specs.ControlBytes.{controlByte}
+use Rattle.image.specs.Layout.{mostActive, tranCount}
+use Rattle.control.specs.ControlBytes.{controlByte, failedAt, field, homesAt, marksAt, masksAt, workingAt}
 use Rattle.control.specs.Meaning.{maskIn, meaning}
-use Rattle.control.proofs.Struct.{byte-first, byte-mask-at, byte-working, byte-failed, byte-marks, byte-home-at}
-use Rattle.control.proofs.Struct.{byte-zero, bit-le}
+use Rattle.control.proofs.Struct.{byte-first, byte-mask-at, byte-working, byte-failed, byte-marks, byte-home}
+use Rattle.control.proofs.Struct.{byte-rest, bit-le}
 use Rattle.control.proofs.Written.{Written, none-written, one-written, all-written}
 use Rattle.control.proofs.codec.encode.Statement.{statement}
 use Rattle.control.proofs.codec.encode.Tie as tie
 
 abbrev Inv-loop : tie.InvT-loop
-Inv-loop k bytes₀ i₀ bytes i = (i ≤ 4) × Written (controlByte (meaning k)) (1 + i) bytes
+Inv-loop k bytes₀ i₀ bytes i = (i ≤ mostActive) × Written (controlByte (meaning k)) (masksAt + i) bytes
 
 abbrev μ-loop : tie.MeasureT-loop
-μ-loop k bytes₀ i₀ bytes i = 4 - i
+μ-loop k bytes₀ i₀ bytes i = mostActive - i
 
 abbrev Inv-loop2 : tie.InvT-loop2
-Inv-loop2 k bytes₀ i t₀ bytes t = (t ≤ 15) × Written (controlByte (meaning k)) (8 + t) bytes
+Inv-loop2 k bytes₀ i t₀ bytes t = (t ≤ tranCount) × Written (controlByte (meaning k)) (homesAt + t) bytes
 
 abbrev μ-loop2 : tie.MeasureT-loop2
-μ-loop2 k bytes₀ i t₀ bytes t = 15 - t
+μ-loop2 k bytes₀ i t₀ bytes t = tranCount - t
 
 stopped-bit-requires : tie.Need-stopped-bit-requires Inv-loop μ-loop Inv-loop2 μ-loop2
 stopped-bit-requires c κs = search needs
@@ -40,8 +41,8 @@ array-write-bytes c = search needs
 loop-holds : tie.Need-loop-holds Inv-loop μ-loop Inv-loop2 μ-loop2
 loop-holds c =
     let s = c .before in
-    let first = ap (λ (x : ℕ). x + s .args .t1 .count * 16) (c .stopped-bit .ensures) ∙ byte-first (s .args .t1) (s .pre) in
-    (search needs, one-written _ 0 1 _ _ (none-written _) (omega arith) (omega arith) first)
+    let first = ap (λ (x : ℕ). x + s .args .t1 .count * field) (c .stopped-bit .ensures) ∙ byte-first (s .args .t1) (s .pre) in
+    (search needs, one-written _ 0 masksAt _ _ (none-written _) (omega arith) (omega arith) first)
 
 element-copy-out-mask-byte : tie.Need-element-copy-out-mask-byte Inv-loop μ-loop Inv-loop2 μ-loop2
 element-copy-out-mask-byte c = search needs
@@ -67,7 +68,7 @@ loop-again c =
     let s = c .before .before .before .before .before in
     let f : Fits w8 (maskIn (s .args .t1) (l .i)) = search needs in
     let mask = c .mask-byte .ensures ∙ byte-mask-at (s .args .t1) (s .pre) (l .i) (omega arith) (f .fits) in
-    (omega arith, one-written _ (1 + l .i) (1 + (l .i + 1)) (l .bytes) _ (l .inv .1) (omega arith) (omega arith) mask)
+    (omega arith, one-written _ (masksAt + l .i) (masksAt + (l .i + 1)) (l .bytes) _ (l .inv .1) (omega arith) (omega arith) mask)
 
 array-write-bytes-3 : tie.Need-array-write-bytes-3 Inv-loop μ-loop Inv-loop2 μ-loop2
 array-write-bytes-3 c = search needs
@@ -85,12 +86,12 @@ loop2-holds : tie.Need-loop2-holds Inv-loop μ-loop Inv-loop2 μ-loop2
 loop2-holds c =
     let l = c .before .before .loop in
     let s = c .before .before .before .before in
-    let five : 1 + l .i ≡ 5 = omega arith in
-    let masks = subst (λ (m : ℕ). Written (controlByte (meaning (s .args .t1))) m (l .bytes)) five (l .inv .1) in
-    let working = one-written _ 5 6 (l .bytes) _ masks (omega arith) (omega arith) (byte-working (s .args .t1) (s .pre) (search needs)) in
-    let failed = one-written _ 6 7 _ _ working (omega arith) (omega arith) (byte-failed (s .args .t1) (s .pre) (search needs)) in
+    let all : masksAt + l .i ≡ workingAt = omega arith in
+    let masks = subst (λ (m : ℕ). Written (controlByte (meaning (s .args .t1))) m (l .bytes)) all (l .inv .1) in
+    let working = one-written _ workingAt failedAt (l .bytes) _ masks (omega arith) (omega arith) (byte-working (s .args .t1) (s .pre) (search needs)) in
+    let failed = one-written _ failedAt marksAt _ _ working (omega arith) (omega arith) (byte-failed (s .args .t1) (s .pre) (search needs)) in
     let marks = c .marks-byte .ensures ∙ byte-marks (s .args .t1) (s .pre) (search needs) in
-    (search needs, one-written _ 7 8 _ _ failed (omega arith) (omega arith) marks)
+    (search needs, one-written _ marksAt homesAt _ _ failed (omega arith) (omega arith) marks)
 
 element-copy-out-home-byte : tie.Need-element-copy-out-home-byte Inv-loop μ-loop Inv-loop2 μ-loop2
 element-copy-out-home-byte c = search needs
@@ -114,14 +115,14 @@ loop2-again : tie.Need-loop2-again Inv-loop μ-loop Inv-loop2 μ-loop2
 loop2-again c =
     let l = c .before .before .before .loop2 in
     let s = c .before .before .before .before .before .before .before .before in
-    let home = c .home-byte .ensures ∙ byte-home-at (s .args .t1) (s .pre) (l .t) (omega arith) in
-    (omega arith, one-written _ (8 + l .t) (8 + (l .t + 1)) (l .bytes) _ (l .inv .1) (omega arith) (omega arith) home)
+    let home = c .home-byte .ensures ∙ byte-home (s .args .t1) (s .pre) (l .t) (omega arith) in
+    (omega arith, one-written _ (homesAt + l .t) (homesAt + (l .t + 1)) (l .bytes) _ (l .inv .1) (omega arith) (omega arith) home)
 
 returns : tie.Need-returns Inv-loop μ-loop Inv-loop2 μ-loop2
 returns c =
     let l = c .before .loop2 in
     let s = c .before .before .before .before .before .before in
-    all-written _ (8 + l .t) (l .bytes) (l .inv .1) (λ j h. byte-zero (s .args .t1) (s .pre) j (omega arith))
+    all-written _ (homesAt + l .t) (l .bytes) (l .inv .1) (λ j h. byte-rest (s .args .t1) (s .pre) j (omega arith))
 
 pub encode-spec : {M : Type 1} → statement M
 encode-spec =

@@ -1,4 +1,4 @@
--- The proof of `codec::home_byte`. Assumes nothing.
+-- By whether the byte is open. Assumes nothing.
 use borrow.Author.Tests.{le-leb, lt-leb}
 use borrow.Author.Needs.{needs}
 use Rattle.control.proofs.codec.home_byte.Statement.{statement}

@@ -1,8 +1,6 @@
--- The proof of `codec::is_home`: an open byte is 128 and more, so its upper four bits are 8 and the home. Assumes nothing.
-use mathlib.Core.Path.{_≡_, refl}
-use mathlib.Core.Bool.{Bool, true, false, cond}
+-- An open byte has its highest bit, so its upper four bits are the field's bound and the home. Assumes nothing.
+use mathlib.Core.Path.{_≡_}
 use mathlib.Core.Logic.{⊎-elim}
-use mathlib.Core.Option.{none, some}
 use Prim.Native.Nat.{ℕ, _+_, _/_, _%_, _≤_, _<_}
 use native.Mathlib.Omega.{arith}
 use lib.Dec.{eqb}
@@ -11,18 +9,18 @@ use borrow.Author.Tests.{le-leb, lt-leb, ne-eqb}
 use Rattle.lists.proofs.Cases.{lt-or-ge}
 use Rattle.lists.proofs.Counts.{eqb-same}
 use Rattle.method.specs.ControlPart.{isCard}
-use Rattle.control.specs.ControlBytes.{homeIn}
+use Rattle.control.specs.ControlBytes.{field, fieldBound, homeIn, openBit}
 use Rattle.control.proofs.codec.is_home.Statement.{statement}
 use Rattle.control.proofs.codec.is_home.Tie as tie
 
-home-by : (b c : ℕ) → b < 256 → eqb (b / 16) (8 + c) ≡ isCard (homeIn b) c
-home-by b c h = ⊎-elim closed opened (lt-or-ge b 128)
+home-by : (b c : ℕ) → b < 256 → eqb (b / field) (fieldBound + c) ≡ isCard (homeIn b) c
+home-by b c h = ⊎-elim closed opened (lt-or-ge b openBit)
   where
-    closed : b < 128 → eqb (b / 16) (8 + c) ≡ isCard (homeIn b) c
-    closed p = rw (lt-leb 128 b p) (ne-eqb (b / 16) (8 + c) (λ e. omega arith))
+    closed : b < openBit → eqb (b / field) (fieldBound + c) ≡ isCard (homeIn b) c
+    closed p = rw (lt-leb openBit b p) (ne-eqb (b / field) (fieldBound + c) (λ e. omega arith))
 
-    opened : 128 ≤ b → eqb (b / 16) (8 + c) ≡ isCard (homeIn b) c
-    opened p = rw (le-leb 128 b p) (eqb-same (b / 16) (8 + c) (b / 16 % 8) c (λ e. omega arith) (λ e. omega arith))
+    opened : openBit ≤ b → eqb (b / field) (fieldBound + c) ≡ isCard (homeIn b) c
+    opened p = rw (le-leb openBit b p) (eqb-same (b / field) (fieldBound + c) (b / field % fieldBound) c (λ e. omega arith) (λ e. omega arith))
 
 cast-result : tie.Need-cast-result
 cast-result c = search needs

@@ -1,12 +1,13 @@
--- The proof of `codec::is_open_at`: transaction t's byte is the byte t - 1 behind the first of them. Assumes nothing.
-use mathlib.Core.Path.{_≡_, _∙_, ap}
-use Prim.Native.Nat.{ℕ, _+_, _-_}
-use native.Mathlib.Omega.{arith}
-use lib.Dec.{leb}
+-- Transaction t's byte is the byte t - 1 behind the first of them, and its highest bit says that it is open. Assumes nothing.
+use mathlib.Core.Path.{_∙_, ap, sym}
+use mathlib.Core.Option.{Option}
+use Prim.Native.Nat.{ℕ}
 use lib.ListN.{getD}
 use borrow.Author.Tests.{lt-ltb}
 use Rattle.image.specs.Layout.{tranBound}
-use Rattle.control.specs.ControlBytes.{controlOf}
+use Rattle.method.specs.Slots.{isSome}
+use Rattle.control.specs.ControlBytes.{homeAt}
+use Rattle.control.proofs.Fields.{shown-home}
 use Rattle.control.proofs.Struct.{open-bit}
 use borrow.Author.Needs.{needs}
 use Rattle.control.proofs.codec.is_open_at.Statement.{statement}
@@ -25,13 +26,12 @@ shared-slice-read-result : tie.Need-shared-slice-read-result
 shared-slice-read-result c = search needs
 
 returns : tie.Need-returns
-unfolding controlOf
 returns c =
     let s = c .before .before in
     let t : ℕ = s .args .tran .0 in
     let l = s .args .s .now in
-    let e : 8 + (t - 1) ≡ t + 7 = omega (arith, s .pre .1 .0) in
-    ap (λ (n : ℕ). leb 128 (getD l n 0)) e ∙ rw (lt-ltb 0 t (s .pre .1 .0), lt-ltb t tranBound (s .pre .1 .1)) (open-bit (getD l (t + 7) 0))
+    rw (lt-ltb 0 t (s .pre .1 .0), lt-ltb t tranBound (s .pre .1 .1)) (open-bit (getD l (homeAt t) 0))
+    ∙ sym (ap (λ (o : Option ℕ). isSome o) (shown-home (λ n. getD l n 0) t))
 
 pub is-open-at-spec : {M : Type 1} → statement M
 is-open-at-spec =

@@ -1,5 +1,4 @@
 -- The proof of `codec::mask_byte`. Assumes nothing.
-use borrow.Author.Needs.{needs}
 use borrow.Author.Tests.{lt-ltb, le-ltb}
 use Rattle.control.proofs.codec.mask_byte.Statement.{statement}
 use Rattle.control.proofs.codec.mask_byte.Tie as tie

@@ -1,11 +1,12 @@
--- The proof of `codec::placement_at`: the mask's byte stands behind byte 0, and the code's test of a mark is that of the rules. Assumes nothing.
-use mathlib.Core.Path.{_≡_, ap₂}
+-- The mask's byte is byte i of the masks, and the code's test of a mark is that of the rules. Assumes nothing.
+use mathlib.Core.Path.{ap}
 use mathlib.Core.Bool.{Bool}
-use Prim.Native.Nat.{ℕ, _+_, suc}
+use Prim.Native.Nat.{_+_}
 use native.Mathlib.Omega.{arith}
 use lib.ListN.{getD}
 use borrow.Author.Needs.{needs}
 use Rattle.mask.specs.Masks.{byte}
+use Rattle.control.specs.ControlBytes.{marksAt, masksAt}
 use Rattle.control.proofs.Marks.{mark-is}
 use Rattle.control.proofs.codec.placement_at.Statement.{statement}
 use Rattle.control.proofs.codec.placement_at.Tie as tie
@@ -30,8 +31,8 @@ returns c =
     let s = c .before .before in
     let l = s .args .s .now in
     let i = s .args .i in
-    let e : 1 + i ≡ suc i = omega arith in
-    ap₂ (λ (n : ℕ) (r : Bool). record { mask = byte (getD l n 0); byRails = r }) e (mark-is (getD l 7 0) i (omega (arith, c .shared-slice-known2 .given 7)) (s .pre .1))
+    ap (λ (r : Bool). record { mask = byte (getD l (masksAt + i) 0); byRails = r })
+    (mark-is (getD l marksAt 0) i (omega (arith, c .shared-slice-known2 .given marksAt)) (s .pre .1))
 
 pub placement-at-spec : {M : Type 1} → statement M
 placement-at-spec =

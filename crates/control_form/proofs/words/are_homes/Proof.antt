@@ -1,7 +1,7 @@
 -- The proof of `words::are_homes`: the test of the number is one of its bytes. Assumes nothing.
 use native.Mathlib.Omega.{arith}
 use lib.Bits.{and-le-r}
-use Rattle.control_form.proofs.Homes.{homes-at}
+use Rattle.control_form.proofs.Homes.{homes-at, opens}
 use borrow.Author.Needs.{needs}
 use Rattle.control_form.proofs.words.are_homes.Statement.{statement}
 use Rattle.control_form.proofs.words.are_homes.Tie as tie
@@ -13,7 +13,7 @@ word-requires : tie.Need-word-requires
 word-requires c κs = search needs
 
 mul-result : tie.Need-mul-result
-mul-result c = omega (arith, and-le-r (c .word .result) 9259542123273814144)
+mul-result c = omega (arith, and-le-r (c .word .result) opens)
 
 returns : tie.Need-returns
 returns c =

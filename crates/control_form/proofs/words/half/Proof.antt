@@ -6,7 +6,7 @@ use Rattle.control_form.proofs.words.half.Statement.{statement}
 use Rattle.control_form.proofs.words.half.Tie as tie
 use Rattle.control_form.proofs.words.half.Reads as reads
 use Rattle.control_form.proofs.words.half.Lts as lts
-use Rattle.control_form.proofs.words.wide.Reads as wide-reads
+use Rattle.image.proofs.wide.Reads as wide-reads
 
 -- src/words.rt:45:10
 shared-slice-read-wide : tie.Need-shared-slice-read-wide

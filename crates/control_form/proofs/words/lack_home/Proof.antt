@@ -4,13 +4,14 @@ use Prim.Native.Nat.{ℕ, _+_, _*_, _/_}
 use native.Mathlib.Omega.{arith}
 use lib.Bits.{bitAnd, bitXor, xor-lt}
 use lib.Dec.{eqb}
-use Rattle.control_form.proofs.Homes.{lack-at}
+use Rattle.control_form.proofs.Homes.{carries, lack-at, nibbles, ones}
 use borrow.Author.Needs.{needs}
 use Rattle.control_form.proofs.words.lack_home.Statement.{statement}
 use Rattle.control_form.proofs.words.lack_home.Tie as tie
 use Rattle.control_form.proofs.words.lack_home.Reads as reads
 use Rattle.control_form.proofs.words.lack_home.Lts as lts
-use Rattle.control_form.proofs.words.wide.Reads as wide-reads
+use Rattle.image.proofs.wide.Reads as wide-reads
+use Rattle.control.specs.ControlBytes.{field}
 use Rattle.control_form.proofs.words.word.Reads as word-reads
 
 word-requires : tie.Need-word-requires
@@ -34,7 +35,7 @@ mul-differ c = search needs
 add-result : tie.Need-add-result
 add-result c =
     let w = c .before .before .word .result in
-    omega (arith, xor-lt 60 (w / 16) (c .wide .result * 72340172838076673) (omega arith) (omega (arith, c .wide .ensures .0)))
+    omega (arith, xor-lt 60 (w / field) (c .wide .result * ones) (omega arith) (omega (arith, c .wide .ensures .0)))
 
 returns : tie.Need-returns
 returns c =
@@ -42,7 +43,7 @@ returns c =
     let k = v .before in
     let s = k .before in
     let w = v .word .result in
-    ap (λ (n : ℕ). eqb (bitAnd (bitXor (w / 16) (n * 72340172838076673) + 1085102592571150095) 1157442765409226768) 1157442765409226768) (c .wide .ensures .0)
+    ap (λ (n : ℕ). eqb (bitAnd (bitXor (w / field) (n * ones) + nibbles) carries) carries) (c .wide .ensures .0)
     ∙ lack-at (s .args .s .now) (λ n. k .shared-slice-known .given n .fits) (s .args .at) w (s .args .home .0) (v .word .ensures) (s .pre .1 .0) (s .pre .1 .1)
 
 pub lack-home-spec : {M : Type 1} → statement M

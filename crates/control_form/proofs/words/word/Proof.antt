@@ -1,5 +1,4 @@
 -- The proof of `words::word`: two halves. Assumes nothing.
-use native.Mathlib.Omega.{arith}
 use Rattle.lists.proofs.Bytes.{eight-bytes}
 use borrow.Author.Needs.{needs}
 use Rattle.control_form.proofs.words.word.Statement.{statement}

@@ -1,4 +1,6 @@
 -- The proof of `block::word_at`: five bytes as one number, the first highest. Assumes nothing.
+use mathlib.Core.Path.{_≡_}
+use Prim.Native.Nat.{ℕ, _%_, _<_}
 use native.Mathlib.Omega.{arith}
 use Rattle.slot.proofs.Steps.{word-of-list}
 use borrow.Author.Needs.{needs}
@@ -6,7 +8,7 @@ use Rattle.slot.proofs.block.word_at.Statement.{statement}
 use Rattle.slot.proofs.block.word_at.Tie as tie
 use Rattle.slot.proofs.block.word_at.Reads as reads
 use Rattle.slot.proofs.block.word_at.Lts as lts
-use Rattle.slot.proofs.wide.Reads as wide-reads
+use Rattle.image.proofs.wide.Reads as wide-reads
 
 mul-at : tie.Need-mul-at
 mul-at c = search needs
@@ -80,11 +82,24 @@ mul-result-4 c = search needs
 add-result-4 : tie.Need-add-result-4
 add-result-4 c = search needs
 
+-- a byte is its own low eight bits
+low : {r b : ℕ} → (r ≡ b) × (r < 256) → r ≡ b % 256
+low (e, h) = omega arith
+
 returns : tie.Need-returns
 returns c =
+    let e4 = c .before .before in
+    let e3 = e4 .before .before in
+    let e2 = e3 .before .before in
+    let e1 = e2 .before .before in
+    let p1 = low (e1 .wide .ensures) in
+    let p2 = low (e2 .wide2 .ensures) in
+    let p3 = low (e3 .wide3 .ensures) in
+    let p4 = low (e4 .wide4 .ensures) in
+    let p5 = low (c .wide5 .ensures) in
     let a = c .before .before .before .before .before .before .before .before .before .before .before .args in
     let e = word-of-list (a .block .now) (a .i) (omega arith) in
-    (cc, omega arith)
+    (cc, omega (arith, e1 .wide .ensures .1, e2 .wide2 .ensures .1, e3 .wide3 .ensures .1, e4 .wide4 .ensures .1, c .wide5 .ensures .1))
 
 pub word-at-spec : {M : Type 1} → statement M
 word-at-spec =
