@@ -9,7 +9,7 @@ use Rattle.image.specs.Layout.{valueBound}
 use Rattle.mask.specs.Masks.{Byte}
 use Rattle.mask.specs.Placements.{chainedSites, olderFromMask, sitesOf}
 use Rattle.mask.proofs.SiteLaws.{site-count, site-distinct, site-member}
-use Rattle.control.specs.ControlBytes.{controlByte, marksFrom}
+use Rattle.control.specs.ControlBytes.{controlByte, marksAt, marksFrom}
 use Rattle.cabinet_rules.specs.Delivery.{PartOf, twoRails}
 use Rattle.cabinet_rules.specs.Retired.{base, beforeMarks, partBy}
 use Rattle.cabinet_rules.specs.GoesOn.{fromBase}
@@ -48,12 +48,12 @@ no-marks : (l : List Byte) (m : Byte) (i : ℕ) → marksFrom i (map olderFromMa
 no-marks [] m i = refl
 no-marks (x ∷ l) m i = ap (λ (n : ℕ). 0 + n) (no-marks l m (suc i))
 
-marks-zero : (k : PartOf base) (n : ℕ) → eqb n 7 ≡ true → 0 ≡ controlByte (partBy olderFromMask (λ ν. ν) k) n
+marks-zero : (k : PartOf base) (n : ℕ) → eqb n marksAt ≡ true → 0 ≡ controlByte (partBy olderFromMask (λ ν. ν) k) n
 unfolding controlByte
-marks-zero k n e = rw (eqb-true n 7 e) (sym (no-marks (k .older) (k .newest) 0))
+marks-zero k n e = rw (eqb-true n marksAt e) (sym (no-marks (k .older) (k .newest) 0))
 
 -- A.1 writes of an older control part what the base wrote
-same-bytes : (k : PartOf base) (n : ℕ) → (a : Bool) → eqb n 7 ≡ a
+same-bytes : (k : PartOf base) (n : ℕ) → (a : Bool) → eqb n marksAt ≡ a
     → cond a 0 (controlByte (partBy olderFromMask (λ ν. ν) k) n) ≡ controlByte (partBy olderFromMask (λ ν. ν) k) n
 same-bytes k n true e = marks-zero k n e
 same-bytes k n false e = refl
@@ -72,7 +72,7 @@ base-retired = retired-over base twoRails fromBase beforeMarks (record {
 })
 
 pub base-carried : Carries base twoRails fromBase railLaws
-base-carried = carries-same base twoRails fromBase railLaws (λ g. refl) refl (λ k n h. same-bytes k n (eqb n 7) refl) (λ k n h. refl) (λ g c h. refl) (λ g c h. refl)
+base-carried = carries-same base twoRails fromBase railLaws (λ g. refl) refl (λ k n h. same-bytes k n (eqb n marksAt) refl) (λ k n h. refl) (λ g c h. refl) (λ g c h. refl)
 
 abbrev pub baseLaws : DeliveryLaws base
 baseLaws = record {

@@ -2,14 +2,14 @@
 use Prim.Native.Nat.{_+_, _<_, _≤_, suc, zero, ℕ}
 use borrow.Author.Tests.{eq-eqb, le-leb, le-ltb, leb-false, leb-true, lt-leb, lt-ltb, ltb-false, ltb-true}
 use lib.Dec.{eqb, leb, ltb}
-use lib.ListN.{length}
-use mathlib.Core.Bool.{_&&_, _||_, false, not, true}
+use lib.ListN.{length, length-reverse}
+use mathlib.Core.Bool.{Bool, _&&_, _||_, cond, false, not, true}
 use mathlib.Core.List.{List, [], _∷_, reverse}
 use mathlib.Core.Logic.{_⊎_, inl, inr}
 use mathlib.Core.Option.{Option, none, some}
-use mathlib.Core.Path.{_∙_, _≡_, refl, sym}
+use mathlib.Core.Path.{_∙_, _≡_, ap, refl, sym}
 use native.Mathlib.Omega.{arith}
-use Rattle.lists.specs.Tests.{In, anyBelow, count}
+use Rattle.lists.specs.Tests.{In, count}
 use Rattle.lists.proofs.Bools.{and-in, imp, is-not, nand, or-l, or-r, split, tf}
 use Rattle.lists.proofs.Counts.{all-below, any-below}
 use Rattle.lists.proofs.Lists.{all-in}
@@ -19,11 +19,11 @@ use Rattle.mask.specs.Placements.{Placement}
 use Rattle.mask.proofs.Masks.{has-card, has-with, same-number}
 use Rattle.method.specs.ControlPart.{active, isOpen, part}
 use Rattle.method.specs.Rules.{lost, lostOf}
-use Rattle.method.proofs.Capacity.{Chain, ControlInv, bounded}
+use Rattle.method.proofs.Capacity.{Chain, ControlInv, OneMore, bounded}
 use Rattle.method.proofs.Invariant.{Form}
 use Rattle.method.proofs.Stopped.{Rests}
 use Rattle.control.specs.ControlBytes.{Part, controlByte, countIn}
-use Rattle.control_form.specs.ControlForm.{countOk, formOk, fourthOk, homeOk, isSafe, membersOk, partOk, zeroFieldsOk}
+use Rattle.control_form.specs.ControlForm.{chainOk, countOk, formOk, homeOk, isSafe, masksOf, membersOk, partOk, zeroFieldsOk}
 use Rattle.control_form.proofs.RoundTrip.{read-control, read-count}
 use Rattle.cabinet_rules.specs.Cabinet.{cabinet, tranOk}
 use Rattle.cabinet_rules.specs.Delivery.{belowWire, current}
@@ -31,15 +31,15 @@ use Rattle.cabinet_rules.proofs.Lawful.{ControlLaws, DeliveryLaws, lawf
 
 -- ---- the stop rule and the clause of the control form on it
 -- a placement is safe exactly where it is not lost
-pub safe-is : (working failed : Byte) (p : Placement) → isSafe working failed p ≡ not (lostOf cabinet tt working failed p)
+pub safe-is : (working failed m : Byte) → isSafe working failed m ≡ not (lostOf cabinet tt working failed m)
 unfolding isSafe lostOf common
-safe-is working failed p = go (split (leb copyCount x)) (split (ltb y copyCount))
+safe-is working failed m = go (split (leb copyCount x)) (split (ltb y copyCount))
   where
     x : ℕ
-    x = count cardCount (λ c. hasCard (p .mask) c && hasCard failed c)
+    x = count cardCount (λ c. hasCard m c && hasCard failed c)
 
     y : ℕ
-    y = count cardCount (λ c. hasCard (p .mask) c && hasCard working c)
+    y = count cardCount (λ c. hasCard m c && hasCard working c)
 
     go : (leb copyCount x ≡ true) ⊎ (leb copyCount x ≡ false) → (ltb y copyCount ≡ true) ⊎ (ltb y copyCount ≡ false)
         → (ltb x copyCount && leb copyCount y) ≡ not (leb copyCount x || ltb y copyCount)
@@ -47,27 +47,39 @@ safe-is working failed p = go (split (leb copyCount x)) (split (ltb y copyCount)
     go (inr e) (inl f) = rw (e, f, lt-ltb x copyCount (leb-false copyCount x e), lt-leb copyCount y (ltb-true y copyCount f))
     go (inr e) (inr f) = rw (e, f, lt-ltb x copyCount (leb-false copyCount x e), le-leb copyCount y (ltb-false y copyCount f))
 
--- ---- four placements
--- with four active placements, the newest was added by a failure
-fourth-ok : (d : Byte) (newest : Placement) (j : ℕ) (l : List Placement) → Chain cabinet lawful d j newest (reverse l)
-    → suc (length l) ≤ mostPlaced + j → fourthOk d newest l ≡ true
-unfolding fourthOk isOneMore
-fourth-ok d newest j [] c h = refl
-fourth-ok d newest j (a ∷ []) c h = refl
-fourth-ok d newest j (a ∷ b ∷ []) c h = refl
-fourth-ok d newest j (a ∷ b ∷ p ∷ q ∷ l) c h = refl
-fourth-ok d newest j (a ∷ b ∷ p ∷ []) c h = go j c h
+-- ---- more placements than the limit
+pub length-masks : (l : List Placement) → length (masksOf l) ≡ length l
+length-masks [] = refl
+length-masks (p ∷ l) = ap suc (length-masks l)
+
+-- the card that a placement has besides is one that its mask has besides
+is-one-more : (d : Byte) (newest p : Placement) → OneMore cabinet lawful d newest p → isOneMore d (newest .mask) (p .mask) ≡ true
+unfolding isOneMore
+is-one-more d newest p o =
+    let lt : o .extra < cardCount = has-card d (o .extra) (o .extra-failed) in
+    any-below cardCount (λ x. hasCard d x && (not (hasCard (newest .mask) x) && eqb (p .mask .0) (withCard (newest .mask) x .0))) (o .extra) lt
+    (and-in _ _ (o .extra-failed) (and-in _ _ (is-not (hasCard (newest .mask) (o .extra)) (o .extra-new))
+    (eq-eqb (p .mask .0) (withCard (newest .mask) (o .extra) .0)
+    (same-number (p .mask) (withCard (newest .mask) (o .extra)) (λ x. o .extra-is x ∙ sym (has-with (newest .mask) (o .extra) x (lt-ltb (o .extra) cardCount lt)))))))
+
+-- while more than the limit are active, each was added by a failure
+chain-ok : (limit : ℕ) (d : Byte) (newest : Placement) (j : ℕ) (l : List Placement) → Chain cabinet lawful d j newest l
+    → suc (length l) ≤ limit + j → chainOk limit d (newest .mask) (masksOf l) ≡ true
+unfolding chainOk
+chain-ok limit d newest j [] c h = refl
+chain-ok limit d newest zero (p ∷ l) c h = rw (le-ltb limit (suc (suc (length (masksOf l)))) few)
   where
-    go : (j : ℕ) → Chain cabinet lawful d j newest (p ∷ b ∷ a ∷ []) → mostActive ≤ mostPlaced + j → anyBelow cardCount
-        (λ x. hasCard d x && (not (hasCard (newest .mask) x) && eqb (p .mask .0) (withCard (newest .mask) x .0))) ≡ true
-    go zero c h = absurd (omega arith)
-    go (suc j) c h =
-        let o = c .0 in
-        let lt : o .extra < cardCount = has-card d (o .extra) (o .extra-failed) in
-        any-below cardCount (λ x. hasCard d x && (not (hasCard (newest .mask) x) && eqb (p .mask .0) (withCard (newest .mask) x .0))) (o .extra) lt
-        (and-in _ _ (o .extra-failed) (and-in _ _ (is-not (hasCard (newest .mask) (o .extra)) (o .extra-new))
-        (eq-eqb (p .mask .0) (withCard (newest .mask) (o .extra) .0)
-        (same-number (p .mask) (withCard (newest .mask) (o .extra)) (λ x. o .extra-is x ∙ sym (has-with (newest .mask) (o .extra) x (lt-ltb (o .extra) cardCount lt)))))))
+    few : suc (suc (length (masksOf l))) ≤ limit
+    few = omega (arith, length-masks l)
+chain-ok limit d newest (suc j) (p ∷ l) c h = go (ltb limit (suc (suc (length (masksOf l))))) (chain-ok limit d p j l (c .1) (omega arith))
+  where
+    go : (b : Bool) → chainOk limit d (p .mask) (masksOf l) ≡ true → cond b (isOneMore d (newest .mask) (p .mask) && chainOk limit d (p .mask) (masksOf l)) true ≡ true
+    go true older = and-in _ _ (is-one-more d newest p (c .0)) older
+    go false older = refl
+
+room-ok : (d : Byte) (newest : Placement) (j : ℕ) (l : List Placement) → Chain cabinet lawful d j newest (reverse l)
+    → suc (length l) ≤ mostPlaced + j → chainOk mostPlaced d (newest .mask) (masksOf (reverse l)) ≡ true
+room-ok d newest j l c h = chain-ok mostPlaced d newest j (reverse l) c (omega (arith, length-reverse l))
 
 module _ (k : Part) (f : Form cabinet k) (u : ControlInv cabinet lawful k) where
   -- never more than four placements
@@ -87,11 +99,12 @@ module _ (k : Part) (f : Form cabinet k) (u : ControlInv cabinet lawful k) where
   unfolding partOk areApart isWithin isWithinEither membersOk homeOk
   running-ok =
       and-in _ _ (all-below cardCount _ (λ c h. nand (hasCard (k .working) c) (hasCard (k .failed) c) (f .base .apart c)))
-      (and-in _ _ (all-in (membersOk (k .working) (k .failed)) (active k) (λ p m. and-in _ _ (le-leb copyCount (size (p .mask)) (f .base .sound p m))
+      (and-in _ _ (all-in (λ p. membersOk (k .working) (k .failed) (p .mask)) (active k) (λ p m. and-in _ _ (le-leb copyCount (size (p .mask)) (f .base .sound p m))
       (all-below cardCount _ (λ c h. imp (hasCard (p .mask) c) _ (known p c m)))))
-      (and-in _ _ (fourth-ok (k .failed) (k .newest) (u .room .steps) (k .older) (u .room .chain) (u .room .few))
+      (and-in _ _ (room-ok (k .failed) (k .newest) (u .room .steps) (k .older) (u .room .chain) (u .room .few))
       (and-in _ _ (or-r (k .stopped) _ (all-below cardCount _ (λ c h. imp (hasCard (k .newest .mask) c) (hasCard (k .working) c) (f .newWorks c))))
-      (and-in _ _ (or-r (k .stopped) _ (all-in (isSafe (k .working) (k .failed)) (active k) (λ p m. safe-is (k .working) (k .failed) p ∙ is-not (lost cabinet k p) (f .base .safe p m))))
+      (and-in _ _ (or-r (k .stopped) _ (all-in (λ p. isSafe (k .working) (k .failed) (p .mask)) (active k)
+      (λ p m. safe-is (k .working) (k .failed) (p .mask) ∙ is-not (lost cabinet k p) (f .base .safe p m))))
       (all-below tranBound _ (λ t h. home t (k .home t) refl))))))
     where
       home : (t : ℕ) (o : Option ℕ) → k .home t ≡ o → homeOk (k .stopped) (k .working) (k .home t) ≡ true
@@ -114,9 +127,9 @@ module _ (k : Part) (r : Rests cabinet lawful k) where
   unfolding partOk areApart isWithinEither membersOk homeOk
   resting-ok =
       and-in _ _ (all-below cardCount _ (λ x h. nand (hasCard (k .working) x) (hasCard (k .failed) x) (r .apart x)))
-      (and-in _ _ (all-in (membersOk (k .working) (k .failed)) (active k) (λ p m. and-in _ _ (le-leb copyCount (size (p .mask)) (r .sound p m))
+      (and-in _ _ (all-in (λ p. membersOk (k .working) (k .failed) (p .mask)) (active k) (λ p m. and-in _ _ (le-leb copyCount (size (p .mask)) (r .sound p m))
       (all-below cardCount _ (λ x h. imp (hasCard (p .mask) x) _ (known-resting p x m)))))
-      (and-in _ _ (fourth-ok (k .failed) (k .newest) (r .room .steps) (k .older) (r .room .chain) (r .room .few))
+      (and-in _ _ (room-ok (k .failed) (k .newest) (r .room .steps) (k .older) (r .room .chain) (r .room .few))
       (and-in _ _ (or-l (k .stopped) _ (r .stays))
       (and-in _ _ (or-l (k .stopped) _ (r .stays))
       (all-below tranBound (λ t. homeOk (k .stopped) (k .working) (k .home t)) (λ t h. rw (r .shut t)))))))

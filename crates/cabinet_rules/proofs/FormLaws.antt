@@ -1,9 +1,9 @@
 -- What the control form of an image gives, clause by clause, and that the control part of a running store that has it meets what the theorem
 -- asks. Assumes nothing.
-use Prim.Native.Nat.{_+_, _-_, _<_, _≤_, suc, ℕ}
-use borrow.Author.Tests.{eqb-true, leb-true, lt-ltb, ltb-true}
+use Prim.Native.Nat.{_-_, _+_, _<_, _≤_, suc, ℕ}
+use borrow.Author.Tests.{eqb-true, leb-true, lt-ltb, ltb-false, ltb-true}
 use lib.Dec.{eqb, leb, ltb}
-use lib.ListN.{getD, length}
+use lib.ListN.{getD, length, length-reverse}
 use mathlib.Core.Bool.{Bool, _&&_, _||_, cond, false, not, true}
 use mathlib.Core.List.{List, [], _∷_, reverse}
 use mathlib.Core.Logic.{_⊎_, inl, inr}
@@ -14,7 +14,7 @@ use Rattle.lists.specs.Tests.{In, elem}
 use Rattle.lists.proofs.Bools.{and-l, and-r, imp-out, not-is, split, tf}
 use Rattle.lists.proofs.Counts.{any-below-out, below-all}
 use Rattle.lists.proofs.Lists.{all-out, in-right}
-use Rattle.image.specs.Layout.{blockCount, cardCount, leastMembers, mostActive, mostPlaced, tranBound}
+use Rattle.image.specs.Layout.{mostActive, blockCount, cardCount, leastMembers, mostPlaced, tranBound}
 use Rattle.mask.specs.Masks.{Byte, areApart, hasCard, isOneMore, isWithin, isWithinEither, size, withCard}
 use Rattle.mask.specs.Placements.{Placement, Usable, sitesOf}
 use Rattle.mask.proofs.Masks.{byte-path, has-card, has-with}
@@ -26,13 +26,13 @@ use Rattle.method.proofs.Capacity.{Chain, ControlInv, OneMore}
 use Rattle.method.proofs.Invariant.{Form}
 use Rattle.method.proofs.Stopped.{Rests}
 use Rattle.control.specs.ControlBytes.{controlOf, countIn, homeIn, placementAt, homeAt}
-use Rattle.control_form.specs.ControlForm.{controlForm, fourthOk, homeOk, isSafe, membersOk}
+use Rattle.control_form.specs.ControlForm.{controlForm, homeOk, isSafe, membersOk, chainOk, masksOf}
 use Rattle.control_form.proofs.RoundTrip.{Clauses, form-count, form-part, part-clauses}
 use Rattle.control.proofs.Struct.{length-placements}
 use Rattle.control.proofs.Fields.{shown-home}
 use Rattle.cabinet_rules.specs.Cabinet.{cabinet, tranOk}
 use Rattle.cabinet_rules.specs.Images.{Image, controlIn}
-use Rattle.cabinet_rules.proofs.Form.{safe-is}
+use Rattle.cabinet_rules.proofs.Form.{length-masks, safe-is}
 use Rattle.cabinet_rules.proofs.Lawful.{lawful}
 
 -- a mask that is one more than another: the card that it has besides
@@ -52,22 +52,28 @@ one-more d newest third e =
       extra-is = λ y. ap (λ (m : Byte). hasCard m y) same ∙ has-with (newest .mask) x y (lt-ltb x cardCount (t .1));
     }
 
--- at most four placements: with four, the newest was added by a failure
-few-steps : (d : Byte) (newest : Placement) (l : List Placement) → length l ≤ mostPlaced → fourthOk d newest l ≡ true
-    → (j : ℕ) × Chain cabinet lawful d j newest (reverse l) × (suc (length l) ≤ mostPlaced + j)
-unfolding fourthOk
-few-steps d newest [] h e = (0, tt, omega arith)
-few-steps d newest (a ∷ []) h e = (0, tt, omega arith)
-few-steps d newest (a ∷ b ∷ []) h e = (0, tt, omega arith)
-few-steps d newest (a ∷ b ∷ p ∷ []) h e = (1, (one-more d newest p e, tt), omega arith)
-few-steps d newest (a ∷ b ∷ p ∷ q ∷ l) h e = absurd (omega arith)
+-- while more than the limit are active, each was added by a failure
+chain-steps : (limit : ℕ) (d : Byte) (newest : Placement) (l : List Placement) → 1 ≤ limit → chainOk limit d (newest .mask) (masksOf l) ≡ true
+    → (j : ℕ) × Chain cabinet lawful d j newest l × (suc (length l) ≤ limit + j)
+unfolding chainOk
+chain-steps limit d newest [] lo e = (0, tt, omega arith)
+chain-steps limit d newest (p ∷ l) lo e = go (split (ltb limit (suc (suc (length (masksOf l)))))) (chain-steps limit d p l lo)
+  where
+    go : (ltb limit (suc (suc (length (masksOf l)))) ≡ true) ⊎ (ltb limit (suc (suc (length (masksOf l)))) ≡ false)
+        → (chainOk limit d (p .mask) (masksOf l) ≡ true → (j : ℕ) × Chain cabinet lawful d j p l × (suc (length l) ≤ limit + j))
+        → (j : ℕ) × Chain cabinet lawful d j newest (p ∷ l) × (suc (suc (length l)) ≤ limit + j)
+    go (inl more) older =
+        let both : (isOneMore d (newest .mask) (p .mask) && chainOk limit d (p .mask) (masksOf l)) ≡ true = rw more at e in
+        let r = older (and-r (isOneMore d (newest .mask) (p .mask)) _ both) in
+        (suc (r .0), (one-more d newest p (and-l (isOneMore d (newest .mask) (p .mask)) _ both), r .1), omega (arith, r .2))
+    go (inr few) older = (0, tt, omega (arith, length-masks l, ltb-false limit (suc (suc (length (masksOf l)))) few))
 
 module _ (g : Image) (form : controlForm g ≡ true) where
   clauses : Clauses (controlIn g)
   clauses = part-clauses (controlIn g) (form-part (λ n. getD g n 0) form)
 
-  members-of : (p : Placement) → In p (active (controlIn g)) → membersOk (controlIn g .working) (controlIn g .failed) p ≡ true
-  members-of p m = all-out (membersOk (controlIn g .working) (controlIn g .failed)) (active (controlIn g)) p (clauses .members) m
+  members-of : (p : Placement) → In p (active (controlIn g)) → membersOk (controlIn g .working) (controlIn g .failed) (p .mask) ≡ true
+  members-of p m = all-out (λ p. membersOk (controlIn g .working) (controlIn g .failed) (p .mask)) (active (controlIn g)) p (clauses .members) m
 
   -- an active placement has as many members as copies
   pub usable-active : (p : Placement) → In p (active (controlIn g)) → Usable p
@@ -121,8 +127,8 @@ module _ (g : Image) (form : controlForm g ≡ true) where
   -- and no active placement is lost
   pub not-lost : controlIn g .stopped ≡ false → (p : Placement) → In p (active (controlIn g)) → lost cabinet (controlIn g) p ≡ false
   not-lost running p m = not-is (lost cabinet (controlIn g) p)
-      (sym (safe-is (controlIn g .working) (controlIn g .failed) p)
-      ∙ all-out (isSafe (controlIn g .working) (controlIn g .failed)) (active (controlIn g)) p (rw running at (clauses .safe)) m)
+      (sym (safe-is (controlIn g .working) (controlIn g .failed) (p .mask))
+      ∙ all-out (λ p. isSafe (controlIn g .working) (controlIn g .failed) (p .mask)) (active (controlIn g)) p (rw running at (clauses .safe)) m)
 
   known-works : (p : Placement) (c : ℕ) → In p (active (controlIn g)) → hasCard (p .mask) c ≡ true → hasCard (controlIn g .failed) c ≡ false → hasCard (controlIn g .working) c ≡ true
   known-works p c m h d = rest (hasCard (controlIn g .working) c) (hasCard (controlIn g .failed) c) (known-member p c m h) d
@@ -160,6 +166,14 @@ module _ (g : Image) (form : controlForm g ≡ true) where
       let home : homeOk (controlIn g .stopped) (controlIn g .working) (controlIn g .home t) ≡ true = clauses .home t in-range in
       and-r (not (controlIn g .stopped)) (hasCard (controlIn g .working) h) (sym (ap (homeOk (controlIn g .stopped) (controlIn g .working)) e) ∙ home)
 
+  -- and homes work and the placements are few
+  pub running-inv : ControlInv cabinet lawful (controlIn g)
+  running-inv =
+      let f = chain-steps mostPlaced (controlIn g .failed) (controlIn g .newest) (reverse (controlIn g .older)) (omega arith) (clauses .chain) in
+      let few : suc (length (controlIn g .older)) ≤ mostPlaced + f .0 = omega (arith, f .2, length-reverse (controlIn g .older)) in
+      record { homes = home-works; opens = open-in-range; room = record { steps = f .0; chain = f .1; few = few }; numbers = tt }
+
+  -- ---- a store that has stopped
   few-older : length (controlIn g .older) ≤ mostPlaced
   unfolding controlOf
   few-older =
@@ -168,13 +182,6 @@ module _ (g : Image) (form : controlForm g ≡ true) where
       let l : length (controlIn g .older) ≡ n - 1 = length-placements (placementAt (λ n. getD g n 0)) (n - 1) in
       omega (arith, c, l)
 
-  -- and homes work and the placements are few
-  pub running-inv : ControlInv cabinet lawful (controlIn g)
-  running-inv =
-      let f = few-steps (controlIn g .failed) (controlIn g .newest) (controlIn g .older) few-older (clauses .fourth) in
-      record { homes = home-works; opens = open-in-range; room = record { steps = f .0; chain = f .1; few = f .2 }; numbers = tt }
-
-  -- ---- a store that has stopped
   pub resting : controlIn g .stopped ≡ true → Rests cabinet lawful (controlIn g)
   unfolding homeOk
   resting stopped = record {

@@ -31,7 +31,7 @@ use Rattle.method.proofs.Legal.{Legal}
 use Rattle.method.proofs.Refusals.{row-clear}
 use Rattle.method.proofs.Stopped.{Rests}
 use Rattle.cabinet_rules.specs.Cabinet.{cabinet, placeRows, rulesOf, slotSeen, startRow, tranOk}
-use Rattle.control.specs.ControlBytes.{Setting, Serial}
+use Rattle.control.specs.ControlBytes.{Setting}
 use Rattle.cabinet_rules.specs.Delivery.{Delivery, PartOf, againByRails, belowWire, brokenWire, current, railed, storable}
 
 -- ---- slots, as the rules see them

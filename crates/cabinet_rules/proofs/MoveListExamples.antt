@@ -16,7 +16,7 @@ use Rattle.method.specs.Rules.{Call, act, answerOf, anyLocked, apply, begin, cl
 use Rattle.method.specs.Rules.{fail, holders, isProtected, layBlock, lockHolders, look, lostOf, move, moveWrites, nextState}
 use Rattle.method.specs.Rules.{place, plan, refusal, settle, settled, start, stopping, store, trail}
 use Rattle.control.specs.ControlBytes.{controlByte, controlOf}
-use Rattle.control_form.specs.ControlForm.{countOk, formOk, fourthOk, homeOk, isSafe, membersOk, partOk, zeroFieldsOk}
+use Rattle.control_form.specs.ControlForm.{countOk, formOk, chainOk, homeOk, isSafe, membersOk, partOk, zeroFieldsOk}
 use Rattle.cabinet_rules.specs.Cabinet.{cabinet, placeRows, startRow}
 use Rattle.cabinet_rules.specs.Images.{Image}
 use Rattle.cabinet_rules.specs.MoveLists.{listAnswerOn}
@@ -82,5 +82,5 @@ move-list-examples :
 unfolding moves answered final answersBy afterAll answerOf nextState apply plan refusal act look trail holders lostOf stopping settled settledBy isProtected lockHolders layBlock
     endHeld dropHeld clearCard moveWrites anyLocked hasCard withCard withoutCard isWithin memberAt chainedSites membersAfter acrossRails railSites sitesOf startRow placeRows
     isHeld wordAt slotOf wordOf putSlot lockSlot endedByte endSlots tabulate members size originBy movesOf moveList anyMoveLocked listAnswer listAnswerOn formOk partOk countOk
-    zeroFieldsOk areApart membersOk isWithinEither fourthOk isOneMore isSafe common homeOk controlOf controlByte
+    zeroFieldsOk areApart membersOk isWithinEither chainOk isOneMore isSafe common homeOk controlOf controlByte
 move-list-examples = refl

@@ -1,17 +1,16 @@
 -- This cabinet: the values that the rules of the method take. Eight cards, two copies, 64 blocks of eight records.
 -- Assumes nothing.
-use Prim.Native.Nat.{_%_, _/_, ℕ, _≤_}
-use lib.Dec.{ltb, leb}
-use mathlib.Core.Bool.{Bool, _&&_, _||_, not, true}
+use Prim.Native.Nat.{_%_, _/_, ℕ}
+use lib.Dec.{ltb}
+use mathlib.Core.Bool.{Bool, _&&_}
 use Rattle.image.specs.Layout.{blockCount, cardCount, copyCount, recordCount, slotCount, tranBound, mostPlaced}
-use Rattle.mask.specs.Masks.{Byte, hasCard, noCards, withCard, withoutCard, isWithin, size}
-use lib.ListN.{length}
+use Rattle.mask.specs.Masks.{Byte, hasCard, noCards, withCard, withoutCard}
 use Rattle.slot.specs.Blocks.{BlockBytes, emptyBlock, endSlots, freshBlock, isHeld, lockSlot, slotAt}
 use Rattle.slot.specs.Words.{stateOf}
 use Rattle.method.specs.Parameters.{Parameters}
 use Rattle.method.specs.Slots.{Slot}
 use Rattle.control.specs.ControlBytes.{Setting, Serial}
-use Rattle.cabinet_rules.specs.Delivery.{Delivery, current, PartOf}
+use Rattle.cabinet_rules.specs.Delivery.{Delivery, current}
 unfoldable pub use Rattle.cabinet_rules.specs.Places.{placeRows, startRow}
 
 -- A slot as the rules see it: an absence shows no value, and the unnamed bits are ignored.

@@ -8,7 +8,7 @@ use Rattle.image.specs.Layout.{controlSize, copyCount}
 use Rattle.mask.specs.Masks.{Byte, size}
 use Rattle.mask.specs.Placements.{Placement, chainedSites, olderFromMask}
 use Rattle.method.specs.ControlPart.{ControlPart, part}
-use Rattle.control.specs.ControlBytes.{Serial, Setting}
+use Rattle.control.specs.ControlBytes.{Serial, Setting, marksAt}
 use Rattle.cabinet_rules.specs.Delivery.{Delivery, Memory, anyValue, bare, railMemory}
 use Rattle.cabinet_rules.specs.Places.{placeRows}
 
@@ -69,7 +69,7 @@ beforeMarks = record {
   olderSerial = λ ν. ν;
   back = λ p. p .mask;
   backSerial = λ ν. ν;
-  added = λ n. eqb n 7;
+  added = λ n. eqb n marksAt;
   filled = λ n. 0;
 }
 

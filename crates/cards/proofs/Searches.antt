@@ -8,14 +8,13 @@ use mathlib.Core.Path.{_∙_, _≡_, ap, refl, sym}
 use native.Mathlib.Numerals.{unary-clauses}
 use native.Mathlib.Omega.{arith}
 use Rattle.lists.specs.Tests.{all, allBelow, any, anyBelow}
-use Rattle.lists.proofs.Counts.{all-more, eqb-same}
+use Rattle.lists.proofs.Counts.{eqb-same}
 use Rattle.image.specs.Layout.{tranBound}
 use Rattle.mask.specs.Masks.{Byte, byte, hasCard}
-use Rattle.mask.specs.Placements.{Placement}
 use Rattle.method.specs.ControlPart.{active}
 use Rattle.method.specs.Rules.{inActive}
 use Rattle.control.specs.Meaning.{Counted, maskIn, meaning}
-use Rattle.control_form.proofs.Checks.{every-passed, one-fails, placementTest}
+use Rattle.control.proofs.Active.{every-passed, maskPasses, one-fails, one-passes}
 use Rattle.cabinet_rules.specs.Cabinet.{cabinet}
 use Rattle.tables.specs.Tables.{setBelow, setOf}
 use Rattle.control.specs.declared.Control.{Control as Struct}
@@ -29,20 +28,18 @@ any-not-all f (x ∷ l) = go (f x) (any-not-all f l)
     go false ih = ih
 
 -- ---- the active placements: the card is not in this one
-abbrev pub lacks : ℕ → Byte → Byte → Placement → Bool
-lacks c working failed p = not (hasCard (p .mask) c)
+abbrev pub lacks : ℕ → Byte → Bool
+lacks c m = not (hasCard m c)
 
 module _ (k : Struct) (w : Counted k) (c : ℕ) where
   pub found-active : (i : ℕ) → i < k .count → true ≡ hasCard (byte (maskIn k i)) c → true ≡ inActive cabinet (meaning k) c
-  unfolding placementTest
   found-active i h e = ap not (one-fails (lacks c) k w i h (rw (sym e))) ∙ sym (any-not-all (λ p. hasCard (p .mask) c) (active (meaning k)))
 
-  pub none-active : (i : ℕ) → k .count ≡ i → allBelow i (placementTest (lacks c) k) ≡ true → false ≡ inActive cabinet (meaning k) c
+  pub none-active : (i : ℕ) → k .count ≡ i → allBelow i (maskPasses (lacks c) k) ≡ true → false ≡ inActive cabinet (meaning k) c
   none-active i e h = ap not (every-passed (lacks c) k w i e h) ∙ sym (any-not-all (λ p. hasCard (p .mask) c) (active (meaning k)))
 
-  pub still-none : (i : ℕ) → false ≡ hasCard (byte (maskIn k i)) c → allBelow i (placementTest (lacks c) k) ≡ true → allBelow (i + 1) (placementTest (lacks c) k) ≡ true
-  unfolding placementTest
-  still-none i e h = all-more (placementTest (lacks c) k) i (rw (sym e)) h
+  pub still-none : (i : ℕ) → false ≡ hasCard (byte (maskIn k i)) c → allBelow i (maskPasses (lacks c) k) ≡ true → allBelow (i + 1) (maskPasses (lacks c) k) ≡ true
+  still-none i e h = one-passes (lacks c) k w i (rw (sym e)) h
 
 -- ---- sets of transactions: one that is not 0 has a member
 power-some : (n : ℕ) → 0 < 2 ^ n

@@ -1,25 +1,25 @@
 -- The clauses of the control form, as the code goes through them. Assumes nothing.
 use mathlib.Core.Path.{_≡_, refl, sym, ap, _∙_}
-use mathlib.Core.Bool.{Bool, true, false, not, _&&_, cond}
-use mathlib.Core.List.{List}
+use mathlib.Core.Bool.{Bool, true, false, not, and-true, cond}
+use mathlib.Core.List.{List, [], _∷_, reverse, reverse-append}
 use Prim.Native.Nat.{ℕ, zero, suc, _-_, _≤_, _<_}
 use native.Mathlib.Omega.{arith}
 use lib.Dec.{leb, eqb}
 use lib.ListN.{getD}
 use borrow.Author.Tests.{not-true, not-false, lt-ltb, leb-true}
-use Rattle.lists.specs.Tests.{all, allBelow}
+use Rattle.lists.specs.Tests.{allBelow}
 use Rattle.lists.proofs.Bools.{and-l, and-r}
-use Rattle.lists.proofs.Counts.{all-fails}
-use Rattle.image.specs.Layout.{mostActive, tranBound}
+use Rattle.image.specs.Layout.{mostActive, mostPlaced, tranBound}
 use Rattle.mask.specs.Masks.{Byte, byte, isOneMore}
 use Rattle.mask.specs.Placements.{Placement}
-use Rattle.method.specs.ControlPart.{active}
 use Rattle.control.specs.ControlBytes.{countIn, homeIn, homeOf, placementsIn, controlOf}
-use Rattle.control_form.specs.ControlForm.{countOk, fourthOk, homeOk, controlForm}
+use Rattle.control_form.specs.ControlForm.{chainOk, controlForm, countOk, homeOk, masksOf}
+use Rattle.control_form.specs.Reading.{masksBack}
 use Rattle.control.specs.Meaning.{structOf, maskIn, placementIn, meaning, Counted, Is}
 use Rattle.control.specs.declared.Control.{Control}
 use Rattle.control_form.proofs.RoundTrip.{form-count}
-use Rattle.control.proofs.Struct.{read-means, active-is}
+use Rattle.control.proofs.Fields.{placements-more}
+use Rattle.control.proofs.Struct.{read-means}
 
 -- ---- where the code's r is a test and the code asks for not r: the test fails, the test passes
 pub failed-is : {r a : Bool} → r ≡ a → not r ≡ true → a ≡ false
@@ -28,53 +28,30 @@ failed-is {r} e h = sym e ∙ not-true r h
 pub passed-is : {r a : Bool} → r ≡ a → not r ≡ false → a ≡ true
 passed-is {r} e h = sym e ∙ not-false r h
 
--- ---- a test of every active placement, by the first `count` masks
--- A test of the numbers below n, from the front and from the back.
-and-swap : (a b c : Bool) → (a && (b && c)) ≡ (b && (a && c))
-and-swap true true c = refl
-and-swap true false c = refl
-and-swap false true c = refl
-and-swap false false c = refl
+-- ---- the masks of placements, from the newest back
+masks-back : (f : ℕ → Placement) (n : ℕ) → masksOf (reverse (placementsIn f n)) ≡ masksBack (λ i. f i .mask) n
+masks-back f zero = refl
+masks-back f (suc n) =
+    ap (λ (l : List Placement). masksOf (reverse l)) (sym (placements-more f n))
+    ∙ ap masksOf (reverse-append (placementsIn f n) (f n ∷ []))
+    ∙ ap (λ (l : List Byte). f n .mask ∷ l) (masks-back f n)
 
-front : (n : ℕ) (f : ℕ → Bool) → (f 0 && allBelow n (λ i. f (suc i))) ≡ allBelow (suc n) f
-front zero f = refl
-front (suc n) f = and-swap (f 0) (f (suc n)) (allBelow n (λ i. f (suc i))) ∙ ap (λ (b : Bool). f (suc n) && b) (front n f)
-
-all-placements : (p : Placement → Bool) (f : ℕ → Placement) (n : ℕ) → all p (placementsIn f n) ≡ allBelow n (λ i. p (f i))
-all-placements p f zero = refl
-all-placements p f (suc n) = ap (λ (b : Bool). p (f 0) && b) (all-placements p (λ i. f (suc i)) n) ∙ front n (λ i. p (f i))
-
--- A clause on the working and the failed cards and a placement, of placement i.
-unfoldable pub placementTest : (Byte → Byte → Placement → Bool) → Control → ℕ → Bool
-placementTest f k i = f (byte (k .working)) (byte (k .failed)) (placementIn k i)
-
-module _ (f : Byte → Byte → Placement → Bool) (k : Control) (w : Counted k) where
-  pub every-is : all (f (meaning k .working) (meaning k .failed)) (active (meaning k)) ≡ allBelow (k .count) (placementTest f k)
-  unfolding meaning placementTest
-  every-is = ap (all (f (byte (k .working)) (byte (k .failed)))) (active-is k w) ∙ all-placements (f (byte (k .working)) (byte (k .failed))) (placementIn k) (k .count)
-
-  -- The loop: a placement that fails, and all that passed.
-  pub one-fails : (i : ℕ) → i < k .count → placementTest f k i ≡ false → false ≡ all (f (meaning k .working) (meaning k .failed)) (active (meaning k))
-  one-fails i h e = sym (every-is ∙ all-fails (placementTest f k) (k .count) i h e)
-
-  pub every-passed : (i : ℕ) → k .count ≡ i → allBelow i (placementTest f k) ≡ true → true ≡ all (f (meaning k .working) (meaning k .failed)) (active (meaning k))
-  every-passed i e h = sym (every-is ∙ ap (λ (n : ℕ). allBelow n (placementTest f k)) e ∙ h)
-
--- ---- the fourth mask
-fourth-by : (d : Byte) (f : ℕ → Placement) (n : ℕ) → 1 ≤ n → n ≤ mostActive
-    → cond (eqb n mostActive) (isOneMore d (f (mostActive - 1) .mask) (f (mostActive - 2) .mask)) true ≡ fourthOk d (f (n - 1)) (placementsIn f (n - 1))
-unfolding fourthOk
-fourth-by d f zero lo hi = absurd (omega arith)
-fourth-by d f (suc zero) lo hi = refl
-fourth-by d f (suc (suc zero)) lo hi = refl
-fourth-by d f (suc (suc (suc zero))) lo hi = refl
-fourth-by d f (suc (suc (suc (suc zero)))) lo hi = refl
-fourth-by d f (suc (suc (suc (suc (suc n))))) lo hi = absurd (omega arith)
-
-pub fourth-is : (k : Control) → Counted k
-    → cond (eqb (k .count) mostActive) (isOneMore (byte (k .failed)) (byte (maskIn k (mostActive - 1))) (byte (maskIn k (mostActive - 2)))) true ≡ fourthOk (meaning k .failed) (meaning k .newest) (meaning k .older)
+pub chain-is : (limit : ℕ) (k : Control)
+    → chainOk limit (byte (k .failed)) (byte (maskIn k (k .count - 1))) (masksBack (λ i. byte (maskIn k i)) (k .count - 1))
+    ≡ chainOk limit (meaning k .failed) (meaning k .newest .mask) (masksOf (reverse (meaning k .older)))
 unfolding meaning
-fourth-is k w = fourth-by (byte (k .failed)) (placementIn k) (k .count) (w .some) (w .few)
+chain-is limit k = ap (chainOk limit (byte (k .failed)) (byte (maskIn k (k .count - 1)))) (sym (masks-back (placementIn k) (k .count - 1)))
+
+-- As many as there can be: only then are there more than a place leaves, by one.
+pub chain-by : (d : Byte) (f : ℕ → Byte) (n : ℕ) → 1 ≤ n → n ≤ mostActive
+    → cond (eqb n mostActive) (isOneMore d (f (mostActive - 1)) (f (mostActive - 2))) true ≡ chainOk mostPlaced d (f (n - 1)) (masksBack f (n - 1))
+unfolding chainOk
+chain-by d f zero lo hi = absurd (omega arith)
+chain-by d f (suc zero) lo hi = refl
+chain-by d f (suc (suc zero)) lo hi = refl
+chain-by d f (suc (suc (suc zero))) lo hi = refl
+chain-by d f (suc (suc (suc (suc zero)))) lo hi = sym (and-true (isOneMore d (f 3) (f 2)))
+chain-by d f (suc (suc (suc (suc (suc n))))) lo hi = absurd (omega arith)
 
 -- ---- the homes
 unfoldable pub homeTest : Control → ℕ → Bool

@@ -2,7 +2,7 @@
 -- the bytes, and the order is the code's. Assumes nothing.
 use mathlib.Core.Path.{_≡_, refl, sym, ap, ap₂, _∙_}
 use mathlib.Core.Bool.{Bool, true, false, _&&_, _||_}
-use mathlib.Core.List.{List}
+use mathlib.Core.List.{List, _∷_, reverse}
 use Prim.Native.Nat.{ℕ, zero, suc, _+_, _-_, _%_, _≤_, _<_}
 use native.Mathlib.Omega.{arith}
 use lib.Bits.{bitAnd}
@@ -12,19 +12,19 @@ use borrow.Author.Tests.{eqb-true}
 use Rattle.lists.specs.Tests.{all, allBelow}
 use Rattle.lists.proofs.Bools.{and-r, same-test}
 use Rattle.lists.proofs.Counts.{all-below, below-all, below-ext}
-use Rattle.image.specs.Layout.{controlSize, mostActive, tranBound, tranCount}
+use Rattle.image.specs.Layout.{controlSize, mostActive, mostPlaced, tranBound, tranCount}
 use Rattle.mask.specs.Masks.{Byte, areApart, byte, isWithin}
-use Rattle.mask.specs.Placements.{Placement, fromMask}
 use Rattle.method.specs.ControlPart.{active}
 use Rattle.control.specs.ControlBytes.{controlOf, countIn, failedAt, field, homeByte, homeIn}
 use Rattle.control.specs.ControlBytes.{homesAt, homesEnd, lastMaskAt, marksAt, masksAt, stoppedIn, workingAt}
-use Rattle.control.specs.Meaning.{Counted, bitsFrom, meaning, rowOf, structOf}
+use Rattle.control.specs.Meaning.{Counted, bitsFrom, maskIn, meaning, rowOf, structOf}
+use Rattle.control.proofs.Active.{every-active, maskPasses}
 use Rattle.control.proofs.Struct.{at-row}
-use Rattle.control_form.specs.ControlForm.{countOk, formOk, fourthOk, homeOk, isSafe, membersOk, partOk, zeroFieldsOk}
-use Rattle.control_form.specs.Reading.{allFrom, fourthIn, homeFitsAt, homeOkAt, isHomeAt, isZeroAt}
-use Rattle.control_form.specs.Reading.{maskTest, newestIn, otherZeros, placementOk, wordsEnd}
-use Rattle.control_form.proofs.Checks.{count-counted, every-is, fourth-is, home-none, home-test, homeTest, homes-are}
-use Rattle.control_form.proofs.Checks.{means-is, placementTest}
+use Rattle.control_form.specs.ControlForm.{allSafe, chainOk, countOk, formOk, homeOk, isSafe, masksOf, membersOk, partOk, zeroFieldsOk}
+use Rattle.control_form.specs.Reading.{allFrom, chainIn, homeFitsAt, homeOkAt, isHomeAt, isZeroAt}
+use Rattle.control_form.specs.Reading.{maskAt, maskTest, masksBack, newestIn, otherZeros, placementOk, wordsEnd}
+use Rattle.control_form.proofs.Checks.{chain-is, count-counted, home-none, home-test, homeTest, homes-are}
+use Rattle.control_form.proofs.Checks.{means-is}
 use Rattle.control_form.proofs.Ranges.{from-all, from-both, from-each}
 use Rattle.control_form.proofs.ZeroFields.{zero-fields-by}
 
@@ -84,14 +84,14 @@ pair (suc n) stopped f g = step (f n) (g n) (allBelow n f) (allBelow n g) stoppe
 abbrev pub fromNewest : List ℕ → Bool
 fromNewest l = newestIn l && allFrom homesAt wordsEnd (homeFitsAt l)
 
-abbrev pub fromFourth : List ℕ → Bool
-fromFourth l = fourthIn l && fromNewest l
+abbrev pub fromChain : List ℕ → Bool
+fromChain l = chainIn l && fromNewest l
 
 abbrev pub placementsIn : List ℕ → Bool
 placementsIn l = allBelow (countIn (getD l 0 0)) (maskTest (placementOk (stoppedIn (getD l 0 0))) l)
 
 abbrev pub fromPlacements : List ℕ → Bool
-fromPlacements l = placementsIn l && fromFourth l
+fromPlacements l = placementsIn l && fromChain l
 
 abbrev pub apartIn : List ℕ → Bool
 apartIn l = areApart (byte (getD l workingAt 0)) (byte (getD l failedAt 0))
@@ -125,26 +125,29 @@ module _ (l : List ℕ) (ok : countOk (λ n. getD l n 0) ≡ true) (bytes : (n :
   counted : countIn (getD l 0 0) ≤ mostActive
   counted = unfold structOf in (w .few)
 
-  masks-are : (f : Byte → Byte → Placement → Bool) → ((a b : Byte) (p : Placement) → f a b p ≡ f a b (fromMask (p .mask)))
-      → all (f (meaning (structOf l) .working) (meaning (structOf l) .failed)) (active (meaning (structOf l))) ≡ allBelow (countIn (getD l 0 0)) (maskTest f l)
-  masks-are f only = every-is f (structOf l) w ∙ unfold structOf in (below-ext (countIn (getD l 0 0)) (placementTest f (structOf l)) (maskTest f l) one)
+  masks-are : (f : Byte → Byte → Byte → Bool)
+      → all (λ p. f (meaning (structOf l) .working) (meaning (structOf l) .failed) (p .mask)) (active (meaning (structOf l)))
+      ≡ allBelow (countIn (getD l 0 0)) (maskTest f l)
+  masks-are f = every-active (f (meaning (structOf l) .working) (meaning (structOf l) .failed)) (structOf l) w
+      ∙ unfold meaning structOf in (below-ext (countIn (getD l 0 0)) (maskPasses (f (byte (getD l workingAt 0)) (byte (getD l failedAt 0))) (structOf l)) (maskTest f l) one)
     where
-      one : (i : ℕ) → i < countIn (getD l 0 0) → placementTest f (structOf l) i ≡ maskTest f l i
-      one i h = unfold placementTest maskTest structOf in
-          (only (byte (getD l workingAt 0)) (byte (getD l failedAt 0)) _ ∙ ap (λ (m : ℕ). f (byte (getD l workingAt 0)) (byte (getD l failedAt 0)) (fromMask (byte m))) (at-row l mostActive masksAt i (omega (arith, counted))))
+      one : (i : ℕ) → i < countIn (getD l 0 0) → maskPasses (f (byte (getD l workingAt 0)) (byte (getD l failedAt 0))) (structOf l) i ≡ maskTest f l i
+      one i h = unfold maskPasses maskTest structOf in
+          (ap (λ (m : ℕ). f (byte (getD l workingAt 0)) (byte (getD l failedAt 0)) (byte m)) (at-row l mostActive masksAt i (omega (arith, counted))))
 
-  -- members, safety: only the mask of a placement matters
-  only-members : (a b : Byte) (p : Placement) → membersOk a b p ≡ membersOk a b (fromMask (p .mask))
-  unfolding membersOk
-  only-members a b p = refl
+  -- the masks that are read, up to the newest
+  mask-as : (i : ℕ) → i < mostActive → byte (maskIn (structOf l) i) ≡ maskAt l i
+  unfolding structOf
+  mask-as i h = ap byte (at-row l mostActive masksAt i h)
 
-  only-safe : (a b : Byte) (p : Placement) → isSafe a b p ≡ isSafe a b (fromMask (p .mask))
-  unfolding isSafe
-  only-safe a b p = refl
+  masks-as : (n : ℕ) → n ≤ mostActive → masksBack (λ i. byte (maskIn (structOf l) i)) n ≡ masksBack (maskAt l) n
+  masks-as zero h = refl
+  masks-as (suc n) h = ap₂ (λ (m : Byte) (r : List Byte). m ∷ r) (mask-as n (omega arith)) (masks-as n (omega arith))
 
-  fourth-as : fourthOk (meaning (structOf l) .failed) (meaning (structOf l) .newest) (meaning (structOf l) .older) ≡ fourthIn l
-  unfolding fourthIn structOf
-  fourth-as = sym (fourth-is (structOf l) w)
+  chain-as : chainOk mostPlaced (meaning (structOf l) .failed) (meaning (structOf l) .newest .mask) (masksOf (reverse (meaning (structOf l) .older))) ≡ chainIn l
+  chain-as = sym (chain-is mostPlaced (structOf l)) ∙ unfold chainIn structOf in
+      (ap₂ (chainOk mostPlaced (byte (getD l failedAt 0))) (mask-as (countIn (getD l 0 0) - 1) (omega (arith, counted)))
+      (masks-as (countIn (getD l 0 0) - 1) (omega (arith, counted))))
 
   newest-as : (meaning (structOf l) .stopped || isWithin (meaning (structOf l) .newest .mask) (meaning (structOf l) .working)) ≡ newestIn l
   unfolding newestIn meaning structOf
@@ -154,9 +157,9 @@ module _ (l : List ℕ) (ok : countOk (λ n. getD l n 0) ≡ true) (bytes : (n :
       ap (λ (m : ℕ). stoppedIn (getD l 0 0) || isWithin (byte m) (byte (getD l workingAt 0)))
       (at-row l mostActive masksAt (countIn (getD l 0 0) - 1) (omega (arith, counted)) ∙ ap (λ (j : ℕ). getD l j 0) at)
 
-  safe-as : (meaning (structOf l) .stopped || all (isSafe (meaning (structOf l) .working) (meaning (structOf l) .failed)) (active (meaning (structOf l))))
+  safe-as : (meaning (structOf l) .stopped || allSafe (meaning (structOf l)))
       ≡ (stoppedIn (getD l 0 0) || allBelow (countIn (getD l 0 0)) (maskTest isSafe l))
-  safe-as = ap (λ (t : Bool). meaning (structOf l) .stopped || t) (masks-are isSafe only-safe) ∙ unfold meaning structOf in refl
+  safe-as = ap (λ (t : Bool). meaning (structOf l) .stopped || t) (masks-are isSafe) ∙ unfold meaning structOf in refl
 
   -- the homes
   home-at : (i : ℕ) → i < tranCount → homeTest (structOf l) (suc i) ≡ homeOkAt (stoppedIn (getD l 0 0)) l (homesAt + i)
@@ -205,12 +208,12 @@ module _ (l : List ℕ) (ok : countOk (λ n. getD l n 0) ≡ true) (bytes : (n :
 
   part-as : partOk (controlOf (λ n. getD l n 0)) ≡ (areApart (byte (getD l workingAt 0)) (byte (getD l failedAt 0))
       && (allBelow (countIn (getD l 0 0)) (maskTest membersOk l)
-      && (fourthIn l
+      && (chainIn l
       && (newestIn l
       && ((stoppedIn (getD l 0 0) || allBelow (countIn (getD l 0 0)) (maskTest isSafe l)) && homesOpen)))))
   unfolding partOk
   part-as = ap partOk (sym (means-is l (structOf l) refl w))
-      ∙ ap₂ _&&_ apart-as (ap₂ _&&_ (masks-are membersOk only-members) (ap₂ _&&_ fourth-as (ap₂ _&&_ newest-as (ap (λ (t : Bool). t && homesOpen) safe-as))))
+      ∙ ap₂ _&&_ apart-as (ap₂ _&&_ (masks-are membersOk) (ap₂ _&&_ chain-as (ap₂ _&&_ newest-as (ap (λ (t : Bool). t && homesOpen) safe-as))))
 
   placements-as : (allBelow (countIn (getD l 0 0)) (maskTest membersOk l) && (stoppedIn (getD l 0 0) || allBelow (countIn (getD l 0 0)) (maskTest isSafe l)))
       ≡ allBelow (countIn (getD l 0 0)) (maskTest (placementOk (stoppedIn (getD l 0 0))) l)
@@ -233,8 +236,8 @@ module _ (l : List ℕ) (ok : countOk (λ n. getD l n 0) ≡ true) (bytes : (n :
   unfolding formOk
   form-by = ap (λ (t : Bool). t && (zeroFieldsOk (λ n. getD l n 0) && partOk (controlOf (λ n. getD l n 0)))) ok
       ∙ ap₂ _&&_ zeros-as part-as
-      ∙ order (otherZeros l) (allFrom homesAt homesEnd (isHomeAt l)) (areApart (byte (getD l workingAt 0)) (byte (getD l failedAt 0))) (allBelow (countIn (getD l 0 0)) (maskTest membersOk l)) (fourthIn l) (newestIn l)
+      ∙ order (otherZeros l) (allFrom homesAt homesEnd (isHomeAt l)) (areApart (byte (getD l workingAt 0)) (byte (getD l failedAt 0))) (allBelow (countIn (getD l 0 0)) (maskTest membersOk l)) (chainIn l) (newestIn l)
       (stoppedIn (getD l 0 0) || allBelow (countIn (getD l 0 0)) (maskTest isSafe l)) homesOpen
-      ∙ ap₂ (λ (p h : Bool). otherZeros l && (areApart (byte (getD l workingAt 0)) (byte (getD l failedAt 0)) && (p && (fourthIn l && (newestIn l && h))))) placements-as homes-as
+      ∙ ap₂ (λ (p h : Bool). otherZeros l && (areApart (byte (getD l workingAt 0)) (byte (getD l failedAt 0)) && (p && (chainIn l && (newestIn l && h))))) placements-as homes-as
       ∙ sixteen (λ h. areApart (byte (getD l workingAt 0)) (byte (getD l failedAt 0))
-      && (allBelow (countIn (getD l 0 0)) (maskTest (placementOk (stoppedIn (getD l 0 0))) l) && (fourthIn l && (newestIn l && h))))
+      && (allBelow (countIn (getD l 0 0)) (maskTest (placementOk (stoppedIn (getD l 0 0))) l) && (chainIn l && (newestIn l && h))))

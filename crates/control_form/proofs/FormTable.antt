@@ -2,16 +2,16 @@
 -- clause must fall with it. Which clauses fall is computed. Assumes nothing.
 use mathlib.Core.Path.{_≡_, refl}
 use mathlib.Core.Bool.{Bool, true, false, _||_, cond}
-use mathlib.Core.List.{List, [], _∷_, _++_}
+use mathlib.Core.List.{List, [], _∷_, _++_, reverse}
 use Prim.Native.Nat.{ℕ}
 use lib.Dec.{eqb}
 use lib.ListN.{getD}
 use Rattle.lists.specs.Tests.{all, allBelow}
-use Rattle.image.specs.Layout.{tranBound}
+use Rattle.image.specs.Layout.{mostPlaced, tranBound}
 use Rattle.mask.specs.Masks.{hasCard, withCard, size, common, isWithin, areApart, isWithinEither, isOneMore}
 use Rattle.method.specs.ControlPart.{active}
 use Rattle.control.specs.ControlBytes.{Part, controlByte, controlOf}
-use Rattle.control_form.specs.ControlForm.{countOk, zeroFieldsOk, membersOk, fourthOk, isSafe, homeOk, partOk, formOk}
+use Rattle.control_form.specs.ControlForm.{allSafe, chainOk, countOk, formOk, homeOk, isSafe, masksOf, membersOk, partOk, zeroFieldsOk}
 
 -- A clause of the control form.
 pub data Clause : Type 0 where
@@ -24,7 +24,7 @@ pub data Clause : Type 0 where
   -- each active placement has at least two members, all working or failed
   members : Clause
   -- when the count is 4, the third mask is the fourth plus exactly one failed card
-  fourth : Clause
+  chain : Clause
   -- if not stopped, the newest placement's members all work
   newestWorks : Clause
   -- if not stopped, each active placement has at most one failed and at least two working members
@@ -39,10 +39,10 @@ fault false x = x ∷ []
 -- The clauses that bytes break.
 abbrev pub faultsOf : Part → List Clause
 faultsOf k = fault (areApart (k .working) (k .failed)) apart
-    ++ (fault (all (membersOk (k .working) (k .failed)) (active k)) members
-    ++ (fault (fourthOk (k .failed) (k .newest) (k .older)) fourth
+    ++ (fault (all (λ p. membersOk (k .working) (k .failed) (p .mask)) (active k)) members
+    ++ (fault (chainOk mostPlaced (k .failed) (k .newest .mask) (masksOf (reverse (k .older)))) chain
     ++ (fault (k .stopped || isWithin (k .newest .mask) (k .working)) newestWorks
-    ++ (fault (k .stopped || all (isSafe (k .working) (k .failed)) (active k)) safe
+    ++ (fault (k .stopped || allSafe k) safe
     ++ fault (allBelow tranBound (λ t. homeOk (k .stopped) (k .working) (k .home t))) homes))))
 
 abbrev pub faults : (ℕ → ℕ) → List Clause
@@ -100,11 +100,12 @@ badCount =
     (bytes [] breaks (count ∷ zeroFields ∷ members ∷ safe ∷ []))
     -- count 0, and byte 0 a mask of two working cards: zero fields must still fall
     ∷ (bytes (0x83 ∷ 0 ∷ 0 ∷ 0 ∷ 0 ∷ 0x83 ∷ 0 ∷ []) breaks (count ∷ zeroFields ∷ []))
-    -- count 5, byte 5 read as the newest mask; count 6, byte 6 read as it
-    ∷ (bytes (0x50 ∷ 0xe0 ∷ 0xe0 ∷ 0xe0 ∷ 0xe0 ∷ 0xe0 ∷ 0 ∷ []) breaks (count ∷ []))
-    ∷ (bytes (0xe0 ∷ 0xe0 ∷ 0xe0 ∷ 0xe0 ∷ 0xe0 ∷ 0xe0 ∷ 0x18 ∷ []) breaks (count ∷ []))
-    -- count 7, byte 7 read as the newest mask: it has no member
-    ∷ (bytes (0xf0 ∷ 0xe0 ∷ 0xe0 ∷ 0xe0 ∷ 0xe0 ∷ 0xe0 ∷ 0x18 ∷ []) breaks (count ∷ members ∷ []))
+    -- count 5, byte 5 read as the newest mask: each of the last three is the next plus one failed card
+    ∷ (bytes (0xd0 ∷ 0xf8 ∷ 0xf8 ∷ 0xf8 ∷ 0xf0 ∷ 0xe0 ∷ 0x18 ∷ []) breaks (count ∷ []))
+    -- count 5 and no extra card; count 6, byte 6 read as the newest mask; count 7, byte 7 read as it: it has no member
+    ∷ (bytes (0x50 ∷ 0xe0 ∷ 0xe0 ∷ 0xe0 ∷ 0xe0 ∷ 0xe0 ∷ 0 ∷ []) breaks (count ∷ chain ∷ []))
+    ∷ (bytes (0xe0 ∷ 0xe0 ∷ 0xe0 ∷ 0xe0 ∷ 0xe0 ∷ 0xe0 ∷ 0x18 ∷ []) breaks (count ∷ chain ∷ []))
+    ∷ (bytes (0xf0 ∷ 0xe0 ∷ 0xe0 ∷ 0xe0 ∷ 0xe0 ∷ 0xe0 ∷ 0x18 ∷ []) breaks (count ∷ members ∷ chain ∷ []))
     ∷ []
 
 -- ---- zero fields
@@ -138,13 +139,13 @@ badPlacements =
     -- card 3 of the older placement neither works nor is failed
     ∷ (bytes (0x20 ∷ 0xf0 ∷ 0xe0 ∷ 0 ∷ 0 ∷ 0xe0 ∷ 0 ∷ []) breaks (members ∷ []))
     -- four active: the third mask's extra card works
-    ∷ (changed 5 0xf0 (changed 6 0 four) breaks (fourth ∷ []))
+    ∷ (changed 5 0xf0 (changed 6 0 four) breaks (chain ∷ []))
     -- two extra cards, one of them failed; both failed, and stopped
-    ∷ (changed 3 0xf8 (changed 5 0xe8 four) breaks (fourth ∷ []))
-    ∷ (bytes (0xc0 ∷ 0xe0 ∷ 0xe0 ∷ 0xf8 ∷ 0xe0 ∷ 0xe0 ∷ 0x18 ∷ []) breaks (fourth ∷ []))
+    ∷ (changed 3 0xf8 (changed 5 0xe8 four) breaks (chain ∷ []))
+    ∷ (bytes (0xc0 ∷ 0xe0 ∷ 0xe0 ∷ 0xf8 ∷ 0xe0 ∷ 0xe0 ∷ 0x18 ∷ []) breaks (chain ∷ []))
     -- no extra card; an extra card, and a member of the fourth not in it
-    ∷ (changed 3 0xe0 four breaks (fourth ∷ []))
-    ∷ (changed 3 0xd0 four breaks (fourth ∷ []))
+    ∷ (changed 3 0xe0 four breaks (chain ∷ []))
+    ∷ (changed 3 0xd0 four breaks (chain ∷ []))
     ∷ []
 
 -- ---- while the store runs, and when it has stopped
@@ -184,10 +185,10 @@ none-broken (r ∷ l) = elim (r .broken) [ [] ↦ true | x ∷ m ↦ false ] ∷
 
 -- The clauses that each row's bytes break are those that it names.
 pub table-faults : faults-in table ≡ broken-in table
-unfolding countOk zeroFieldsOk areApart membersOk size isWithinEither fourthOk isOneMore withCard isWithin isSafe common homeOk hasCard controlOf controlByte
+unfolding countOk zeroFieldsOk areApart membersOk size isWithinEither chainOk isOneMore withCard isWithin isSafe common homeOk hasCard controlOf controlByte
 table-faults = refl
 
 -- The control form holds of a row's bytes exactly where the row names no clause.
 pub table-forms : forms-in table ≡ none-broken table
-unfolding formOk partOk countOk zeroFieldsOk areApart membersOk size isWithinEither fourthOk isOneMore withCard isWithin isSafe common homeOk hasCard controlOf controlByte
+unfolding formOk partOk countOk zeroFieldsOk areApart membersOk size isWithinEither chainOk isOneMore withCard isWithin isSafe common homeOk hasCard controlOf controlByte
 table-forms = refl

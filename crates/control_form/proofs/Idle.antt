@@ -8,7 +8,7 @@ use mathlib.Core.Option.{Option, none, some}
 use Prim.Native.Nat.{ℕ, _/_, _%_, _≤_, _<_}
 use native.Mathlib.Omega.{arith}
 use lib.Dec.{eqb, leb}
-use lib.ListN.{drop, getD, length, length-drop}
+use lib.ListN.{getD}
 use borrow.Author.Tests.{eqb-true}
 use Rattle.lists.specs.Tests.{allBelow}
 use Rattle.lists.proofs.Counts.{below-all}
@@ -56,10 +56,6 @@ not-works w b h true d = go (split (hasCard w h))
 -- No open transaction has the home c.
 abbrev pub Lacking : List ℕ → ℕ → Type 0
 Lacking l c = allFrom homesAt wordsEnd (λ n. not (isCard (homeIn (getD l n 0)) c)) ≡ true
-
--- One fewer is left.
-pub less : (left next : ℕ) → left < 256 → left ≢ 0 → members (byte next) ≡ drop 1 (members (byte left)) → length (members (byte next)) < length (members (byte left))
-less left next h d e = rw (e, length-drop 1 (members (byte left))) (omega (arith, some-members left h d))
 
 -- The cards that do not work and are not left have been tried.
 abbrev pub Tried : List ℕ → ℕ → Type 0

@@ -3,7 +3,7 @@ use mathlib.Core.Path.{_≡_, refl, sym, ap, ap₂, _∙_, fun-ext}
 use mathlib.Core.Logic.{_⊎_, inl, inr}
 use mathlib.Core.Bool.{Bool, true, false, _&&_, _||_}
 use mathlib.Core.Option.{Option, some, none}
-use mathlib.Core.List.{List, [], _∷_, _++_}
+use mathlib.Core.List.{List, [], _∷_, _++_, reverse}
 use Prim.Native.Nat.{ℕ, zero, suc, _+_, _-_, _*_, _/_, _%_, _≤_, _<_}
 use native.Mathlib.Omega.{arith}
 use native.Mathlib.Nat.{mod-eq-of-lt}
@@ -13,7 +13,7 @@ use borrow.Author.Tests.{eqb-true, ltb-true, leb-true, le-leb, lt-leb}
 use Rattle.lists.specs.Tests.{all, allBelow}
 use Rattle.lists.proofs.Bools.{split, and-l, and-r}
 use Rattle.lists.proofs.Counts.{below-all}
-use Rattle.image.specs.Layout.{cardCount, controlSize, mostActive, tranBound}
+use Rattle.image.specs.Layout.{cardCount, controlSize, mostActive, mostPlaced, tranBound}
 use Rattle.mask.specs.Masks.{Byte, byte, areApart, isWithin}
 use Rattle.mask.specs.Placements.{Placement}
 use Rattle.mask.proofs.Masks.{byte-path}
@@ -21,7 +21,7 @@ use Rattle.method.specs.ControlPart.{active, isOpen}
 use Rattle.control.specs.ControlBytes.{Part, maskBytes, marksFrom, homeByte, controlByte, countIn, homeOf, keptAs, markIn, placementAt}
 use Rattle.control.specs.ControlBytes.{controlOf, failedAt, field, fieldBound, firstByte, homeAt, lastMaskAt}
 use Rattle.control.specs.ControlBytes.{marksAt, masksAt, openBit, placementsIn, stoppedBit, stoppedIn, workingAt}
-use Rattle.control_form.specs.ControlForm.{countOk, zeroFieldsOk, membersOk, fourthOk, isSafe, homeOk, partOk, formOk}
+use Rattle.control_form.specs.ControlForm.{allSafe, chainOk, countOk, formOk, homeOk, masksOf, membersOk, partOk, zeroFieldsOk}
 use Rattle.control.proofs.Marks.{mark-back}
 use Rattle.control.proofs.Fields.{at-failed, at-first, at-home, at-marks, at-mask, at-working}
 
@@ -161,10 +161,10 @@ module _ (g : ℕ → ℕ) (form : formOk g ≡ true) where
 -- ---- the clauses on a control part, each taken out
 pub record Clauses (k : Part) : Type 0 where
   pub apart : areApart (k .working) (k .failed) ≡ true
-  pub members : all (membersOk (k .working) (k .failed)) (active k) ≡ true
-  pub fourth : fourthOk (k .failed) (k .newest) (k .older) ≡ true
+  pub members : all (λ p. membersOk (k .working) (k .failed) (p .mask)) (active k) ≡ true
+  pub chain : chainOk mostPlaced (k .failed) (k .newest .mask) (masksOf (reverse (k .older))) ≡ true
   pub newest-works : (k .stopped || isWithin (k .newest .mask) (k .working)) ≡ true
-  pub safe : (k .stopped || all (isSafe (k .working) (k .failed)) (active k)) ≡ true
+  pub safe : (k .stopped || allSafe k) ≡ true
   pub home : (t : ℕ) → t < tranBound → homeOk (k .stopped) (k .working) (k .home t) ≡ true
 
 -- Six tests that all hold.
@@ -180,13 +180,14 @@ six a b c d e f h =
 pub part-clauses : (k : Part) → partOk k ≡ true → Clauses k
 unfolding partOk
 part-clauses k h =
-    let r = six (areApart (k .working) (k .failed)) (all (membersOk (k .working) (k .failed)) (active k)) (fourthOk (k .failed) (k .newest) (k .older))
-    (k .stopped || isWithin (k .newest .mask) (k .working)) (k .stopped || all (isSafe (k .working) (k .failed)) (active k))
+    let r = six (areApart (k .working) (k .failed)) (all (λ p. membersOk (k .working) (k .failed) (p .mask)) (active k))
+    (chainOk mostPlaced (k .failed) (k .newest .mask) (masksOf (reverse (k .older))))
+    (k .stopped || isWithin (k .newest .mask) (k .working)) (k .stopped || allSafe k)
     (allBelow tranBound (λ t. homeOk (k .stopped) (k .working) (k .home t))) h in
     record {
       apart = r .0;
       members = r .1;
-      fourth = r .2;
+      chain = r .2;
       newest-works = r .3;
       safe = r .4;
       home = λ t b. below-all tranBound (λ t. homeOk (k .stopped) (k .working) (k .home t)) t (r .5) b;

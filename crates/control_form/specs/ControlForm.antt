@@ -1,12 +1,12 @@
 -- The control form: document 01, "Control form", a clause a definition. Assumes nothing.
-use Prim.Native.Nat.{ℕ}
+use Prim.Native.Nat.{suc, ℕ}
 use lib.Dec.{eqb, leb, ltb}
 use lib.ListN.{getD, length}
-use mathlib.Core.Bool.{Bool, _&&_, _||_, false, not, true}
-use mathlib.Core.List.{List, [], _∷_}
+use mathlib.Core.Bool.{Bool, _&&_, _||_, cond, false, not, true}
+use mathlib.Core.List.{List, [], _∷_, reverse}
 use mathlib.Core.Option.{Option, none, some}
 use Rattle.lists.specs.Tests.{all, allBelow}
-use Rattle.image.specs.Layout.{controlSize, copyCount, imageSize, leastMembers, mostActive, tranBound}
+use Rattle.image.specs.Layout.{controlSize, copyCount, imageSize, leastMembers, mostActive, mostPlaced, tranBound}
 use Rattle.mask.specs.Masks.{Byte, areApart, common, hasCard, isOneMore, isWithin, isWithinEither, size}
 use Rattle.mask.specs.Placements.{Placement}
 use Rattle.method.specs.ControlPart.{active}
@@ -22,37 +22,46 @@ countOk g = leb 1 (countIn (g 0)) && leb (countIn (g 0)) mostActive
 unfoldable pub zeroFieldsOk : (ℕ → ℕ) → Bool
 zeroFieldsOk g = allBelow controlSize (λ n. eqb (g n) (controlByte (controlOf g) n))
 
--- Each active placement has at least two members, all working or failed.
-unfoldable pub membersOk : Byte → Byte → Placement → Bool
-membersOk working failed p = leb leastMembers (size (p .mask)) && isWithinEither (p .mask) working failed
+-- Each active placement has at least two members, all working or failed: of a mask.
+unfoldable pub membersOk : Byte → Byte → Byte → Bool
+membersOk working failed m = leb leastMembers (size m) && isWithinEither m working failed
 
--- When the count is 4, the third mask is the fourth plus exactly one failed card.
-unfoldable pub fourthOk : Byte → Placement → List Placement → Bool
-fourthOk failed newest [] = true
-fourthOk failed newest (a ∷ []) = true
-fourthOk failed newest (a ∷ b ∷ []) = true
-fourthOk failed newest (a ∷ b ∷ third ∷ []) = isOneMore failed (newest .mask) (third .mask)
-fourthOk failed newest (a ∷ b ∷ third ∷ fourth ∷ l) = true
+-- While more placements than the limit are active, each is the next plus one failed card: the newest mask, and the masks
+-- of the older ones, newest first. With a limit of three, when the count is 4, the third mask is the fourth plus exactly
+-- one failed card.
+unfoldable pub chainOk : ℕ → Byte → Byte → List Byte → Bool
+chainOk limit failed newest [] = true
+chainOk limit failed newest (m ∷ older) =
+    cond (ltb limit (suc (suc (length older)))) (isOneMore failed newest m && chainOk limit failed m older) true
 
--- If not stopped, each active placement has at most one failed and at least two working members.
-unfoldable pub isSafe : Byte → Byte → Placement → Bool
-isSafe working failed p = ltb (common (p .mask) failed) copyCount && leb copyCount (common (p .mask) working)
+-- If not stopped, each active placement has at most one failed and at least two working members: of a mask.
+unfoldable pub isSafe : Byte → Byte → Byte → Bool
+isSafe working failed m = ltb (common m failed) copyCount && leb copyCount (common m working)
+
+-- All active placements are so.
+abbrev pub allSafe : Part → Bool
+allSafe k = all (λ p. isSafe (k .working) (k .failed) (p .mask)) (active k)
 
 -- If not stopped, each open transaction's home works. If stopped, none is open.
 unfoldable pub homeOk : Bool → Byte → Option ℕ → Bool
 homeOk stopped working none = true
 homeOk stopped working (some h) = not stopped && hasCard working h
 
+-- The masks of placements.
+abbrev pub masksOf : List Placement → List Byte
+masksOf [] = []
+masksOf (p ∷ l) = p .mask ∷ masksOf l
+
 -- The clauses on the control part that the bytes show.
 unfoldable pub partOk : Part → Bool
 partOk k =
     -- working and failed share no card
     areApart (k .working) (k .failed)
-    && (all (membersOk (k .working) (k .failed)) (active k)
-    && (fourthOk (k .failed) (k .newest) (k .older)
+    && (all (λ p. membersOk (k .working) (k .failed) (p .mask)) (active k)
+    && (chainOk mostPlaced (k .failed) (k .newest .mask) (masksOf (reverse (k .older)))
     -- if not stopped: the newest placement's members all work
     && ((k .stopped || isWithin (k .newest .mask) (k .working))
-    && ((k .stopped || all (isSafe (k .working) (k .failed)) (active k))
+    && ((k .stopped || allSafe k)
     && allBelow tranBound (λ t. homeOk (k .stopped) (k .working) (k .home t))))))
 
 -- The control form of bytes.

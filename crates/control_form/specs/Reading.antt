@@ -1,19 +1,18 @@
 -- What the reader finds in an image, and what it looks at byte by byte. Assumes nothing.
 use mathlib.Core.Path.{_≡_}
-use mathlib.Core.Bool.{Bool, _&&_, _||_, cond, true}
-use mathlib.Core.List.{List}
-use Prim.Native.Nat.{ℕ, _%_, _+_, _-_}
+use mathlib.Core.Bool.{Bool, _&&_, _||_}
+use mathlib.Core.List.{List, [], _∷_}
+use Prim.Native.Nat.{ℕ, zero, suc, _%_, _+_, _-_}
 use lib.Bits.{bitAnd}
 use lib.Dec.{eqb, ltb}
 use lib.ListN.{getD}
 use Rattle.lists.specs.Tests.{allBelow}
-use Rattle.image.specs.Layout.{controlSize, mostActive}
-use Rattle.mask.specs.Masks.{Byte, byte, isOneMore, isWithin}
-use Rattle.mask.specs.Placements.{Placement, fromMask}
+use Rattle.image.specs.Layout.{controlSize, mostPlaced}
+use Rattle.mask.specs.Masks.{Byte, byte, isWithin}
 use Rattle.control.specs.ControlBytes.{controlOf, countIn, failedAt, field, homeByte, homeIn, homesAt, homesEnd}
 use Rattle.control.specs.ControlBytes.{lastMaskAt, marksAt, masksAt, stoppedIn, workingAt}
 use Rattle.control.specs.Meaning.{Is, bitsFrom}
-use Rattle.control_form.specs.ControlForm.{formRefusal, homeOk, isSafe, membersOk}
+use Rattle.control_form.specs.ControlForm.{chainOk, formRefusal, homeOk, isSafe, membersOk}
 use Rattle.control_form.specs.declared.Found.{Found}
 
 -- Bytes of a word, and half of them.
@@ -57,19 +56,28 @@ otherZeros l = eqb (getD l 0 0 % field) 0
     && (eqb (bitAnd (getD l marksAt 0) (bitsFrom (countIn (getD l 0 0)))) 0
     && allFrom homesEnd controlSize (isZeroAt l)))
 
--- The clauses on a placement: its members, and, if the store is not stopped, that it is safe.
-unfoldable pub placementOk : Bool → Byte → Byte → Placement → Bool
-placementOk stopped working failed p = membersOk working failed p && (stopped || isSafe working failed p)
+-- The clauses on a mask: its members, and, if the store is not stopped, that it is safe.
+unfoldable pub placementOk : Bool → Byte → Byte → Byte → Bool
+placementOk stopped working failed m = membersOk working failed m && (stopped || isSafe working failed m)
 
--- A clause on the working and the failed cards and a placement, of mask i.
-unfoldable pub maskTest : (Byte → Byte → Placement → Bool) → List ℕ → ℕ → Bool
-maskTest f l i = f (byte (getD l workingAt 0)) (byte (getD l failedAt 0)) (fromMask (byte (getD l (masksAt + i) 0)))
+-- Mask i that bytes show.
+abbrev pub maskAt : List ℕ → ℕ → Byte
+maskAt l i = byte (getD l (masksAt + i) 0)
 
--- The clauses on the fourth mask and on the newest.
-unfoldable pub fourthIn : List ℕ → Bool
-fourthIn l =
-    cond (eqb (countIn (getD l 0 0)) mostActive)
-    (isOneMore (byte (getD l failedAt 0)) (byte (getD l (masksAt + (mostActive - 1)) 0)) (byte (getD l (masksAt + (mostActive - 2)) 0))) true
+-- A clause on the working and the failed cards and a mask, of mask i.
+unfoldable pub maskTest : (Byte → Byte → Byte → Bool) → List ℕ → ℕ → Bool
+maskTest f l i = f (byte (getD l workingAt 0)) (byte (getD l failedAt 0)) (maskAt l i)
+
+-- The n masks that f gives, the last first.
+abbrev pub masksBack : (ℕ → Byte) → ℕ → List Byte
+masksBack f zero = []
+masksBack f (suc n) = f n ∷ masksBack f n
+
+-- The clause on more placements than the limit, and that on the newest.
+unfoldable pub chainIn : List ℕ → Bool
+chainIn l =
+    chainOk mostPlaced (byte (getD l failedAt 0)) (maskAt l (countIn (getD l 0 0) - 1))
+    (masksBack (maskAt l) (countIn (getD l 0 0) - 1))
 
 unfoldable pub newestIn : List ℕ → Bool
 newestIn l = stoppedIn (getD l 0 0) || isWithin (byte (getD l (lastMaskAt (countIn (getD l 0 0))) 0)) (byte (getD l workingAt 0))

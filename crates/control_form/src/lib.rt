@@ -3,18 +3,16 @@ ghost use mathlib.Core.Path.{_≡_};
 ghost use mathlib.Core.Bool.{true, false};
 ghost use Prim.Native.Nat.{_+_, _≤_};
 ghost use lib.ListN.{length, getD};
-ghost use Rattle.lists.specs.Tests.{all, allBelow};
+ghost use Rattle.lists.specs.Tests.{allBelow};
 ghost use Rattle.image.specs.Layout.{controlSize, mostActive};
 ghost use Rattle.mask.specs.Masks.{byte};
-ghost use Rattle.mask.specs.Placements.{fromMask};
-ghost use Rattle.method.specs.ControlPart.{active};
 ghost use Rattle.control.specs.ControlBytes.{countIn, homesAt, homesEnd, masksAt, stoppedIn, workingAt};
-ghost use Rattle.control_form.specs.ControlForm.{countOk, membersOk, isSafe, controlForm};
+ghost use Rattle.control_form.specs.ControlForm.{allSafe, controlForm, countOk, isSafe, membersOk};
 ghost use Rattle.control.specs.Meaning.{meaning, Counted};
 ghost use Rattle.control_form.specs.Reading.{
   Reads,
   allFrom,
-  fourthIn,
+  chainIn,
   homeFitsAt,
   homeOkAt,
   isHomeAt,
@@ -118,7 +116,7 @@ fn zero_fields_ok(s: &[u8]) -> bool
 
 // A placement with this mask has at least two members, all working or failed.
 fn members_ok(working: u8, failed: u8, mask: u8) -> bool
-    ensures { λ r. ⌜ r ≡ membersOk (byte working) (byte failed) (fromMask (byte mask)) ⌝ }
+    ensures { λ r. ⌜ r ≡ membersOk (byte working) (byte failed) (byte mask) ⌝ }
 {
     if mask::members(mask) < mask::Placement::LEAST_MEMBERS {
         return false;
@@ -129,7 +127,8 @@ fn members_ok(working: u8, failed: u8, mask: u8) -> bool
 // When the count is 4, the third mask is the fourth plus exactly one failed card.
 fn fourth_ok(s: &[u8]) -> bool
     requires { ⌜ controlSize ≤ length (now s) ⌝ }
-    ensures { λ r. ⌜ r ≡ fourthIn (now (s .entry)) ⌝ }
+    requires { ⌜ countOk (λ n. getD (now s) n 0) ≡ true ⌝ }
+    ensures { λ r. ⌜ r ≡ chainIn (now (s .entry)) ⌝ }
 {
     if s[0] / FIELD % FIELD_BOUND == MOST_ACTIVE {
         return mask::one_more(s[FAILED_AT], s[FOURTH_AT], s[THIRD_AT]);
@@ -151,7 +150,7 @@ fn newest_works(s: &[u8]) -> bool
 
 // A placement with this mask has at most one failed and at least two working members.
 fn is_safe(working: u8, failed: u8, mask: u8) -> bool
-    ensures { λ r. ⌜ r ≡ isSafe (byte working) (byte failed) (fromMask (byte mask)) ⌝ }
+    ensures { λ r. ⌜ r ≡ isSafe (byte working) (byte failed) (byte mask) ⌝ }
 {
     if mask::common(mask, failed) >= COPIES {
         return false;
@@ -162,7 +161,7 @@ fn is_safe(working: u8, failed: u8, mask: u8) -> bool
 // Each active placement has at most one failed and at least two working members: where not, the store stops.
 pub fn all_safe(k: Control) -> bool
     requires { ⌜ Counted k ⌝ }
-    ensures { λ r. ⌜ r ≡ all (isSafe (meaning k .working) (meaning k .failed)) (active (meaning k)) ⌝ }
+    ensures { λ r. ⌜ r ≡ allSafe (meaning k) ⌝ }
 {
     let mut i: u8 = 0;
     while i < k.count {
@@ -178,7 +177,7 @@ pub fn all_safe(k: Control) -> bool
 // A placement with this mask has at least two members, all working or failed; if the store is not stopped, at most one
 // of them failed and at least two work.
 fn placement_ok(stopped: bool, working: u8, failed: u8, mask: u8) -> bool
-    ensures { λ r. ⌜ r ≡ placementOk stopped (byte working) (byte failed) (fromMask (byte mask)) ⌝ }
+    ensures { λ r. ⌜ r ≡ placementOk stopped (byte working) (byte failed) (byte mask) ⌝ }
 {
     if !members_ok(working, failed, mask) {
         return false;

@@ -1,19 +1,19 @@
 -- A failure: the stop rule in the code's values, the blocks and the control part that it leaves, and that there is room for its placement.
 -- Assumes nothing.
-use Prim.Native.Nat.{_-_, _<_, _≤_, ℕ}
-use borrow.Author.Tests.{eqb-true, le-leb, lt-ltb, ne-eqb}
-use lib.Dec.{eqb}
-use lib.ListN.{getD, length, set}
+use Prim.Native.Nat.{_-_, _<_, suc, ℕ}
+use borrow.Author.Tests.{eqb-true, le-leb, lt-ltb, ltb-false, ne-eqb}
+use lib.Dec.{eqb, ltb}
+use lib.ListN.{getD, length, length-reverse, set}
 use mathlib.Core.Bool.{Bool, _&&_, _||_, false, not, true}
-use mathlib.Core.List.{List, [], _∷_}
-use mathlib.Core.Logic.{inl, inr}
+use mathlib.Core.List.{List, [], _∷_, reverse}
+use mathlib.Core.Logic.{_⊎_, inl, inr}
 use mathlib.Core.Path.{_∙_, _≡_, ap, ap₂, refl, sym}
 use native.Mathlib.Omega.{arith}
 use Rattle.lists.specs.Tests.{In, all, any, count}
-use Rattle.lists.proofs.Bools.{and-l, and-r, eqb-self, not-is, or-l, or-r, tf}
+use Rattle.lists.proofs.Bools.{and-l, and-r, eqb-self, not-is, or-l, or-r, split, tf}
 use Rattle.lists.proofs.Counts.{any-below-out, pigeon}
-use Rattle.lists.proofs.Lists.{any-none}
-use Rattle.image.specs.Layout.{cardCount, copyCount, mostPlaced}
+use Rattle.lists.proofs.Lists.{any-none, in-left, in-reverse}
+use Rattle.image.specs.Layout.{cardCount, copyCount, mostActive, mostPlaced}
 use Rattle.mask.specs.Masks.{Byte, byte, hasCard, isOneMore, withCard, withoutCard}
 use Rattle.mask.specs.Placements.{Placement, fromMask}
 use Rattle.mask.proofs.Masks.{byte-path, has-card, has-with}
@@ -23,13 +23,13 @@ use Rattle.method.specs.ControlPart.{active, added, begunAt, closed, halted, is
 use Rattle.method.specs.Rules.{act, dropHeld, fail, look, lost, lostOf, placed, refusal, stampAll, stamping, stopping, stops}
 use Rattle.method.specs.Rules.{unplaced, writing}
 use Rattle.control.specs.ControlBytes.{Part}
-use Rattle.control_form.specs.ControlForm.{formRefusal, fourthOk, isSafe}
+use Rattle.control_form.specs.ControlForm.{allSafe, chainOk, formRefusal, isSafe, masksOf}
 use Rattle.control.specs.Meaning.{Is, meaning, newestMask, placementIn}
 use Rattle.control_form.proofs.RoundTrip.{form-part, part-clauses}
 use Rattle.control.proofs.Struct.{length-placements, newest-mask-is}
 use Rattle.cabinet_rules.specs.Cabinet.{cabinet}
 use Rattle.cabinet_rules.specs.Images.{Image, controlIn, planOn, stateIn}
-use Rattle.cabinet_rules.proofs.Form.{safe-is}
+use Rattle.cabinet_rules.proofs.Form.{length-masks, safe-is}
 use Rattle.promise.proofs.Finish.{form-good}
 use Rattle.promise.proofs.Laid.{laid}
 use Rattle.promise.specs.Given.{rowsOn}
@@ -45,13 +45,16 @@ fail-rows g c = refl
 
 -- ---- the stop rule
 -- some active placement is lost exactly where not all are safe
-lost-safe : (k : Part) → any (lost cabinet k) (active k) ≡ not (all (isSafe (k .working) (k .failed)) (active k))
+lost-safe : (k : Part) → any (lost cabinet k) (active k) ≡ not (allSafe k)
 lost-safe k = go (active k)
   where
-    go : (l : List Placement) → any (lost cabinet k) l ≡ not (all (isSafe (k .working) (k .failed)) l)
+    safe : Placement → Bool
+    safe p = isSafe (k .working) (k .failed) (p .mask)
+
+    go : (l : List Placement) → any (lost cabinet k) l ≡ not (all safe l)
     go [] = refl
-    go (p ∷ l) = ap₂ (λ (x y : Bool). x || y) (back (lost cabinet k p) (isSafe (k .working) (k .failed) p) (safe-is (k .working) (k .failed) p)) (go l)
-        ∙ de-morgan (isSafe (k .working) (k .failed) p) (all (isSafe (k .working) (k .failed)) l)
+    go (p ∷ l) = ap₂ (λ (x y : Bool). x || y) (back (lost cabinet k p) (safe p) (safe-is (k .working) (k .failed) (p .mask))) (go l)
+        ∙ de-morgan (safe p) (all safe l)
       where
         back : (a b : Bool) → b ≡ not a → a ≡ not b
         back true b e = sym (ap not e)
@@ -61,13 +64,11 @@ lost-safe k = go (active k)
         de-morgan true b = refl
         de-morgan false b = refl
 
--- ---- room: with four placements, the failure of a card of the newest stops
-two-failed : (d : Byte) (newest third : Placement) (w : Byte) (c : ℕ) → isOneMore d (newest .mask) (third .mask) ≡ true → hasCard (newest .mask) c ≡ true
-    → lostOf cabinet tt w (withCard d c) third ≡ true
+-- ---- room: while more than the limit are active, the failure of a card of the newest stops
+-- the one before the newest then has two failed cards
+two-failed : (d n p w : Byte) (c : ℕ) → isOneMore d n p ≡ true → hasCard n c ≡ true → lostOf cabinet tt w (withCard d c) p ≡ true
 unfolding isOneMore lostOf
-two-failed d newest third w c e h =
-    let n : Byte = newest .mask in
-    let p : Byte = third .mask in
+two-failed d n p w c e h =
     let o = any-below-out cardCount (λ x. hasCard d x && (not (hasCard n x) && eqb (p .0) (withCard n x .0))) e in
     let x : ℕ = o .0 in
     let hx : x < cardCount = o .1 in
@@ -84,8 +85,8 @@ two-failed d newest third w c e h =
     or-l _ _ (le-leb copyCount (count cardCount (λ y. hasCard p y && hasCard (withCard d c) y))
     (pigeon cardCount (x ∷ c ∷ []) (λ y. hasCard p y && hasCard (withCard d c) y) (rw ne) (λ y m. both y m px fx pc fc) (λ y m. small y m hx hc)))
   where
-    both : {x : ℕ} (y : ℕ) → In y (x ∷ c ∷ []) → hasCard (third .mask) x ≡ true → hasCard (withCard d c) x ≡ true → hasCard (third .mask) c ≡ true → hasCard (withCard d c) c ≡ true
-        → (hasCard (third .mask) y && hasCard (withCard d c) y) ≡ true
+    both : {x : ℕ} (y : ℕ) → In y (x ∷ c ∷ []) → hasCard p x ≡ true → hasCard (withCard d c) x ≡ true → hasCard p c ≡ true → hasCard (withCard d c) c ≡ true
+        → (hasCard p y && hasCard (withCard d c) y) ≡ true
     both y (inl z) px fx pc fc = rw (z, px, fx)
     both y (inr (inl z)) px fx pc fc = rw (z, pc, fc)
     both y (inr (inr z)) px fx pc fc = absurd z
@@ -95,16 +96,18 @@ two-failed d newest third w c e h =
     small y (inr (inl z)) hx hc = omega arith
     small y (inr (inr z)) hx hc = absurd z
 
-room-for : (k : Part) (c : ℕ) (l : List Placement) → k .older ≡ l → fourthOk (k .failed) (k .newest) l ≡ true → length l ≤ mostPlaced
+room-for : (k : Part) (c : ℕ) (l : List Placement) → ((p : Placement) → In p l → In p (active k)) → chainOk mostPlaced (k .failed) (k .newest .mask) (masksOf l) ≡ true
     → stopping cabinet k c ≡ false → hasCard (k .newest .mask) c ≡ true → length l < mostPlaced
-unfolding fourthOk stopping
-room-for k c [] e f n s h = omega arith
-room-for k c (a ∷ []) e f n s h = omega arith
-room-for k c (a ∷ b ∷ []) e f n s h = omega arith
-room-for k c (a ∷ b ∷ p ∷ []) e f n s h =
-    tf (lost cabinet (marked cabinet k c) p) (two-failed (k .failed) (k .newest) p (withoutCard (k .working) c) c f h)
-    (any-none (lost cabinet (marked cabinet k c)) (active k) p s (rw e (inr (inr (inl refl)))))
-room-for k c (a ∷ b ∷ p ∷ q ∷ l) e f n s h = absurd (omega arith)
+unfolding chainOk stopping
+room-for k c [] in-active e s h = omega arith
+room-for k c (p ∷ l) in-active e s h = go (split (ltb mostPlaced (suc (suc (length (masksOf l))))))
+  where
+    go : (ltb mostPlaced (suc (suc (length (masksOf l)))) ≡ true) ⊎ (ltb mostPlaced (suc (suc (length (masksOf l)))) ≡ false) → suc (length l) < mostPlaced
+    go (inl more) =
+        let one : isOneMore (k .failed) (k .newest .mask) (p .mask) ≡ true = and-l _ (chainOk mostPlaced (k .failed) (p .mask) (masksOf l)) (rw more at e) in
+        tf (lost cabinet (marked cabinet k c) p) (two-failed (k .failed) (k .newest .mask) (p .mask) (withoutCard (k .working) c) c one h)
+        (any-none (lost cabinet (marked cabinet k c)) (active k) p s (in-active p (inl refl)))
+    go (inr few) = omega (arith, length-masks l, ltb-false mostPlaced (suc (suc (length (masksOf l)))) few)
 
 older-count : (k : Struct) → length (meaning k .older) ≡ k .count - 1
 unfolding meaning
@@ -115,7 +118,7 @@ module _ (g : Image) (clear : formRefusal g ≡ 0) (k : Struct) (i : Is k (contr
   marked-is : meaning m ≡ marked cabinet (controlIn g) c
   marked-is = im .means ∙ ap (λ (x : Part). marked cabinet x c) (i .means)
 
-  pub stop-is : (s : Bool) → s ≡ all (isSafe (meaning m .working) (meaning m .failed)) (active (meaning m)) → not s ≡ stopping cabinet (controlIn g) c
+  pub stop-is : (s : Bool) → s ≡ allSafe (meaning m) → not s ≡ stopping cabinet (controlIn g) c
   unfolding stopping
   stop-is s e = ap not e ∙ sym (lost-safe (meaning m)) ∙ ap (λ (x : Part). any (lost cabinet x) (active x)) marked-is
 
@@ -160,15 +163,15 @@ module _ (g : Image) (clear : formRefusal g ≡ 0) (k : Struct) (i : Is k (contr
           → meaning y ≡ added closedPart (fromMask (withoutCard (controlIn g .newest .mask) c)) tt
       added-is mask y e iy = iy .means ∙ ap₂ (λ (p : Part) (b : Byte). added p (fromMask b) tt) closed-is e
 
-      pub room : hasCard (controlIn g .newest .mask) c ≡ true → x .count < 4
+      pub room : hasCard (controlIn g .newest .mask) c ≡ true → x .count < mostActive
       room h =
-          let few : length (controlIn g .older) < mostPlaced = room-for (controlIn g) c (controlIn g .older) refl (part-clauses (controlIn g) (form-part (λ n. getD g n 0) (form-good g clear)) .fourth) few-older s h in
+          let few : length (reverse (controlIn g .older)) < mostPlaced = room-for (controlIn g) c (reverse (controlIn g .older)) older-active
+          (part-clauses (controlIn g) (form-part (λ n. getD g n 0) (form-good g clear)) .chain) s h in
           let n : length (meaning x .older) ≡ length (controlIn g .older) = ap (λ (p : Part). length (p .older)) closed-is in
-          omega (arith, few, n, older-count x)
+          omega (arith, few, n, older-count x, length-reverse (controlIn g .older))
         where
-          few-older : length (controlIn g .older) ≤ mostPlaced
-          few-older = let e : length (meaning k .older) ≡ length (controlIn g .older) = ap (λ (p : Part). length (p .older)) (i .means) in
-              omega (arith, e, older-count k, i .counted .few)
+          older-active : (p : Placement) → In p (reverse (controlIn g .older)) → In p (active (controlIn g))
+          older-active p m = in-left (controlIn g .older) (controlIn g .newest ∷ []) p (in-reverse (controlIn g .older) p m)
 
   -- the newest mask in the struct
   pub newest-is : {n : ℕ} → n ≡ newestMask k → byte n ≡ controlIn g .newest .mask

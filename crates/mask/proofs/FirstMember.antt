@@ -6,7 +6,7 @@ use Prim.Native.Nat.{ℕ, _<_}
 use native.Mathlib.Omega.{arith}
 use lib.Count.{leadingZeros}
 use lib.Dec.{ltb, eqb}
-use lib.ListN.{length, getD, drop}
+use lib.ListN.{length, getD, drop, length-drop}
 use mathlib.Core.Logic.{_≢_}
 use borrow.Author.Tests.{eqb-true, ltb-true, lt-ltb, ne-eqb}
 use Rattle.lists.specs.Tests.{allBelow, elem}
@@ -74,6 +74,11 @@ test-rest = refl
 pub rest-is : (n : ℕ) → n < 256 → members (withoutCard (byte n) (getD (members (byte n)) 0 0)) ≡ drop 1 (members (byte n))
 unfolding restIs
 rest-is n h = same-list _ _ (below-all 256 restIs n test-rest h)
+
+-- One member fewer is left.
+pub one-fewer : (left next : ℕ) → left < 256 → left ≢ 0 → members (byte next) ≡ drop 1 (members (byte left))
+    → length (members (byte next)) < length (members (byte left))
+one-fewer left next h d e = rw (e, length-drop 1 (members (byte left))) (omega (arith, some-members left h d))
 
 -- It is in the mask.
 pub first-in : (m : Byte) → 0 < length (members m) → hasCard m (getD (members m) 0 0) ≡ true

@@ -113,7 +113,7 @@ module _ (P : Parameters) (L : Laws P) where
     bounded r =
         let t = chain-count (k .failed) (r .steps) (k .newest) (reverse (k .older)) (r .chain) in
         let n : ℕ = count cards (λ x. has (mask (t .0)) x && has (k .failed) x) in
-        let s : n < copies (k .setting) = few-failed P (k .setting) (k .working) (k .failed) (t .0) (f .base .safe (t .0) (place-of (t .0) (t .1))) in
+        let s : n < copies (k .setting) = few-failed P (k .setting) (k .working) (k .failed) (mask (t .0)) (f .base .safe (t .0) (place-of (t .0) (t .1))) in
         let a : r .steps ≤ n = t .2 in
         let b : suc (length (k .older)) ≤ placeLimit (k .setting) + r .steps = r .few in
         omega arith

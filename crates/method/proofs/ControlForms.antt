@@ -24,14 +24,14 @@ module _ (P : Parameters) (L : Laws P) where
   open Laws L using (has-none, start-usable, start-many, start-some)
 
   pub all-work-safe : (σ : Setting) (w f : Mask) (p : Placement) → ((c : ℕ) → has (mask p) c ≡ true → has w c ≡ true) → ((c : ℕ) → has w c ≡ true → has f c ≡ false)
-      → copies σ ≤ count cards (has (mask p)) → 0 < copies σ → lostOf P σ w f p ≡ false
+      → copies σ ≤ count cards (has (mask p)) → 0 < copies σ → lostOf P σ w f (mask p) ≡ false
   all-work-safe σ w f p all-w apart many pos =
       let z : count cards (λ c. has (mask p) c && has f c) ≤ count cards (λ c. false) = count-mono cards (λ c. has (mask p) c && has f c) (λ c. false)
       (λ c e. tf (has f c) (and-r (has (mask p) c) (has f c) e) (apart c (all-w c (and-l (has (mask p) c) (has f c) e)))) in
       let y : count cards (λ c. false) ≡ 0 = none-counted cards in
       let x : count cards (has (mask p)) ≤ count cards (λ c. has (mask p) c && has w c) = count-mono cards (has (mask p)) (λ c. has (mask p) c && has w c)
       (λ c e. and-in (has (mask p) c) (has w c) e (all-w c e)) in
-      not-lost P σ w f p (omega arith) (omega arith)
+      not-lost P σ w f (mask p) (omega arith) (omega arith)
     where
       none-counted : (n : ℕ) → count n (λ c. false) ≡ 0
       none-counted zero = refl
@@ -41,7 +41,7 @@ module _ (P : Parameters) (L : Laws P) where
     pub some-copies : 0 < copies (k .setting)
     some-copies =
         let n : ℕ = count cards (λ c. has (mask (k .newest)) c && has (k .failed) c) in
-        let h : n < copies (k .setting) = few-failed P (k .setting) (k .working) (k .failed) (k .newest) (f .safe (k .newest) (newest-in P k)) in
+        let h : n < copies (k .setting) = few-failed P (k .setting) (k .working) (k .failed) (mask (k .newest)) (f .safe (k .newest) (newest-in P k)) in
         omega arith
 
     pub base-home : (h : ℕ → Option ℕ) → Base P (withHome k h)
@@ -112,16 +112,16 @@ module _ (P : Parameters) (L : Laws P) where
       newWorks = λ c h. eq (k .newest) c (newest-in P k) h .0 ∙ g .newWorks c h;
     }
       where
-        safe′ : (p : Placement) → In p (active k) → lostOf P (k .setting) w d p ≡ false
+        safe′ : (p : Placement) → In p (active k) → lostOf P (k .setting) w d (mask p) ≡ false
         safe′ p m =
             let old = f .safe p m in
-            let few : count cards (λ c. has (mask p) c && has (k .failed) c) < copies (k .setting) = few-failed P (k .setting) (k .working) (k .failed) p old in
-            let many : copies (k .setting) ≤ count cards (λ c. has (mask p) c && has (k .working) c) = enough-work P (k .setting) (k .working) (k .failed) p old in
+            let few : count cards (λ c. has (mask p) c && has (k .failed) c) < copies (k .setting) = few-failed P (k .setting) (k .working) (k .failed) (mask p) old in
+            let many : copies (k .setting) ≤ count cards (λ c. has (mask p) c && has (k .working) c) = enough-work P (k .setting) (k .working) (k .failed) (mask p) old in
             let same-d : count cards (λ c. has (mask p) c && has d c) ≡ count cards (λ c. has (mask p) c && has (k .failed) c) =
             ap (count cards) (fun-ext (λ c. and-when (has (mask p) c) (has d c) (has (k .failed) c) (λ h. eq p c m h .1))) in
             let same-w : count cards (λ c. has (mask p) c && has w c) ≡ count cards (λ c. has (mask p) c && has (k .working) c) =
             ap (count cards) (fun-ext (λ c. and-when (has (mask p) c) (has w c) (has (k .working) c) (λ h. eq p c m h .0))) in
-            not-lost P (k .setting) w d p (omega arith) (omega arith)
+            not-lost P (k .setting) w d (mask p) (omega arith) (omega arith)
 
   pub form-started : (a : StartArgument) → startRefusal a ≡ 0 → Form P (startedBy P a)
   form-started a e = record {
@@ -143,6 +143,6 @@ module _ (P : Parameters) (L : Laws P) where
       sound′ p (inl q) = rw q (start-usable a e)
       sound′ p (inr m) = absurd m
 
-      safe′ : (p : Placement) → In p (starts a ∷ []) → lostOf P (startSetting a) (mask (starts a)) noCards p ≡ false
+      safe′ : (p : Placement) → In p (starts a ∷ []) → lostOf P (startSetting a) (mask (starts a)) noCards (mask p) ≡ false
       safe′ p (inl q) = rw q (all-work-safe (startSetting a) (mask (starts a)) noCards (starts a) (λ c h. h) (λ c h. has-none c) (start-many a e) (start-some a e))
       safe′ p (inr m) = absurd m

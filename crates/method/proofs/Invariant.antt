@@ -121,7 +121,7 @@ module _ (P : Parameters) (L : Laws P) where
             (λ x n. and-in (has (mask p) x) (has (k .failed) x) (member x n) (not-not-is (has (k .failed) x) (any-none (λ c. not (has (k .failed) c)) l x e n)))
             (λ x n. has-card (mask p) x (member x n)) in
             let n : length l ≡ copies (k .setting) = site-count (k .setting) p b s in-range in
-            let few : count cards (λ c. has (mask p) c && has (k .failed) c) < copies (k .setting) = few-failed P (k .setting) (k .working) (k .failed) p (i .form .base .safe p m) in
+            let few : count cards (λ c. has (mask p) c && has (k .failed) c) < copies (k .setting) = few-failed P (k .setting) (k .working) (k .failed) (mask p) (i .form .base .safe p m) in
             absurd (omega arith)
 
     -- a covered block has a holder

@@ -7,14 +7,14 @@ use mathlib.Core.Bool.{Bool, _&&_, _||_, and-true, false, not, true}
 use mathlib.Core.Logic.{_⊎_, inl, inr}
 use mathlib.Core.Path.{_∙_, _≡_, ap, fun-ext, refl, sym}
 use native.Mathlib.Omega.{arith}
-use Rattle.lists.specs.Tests.{In, all, count}
+use Rattle.lists.specs.Tests.{In, count}
 use Rattle.lists.proofs.Bools.{and-in, and-l, and-r, eqb-self, nand, never-true, not-is, or-l, same-test, split, tf}
 use Rattle.lists.proofs.Counts.{all-below, below-all, but, count-but, count-some}
 use Rattle.lists.proofs.Lists.{all-in, all-out, any-none, any-out}
 use Rattle.method.specs.Changes.{Control, marked}
 use Rattle.method.specs.ControlPart.{active}
 use Rattle.method.specs.Parameters.{Parameters}
-use Rattle.method.specs.Protection.{withstands}
+use Rattle.method.specs.Protection.{allWithstand, withstands}
 use Rattle.method.specs.Rules.{isProtected, lost, stopping}
 use Rattle.method.proofs.Laws.{Laws}
 use Rattle.method.proofs.StopRule.{enough-work, few-failed, not-lost}
@@ -90,27 +90,27 @@ module _ (P : Parameters) (L : Laws P) (k : Control P) where
         go (inl m) =
             let f = failed-more p c c-ok m (apart c on) in
             let w = works-less p c c-ok m on in
-            not-lost P (k .setting) (remove (k .working) c) (insert (k .failed) c) p (omega (arith, f, s .0)) (omega (arith, w, s .1))
+            not-lost P (k .setting) (remove (k .working) c) (insert (k .failed) c) (mask p) (omega (arith, f, s .0)) (omega (arith, w, s .1))
         go (inr m) =
             let f = failed-same p c c-ok m in
             let w = works-same p c c-ok m in
-            not-lost P (k .setting) (remove (k .working) c) (insert (k .failed) c) p (omega (arith, f, s .0)) (omega (arith, w, s .1))
+            not-lost P (k .setting) (remove (k .working) c) (insert (k .failed) c) (mask p) (omega (arith, f, s .0)) (omega (arith, w, s .1))
 
     -- and where a member fails, only such a placement is not
     safe-stands : has (mask p) c ≡ true → lost P (marked P k c) p ≡ false → Stands p
     safe-stands m e =
         let f = failed-more p c c-ok m (apart c on) in
         let w = works-less p c c-ok m on in
-        let few = few-failed P (k .setting) (remove (k .working) c) (insert (k .failed) c) p e in
-        let enough = enough-work P (k .setting) (remove (k .working) c) (insert (k .failed) c) p e in
+        let few = few-failed P (k .setting) (remove (k .working) c) (insert (k .failed) c) (mask p) e in
+        let enough = enough-work P (k .setting) (remove (k .working) c) (insert (k .failed) c) (mask p) e in
         (omega (arith, f, few), omega (arith, w, enough))
 
   -- the test, and what it says
-  stands-is : (p : Placement) → Stands p → withstands P (k .setting) (k .working) (k .failed) p ≡ true
+  stands-is : (p : Placement) → Stands p → withstands P (k .setting) (k .working) (k .failed) (mask p) ≡ true
   unfolding withstands
   stands-is p s = and-in _ _ (lt-ltb (suc (within p (k .failed))) (copies (k .setting)) (s .0)) (lt-ltb (copies (k .setting)) (within p (k .working)) (s .1))
 
-  is-stands : (p : Placement) → withstands P (k .setting) (k .working) (k .failed) p ≡ true → Stands p
+  is-stands : (p : Placement) → withstands P (k .setting) (k .working) (k .failed) (mask p) ≡ true → Stands p
   unfolding withstands
   is-stands p e =
       let few : Bool = ltb (suc (within p (k .failed))) (copies (k .setting)) in
@@ -122,17 +122,17 @@ module _ (P : Parameters) (L : Laws P) (k : Control P) where
     -- an active placement has a member that works
     some-member : (p : Placement) → In p (active k) → (c : ℕ) × (has (mask p) c ≡ true) × (has (k .working) c ≡ true)
     some-member p m =
-        let few : within p (k .failed) < copies (k .setting) = few-failed P (k .setting) (k .working) (k .failed) p (safe p m) in
-        let enough : copies (k .setting) ≤ within p (k .working) = enough-work P (k .setting) (k .working) (k .failed) p (safe p m) in
+        let few : within p (k .failed) < copies (k .setting) = few-failed P (k .setting) (k .working) (k .failed) (mask p) (safe p m) in
+        let enough : copies (k .setting) ≤ within p (k .working) = enough-work P (k .setting) (k .working) (k .failed) (mask p) (safe p m) in
         let t = count-some cards (λ x. has (mask p) x && has (k .working) x) (omega arith) in
         (t .0, and-l (has (mask p) (t .0)) (has (k .working) (t .0)) (t .2), and-r (has (mask p) (t .0)) (has (k .working) (t .0)) (t .2))
 
-    pub protected-by-counts : isProtected P k ≡ all (withstands P (k .setting) (k .working) (k .failed)) (active k)
+    pub protected-by-counts : isProtected P k ≡ allWithstand P k
     unfolding isProtected stopping
-    protected-by-counts = same-test (isProtected P k) (all (withstands P (k .setting) (k .working) (k .failed)) (active k)) up down
+    protected-by-counts = same-test (isProtected P k) (allWithstand P k) up down
       where
-        up : isProtected P k ≡ true → all (withstands P (k .setting) (k .working) (k .failed)) (active k) ≡ true
-        up e = all-in (withstands P (k .setting) (k .working) (k .failed)) (active k) (λ p m. stands-is p (each p m (some-member p m)))
+        up : isProtected P k ≡ true → allWithstand P k ≡ true
+        up e = all-in (λ p. withstands P (k .setting) (k .working) (k .failed) (mask p)) (active k) (λ p m. stands-is p (each p m (some-member p m)))
           where
             each : (p : Placement) → In p (active k) → (c : ℕ) × (has (mask p) c ≡ true) × (has (k .working) c ≡ true) → Stands p
             each p m (c, member, on) =
@@ -140,8 +140,9 @@ module _ (P : Parameters) (L : Laws P) (k : Control P) where
                 let u : stopping P k c ≡ false = not-is (stopping P k c) (rw on at t) in
                 safe-stands apart p c on member (any-none (lost P (marked P k c)) (active k) p u m)
 
-        down : all (withstands P (k .setting) (k .working) (k .failed)) (active k) ≡ true → isProtected P k ≡ true
+        down : allWithstand P k ≡ true → isProtected P k ≡ true
         down e = all-below cards _ (λ c h. nand (has (k .working) c) (stopping P k c) (λ on. never-true (stopping P k c) (λ s. lost-one c on (any-out (lost P (marked P k c)) (active k) s))))
           where
             lost-one : (c : ℕ) → has (k .working) c ≡ true → (p : Placement) × In p (active k) × (lost P (marked P k c) p ≡ true) → ⊥
-            lost-one c on (p, m, l) = tf (lost P (marked P k c) p) l (stands-safe apart p c on (is-stands p (all-out (withstands P (k .setting) (k .working) (k .failed)) (active k) p e m)))
+            lost-one c on (p, m, l) = tf (lost P (marked P k c) p) l (stands-safe apart p c on
+                (is-stands p (all-out (λ p. withstands P (k .setting) (k .working) (k .failed) (mask p)) (active k) p e m)))

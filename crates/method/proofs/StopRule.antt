@@ -14,29 +14,29 @@ use Rattle.method.specs.Rules.{lostOf, stopping}
 use Rattle.method.proofs.Laws.{Laws}
 
 -- ---- what the stop rule says of one placement
-module _ (P : Parameters) (σ : P .Setting) (working failed : P .Mask) (p : P .Placement) where
-  open Parameters P using (cards, copies, has, mask)
+module _ (P : Parameters) (σ : P .Setting) (working failed m : P .Mask) where
+  open Parameters P using (cards, copies, has)
 
   -- a placement that is not lost has fewer failed members than copies, and as many working members as copies
-  pub few-failed : lostOf P σ working failed p ≡ false → count cards (λ c. has (mask p) c && has failed c) < copies σ
+  pub few-failed : lostOf P σ working failed m ≡ false → count cards (λ c. has m c && has failed c) < copies σ
   unfolding lostOf
   few-failed e =
-      let n : ℕ = count cards (λ c. has (mask p) c && has failed c) in
-      let m : ℕ = count cards (λ c. has (mask p) c && has working c) in
-      leb-false (copies σ) n (nor-l (leb (copies σ) n) (ltb m (copies σ)) e)
+      let x : ℕ = count cards (λ c. has m c && has failed c) in
+      let y : ℕ = count cards (λ c. has m c && has working c) in
+      leb-false (copies σ) x (nor-l (leb (copies σ) x) (ltb y (copies σ)) e)
 
-  pub enough-work : lostOf P σ working failed p ≡ false → copies σ ≤ count cards (λ c. has (mask p) c && has working c)
+  pub enough-work : lostOf P σ working failed m ≡ false → copies σ ≤ count cards (λ c. has m c && has working c)
   unfolding lostOf
   enough-work e =
-      let n : ℕ = count cards (λ c. has (mask p) c && has failed c) in
-      let m : ℕ = count cards (λ c. has (mask p) c && has working c) in
-      ltb-false m (copies σ) (nor-r (leb (copies σ) n) (ltb m (copies σ)) e)
+      let x : ℕ = count cards (λ c. has m c && has failed c) in
+      let y : ℕ = count cards (λ c. has m c && has working c) in
+      ltb-false y (copies σ) (nor-r (leb (copies σ) x) (ltb y (copies σ)) e)
 
   -- and one of which both hold is not lost
-  pub not-lost : count cards (λ c. has (mask p) c && has failed c) < copies σ → copies σ ≤ count cards (λ c. has (mask p) c && has working c)
-      → lostOf P σ working failed p ≡ false
+  pub not-lost : count cards (λ c. has m c && has failed c) < copies σ → copies σ ≤ count cards (λ c. has m c && has working c)
+      → lostOf P σ working failed m ≡ false
   unfolding lostOf
-  not-lost a b = rw (lt-leb (copies σ) (count cards (λ c. has (mask p) c && has failed c)) a, le-ltb (count cards (λ c. has (mask p) c && has working c)) (copies σ) b)
+  not-lost a b = rw (lt-leb (copies σ) (count cards (λ c. has m c && has failed c)) a, le-ltb (count cards (λ c. has m c && has working c)) (copies σ) b)
 
 -- ---- the two writings of the stop rule
 module _ (P : Parameters) (L : Laws P) where

@@ -4,7 +4,9 @@ use lib.Dec.{ltb}
 use mathlib.Core.Bool.{Bool, _&&_, cond, false, not}
 use mathlib.Core.List.{List}
 use mathlib.Core.Path.{_≡_}
-use Rattle.lists.specs.Tests.{allBelow, count}
+use Rattle.lists.specs.Tests.{all, allBelow, count}
+use Rattle.method.specs.Changes.{Control}
+use Rattle.method.specs.ControlPart.{active}
 use Rattle.method.specs.Growth.{NoStop, plainAfter, stateAfter}
 use Rattle.method.specs.OneRecordList.{Noise, callsOf, disturb, isStop, zeroed}
 use Rattle.method.specs.Parameters.{Parameters}
@@ -15,12 +17,16 @@ use Rattle.method.specs.Rules.{start, state, unprotected}
 module _ (P : Parameters) where
   open Parameters P using (Mask, Placement, Setting, Serial, StartArgument, cards, copies, has, mask)
 
-  -- A placement withstands the failure of any one of its working cards: with one failed member more they are still
-  -- fewer than copies, and with one working member less still as many.
-  unfoldable pub withstands : Setting → Mask → Mask → Placement → Bool
-  withstands σ working failed p =
-      ltb (suc (count cards (λ c. has (mask p) c && has failed c))) (copies σ)
-      && ltb (copies σ) (count cards (λ c. has (mask p) c && has working c))
+  -- A placement with this mask withstands the failure of any one of its working cards: with one failed member more they
+  -- are still fewer than copies, and with one working member less still as many.
+  unfoldable pub withstands : Setting → Mask → Mask → Mask → Bool
+  withstands σ working failed m =
+      ltb (suc (count cards (λ c. has m c && has failed c))) (copies σ)
+      && ltb (copies σ) (count cards (λ c. has m c && has working c))
+
+  -- Every active placement withstands it.
+  abbrev pub allWithstand : Control P → Bool
+  allWithstand k = all (λ p. withstands (k .setting) (k .working) (k .failed) (mask p)) (active k)
 
   -- The word of state.
   abbrev pub protection : Bool → Answer P

@@ -137,14 +137,15 @@ module _ (P : Parameters) where
   abbrev pub inActive : Control P → ℕ → Bool
   inActive k c = any (λ p. has (mask p) c) (active k)
 
-  -- The stop rule of one placement: as many failed members as copies, or fewer working members than copies.
-  unfoldable pub lostOf : Setting → Mask → Mask → Placement → Bool
-  lostOf σ working failed p =
-      leb (copies σ) (count cards (λ c. has (mask p) c && has failed c))
-      || ltb (count cards (λ c. has (mask p) c && has working c)) (copies σ)
+  -- The stop rule of a placement with this mask: as many failed members as copies, or fewer working members than
+  -- copies.
+  unfoldable pub lostOf : Setting → Mask → Mask → Mask → Bool
+  lostOf σ working failed m =
+      leb (copies σ) (count cards (λ c. has m c && has failed c))
+      || ltb (count cards (λ c. has m c && has working c)) (copies σ)
 
   abbrev pub lost : Control P → Placement → Bool
-  lost k p = lostOf (k .setting) (k .working) (k .failed) p
+  lost k p = lostOf (k .setting) (k .working) (k .failed) (mask p)
 
   -- With the card marked failed, some active placement is lost.
   unfoldable pub stopping : Control P → ℕ → Bool

@@ -1,11 +1,11 @@
--- The proof of `in_active`. Assumes nothing.
+-- The masks before i lack the card. Assumes nothing.
 use borrow.Author.Needs.{needs}
 use mathlib.Core.Path.{_≡_, refl, sym, _∙_}
 use mathlib.Core.Bool.{true}
 use Prim.Native.Nat.{_≤_, _-_}
 use native.Mathlib.Omega.{arith}
 use Rattle.lists.specs.Tests.{allBelow}
-use Rattle.control_form.proofs.Checks.{placementTest}
+use Rattle.control.proofs.Active.{maskPasses}
 use Rattle.cards.proofs.Searches.{lacks, found-active, none-active, still-none}
 use Rattle.cards.proofs.in_active.Statement.{statement}
 use Rattle.cards.proofs.in_active.Tie as tie
@@ -14,7 +14,7 @@ use Rattle.cards.proofs.in_active.Lts as lts
 use Rattle.mask.proofs.has.Reads as has-reads
 
 abbrev Inv-loop : tie.InvT-loop
-Inv-loop card k i₀ i = (i ≤ k .count) × (allBelow i (placementTest (lacks (card .0)) k) ≡ true)
+Inv-loop card k i₀ i = (i ≤ k .count) × (allBelow i (maskPasses (lacks (card .0)) k) ≡ true)
 
 abbrev μ-loop : tie.MeasureT-loop
 μ-loop card k i₀ i = k .count - i

@@ -1,19 +1,19 @@
--- The proof of `all_safe`. Assumes nothing.
-use mathlib.Core.Path.{_≡_, refl, sym, _∙_}
+-- The masks before i are safe. Assumes nothing.
+use mathlib.Core.Path.{_≡_, refl}
 use mathlib.Core.Bool.{true}
 use Prim.Native.Nat.{_≤_, _-_}
 use native.Mathlib.Omega.{arith}
 use borrow.Author.Needs.{needs}
-use borrow.Author.Tests.{not-true, not-false}
 use Rattle.lists.specs.Tests.{allBelow}
-use Rattle.lists.proofs.Counts.{all-more}
 use Rattle.control_form.specs.ControlForm.{isSafe}
-use Rattle.control_form.proofs.Checks.{placementTest, one-fails, every-passed}
+use Rattle.control.specs.Meaning.{meaning}
+use Rattle.control.proofs.Active.{every-passed, maskPasses, one-fails, one-passes}
+use Rattle.control_form.proofs.Checks.{failed-is, passed-is}
 use Rattle.control_form.proofs.all_safe.Statement.{statement}
 use Rattle.control_form.proofs.all_safe.Tie as tie
 
 abbrev Inv-loop : tie.InvT-loop
-Inv-loop k i₀ i = (i ≤ k .count) × (allBelow i (placementTest isSafe k) ≡ true)
+Inv-loop k i₀ i = (i ≤ k .count) × (allBelow i (maskPasses (isSafe (meaning k .working) (meaning k .failed)) k) ≡ true)
 
 abbrev μ-loop : tie.MeasureT-loop
 μ-loop k i₀ i = k .count - i
@@ -34,7 +34,8 @@ returns : tie.Need-returns Inv-loop μ-loop
 returns c =
     let l = c .before .before .before .before .loop in
     let s = c .before .before .before .before .before in
-    one-fails isSafe (s .args .t1) (s .pre) (l .i) (search needs) (unfold placementTest isSafe in (sym (c .before .is-safe .ensures) ∙ not-true _ (c .if1 .taken)))
+    let k = s .args .t1 in
+    one-fails (isSafe (meaning k .working) (meaning k .failed)) k (s .pre) (l .i) (search needs) (unfold meaning in (failed-is (c .before .is-safe .ensures) (c .if1 .taken)))
 
 add-i : tie.Need-add-i Inv-loop μ-loop
 add-i c = search needs
@@ -46,13 +47,17 @@ loop-again : tie.Need-loop-again Inv-loop μ-loop
 loop-again c =
     let l = c .before .before .before .before .loop in
     let s = c .before .before .before .before .before in
-    (search needs, all-more (placementTest isSafe (s .args .t1)) (l .i) (unfold placementTest isSafe in (sym (c .before .is-safe .ensures) ∙ not-false _ (c .if1 .left))) (l .inv .1))
+    let k = s .args .t1 in (
+      search needs,
+      one-passes (isSafe (meaning k .working) (meaning k .failed)) k (s .pre) (l .i) (unfold meaning in (passed-is (c .before .is-safe .ensures) (c .if1 .left))) (l .inv .1),
+    )
 
 returns-2 : tie.Need-returns-2 Inv-loop μ-loop
 returns-2 c =
     let l = c .before .loop in
     let s = c .before .before in
-    every-passed isSafe (s .args .t1) (s .pre) (l .i) (omega arith) (l .inv .1)
+    let k = s .args .t1 in
+    every-passed (isSafe (meaning k .working) (meaning k .failed)) k (s .pre) (l .i) (omega arith) (l .inv .1)
 
 pub all-safe-spec : {M : Type 1} → statement M
 all-safe-spec =

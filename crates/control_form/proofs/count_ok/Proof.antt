@@ -1,4 +1,4 @@
--- The proof of `count_ok`. Assumes nothing.
+-- By the lower bound. Assumes nothing.
 use borrow.Author.Tests.{le-leb, lt-leb}
 use Rattle.control_form.specs.ControlForm.{countOk}
 use borrow.Author.Needs.{needs}

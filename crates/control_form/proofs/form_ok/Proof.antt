@@ -1,13 +1,13 @@
--- The proof of `form_ok`: the control form is the clauses in the code's order; each clause that passes leaves those behind
+-- The control form is the clauses in the code's order; each clause that passes leaves those behind
 -- it, and one that fails decides. Assumes nothing.
 use mathlib.Core.Path.{_≡_, _∙_, sym}
 use mathlib.Core.List.{List}
 use Prim.Native.Nat.{ℕ}
 use Rattle.control_form.specs.ControlForm.{controlForm, formOk}
 use Rattle.control_form.proofs.Checks.{failed-is, passed-is}
-use Rattle.control_form.specs.Reading.{allFrom, fourthIn, homeFitsAt, newestIn, otherZeros, wordsEnd}
+use Rattle.control_form.specs.Reading.{allFrom, chainIn, homeFitsAt, newestIn, otherZeros, wordsEnd}
 use Rattle.control_form.proofs.Clauses.{all-fail, apartIn, clauses, form-by, others-left, placementsIn}
-use Rattle.control_form.proofs.Clauses.{fromApart, fromFourth, fromNewest, fromPlacements}
+use Rattle.control_form.proofs.Clauses.{fromApart, fromChain, fromNewest, fromPlacements}
 use borrow.Author.Needs.{needs}
 use Rattle.control.specs.ControlBytes.{homesAt}
 use Rattle.control_form.proofs.form_ok.Statement.{statement}
@@ -42,11 +42,11 @@ left2 c = others-left (otherZeros (at2 c)) (fromApart (at2 c)) (left1 (c .before
 left3 : (c : tie.Else3) → controlForm (at3 c) ≡ fromPlacements (at3 c)
 left3 c = others-left (apartIn (at3 c)) (fromPlacements (at3 c)) (left2 (c .before .before .before .before)) (passed-is (c .before .apart .ensures) (c .if3 .left))
 
-left4 : (c : tie.Else4) → controlForm (at4 c) ≡ fromFourth (at4 c)
-left4 c = others-left (placementsIn (at4 c)) (fromFourth (at4 c)) (left3 (c .before .before)) (passed-is (c .before .placements-ok .ensures) (c .if4 .left))
+left4 : (c : tie.Else4) → controlForm (at4 c) ≡ fromChain (at4 c)
+left4 c = others-left (placementsIn (at4 c)) (fromChain (at4 c)) (left3 (c .before .before)) (passed-is (c .before .placements-ok .ensures) (c .if4 .left))
 
 left5 : (c : tie.Else5) → controlForm (at5 c) ≡ fromNewest (at5 c)
-left5 c = others-left (fourthIn (at5 c)) (fromNewest (at5 c)) (left4 (c .before .before)) (passed-is (c .before .fourth-ok .ensures) (c .if5 .left))
+left5 c = others-left (chainIn (at5 c)) (fromNewest (at5 c)) (left4 (c .before .before)) (passed-is (c .before .fourth-ok .ensures) (c .if5 .left))
 
 count-ok-requires : tie.Need-count-ok-requires
 count-ok-requires c κs = search needs
@@ -83,15 +83,17 @@ placements-ok-requires c κs = search needs
 returns-4 : tie.Need-returns-4
 returns-4 c =
     let g = at3 (c .before .before) in
-    all-fail (placementsIn g) (fromFourth g) (left3 (c .before .before)) (failed-is (c .before .placements-ok .ensures) (c .if4 .taken))
+    all-fail (placementsIn g) (fromChain g) (left3 (c .before .before)) (failed-is (c .before .placements-ok .ensures) (c .if4 .taken))
 
 fourth-ok-requires : tie.Need-fourth-ok-requires
-fourth-ok-requires c κs = search needs
+fourth-ok-requires c κs =
+    let e1 = c .before .before .before .before .before .before .before .before in
+    (e1 .before .before .before .pre, passed-is (e1 .before .count-ok .ensures) (e1 .if1 .left))
 
 returns-5 : tie.Need-returns-5
 returns-5 c =
     let g = at4 (c .before .before) in
-    all-fail (fourthIn g) (fromNewest g) (left4 (c .before .before)) (failed-is (c .before .fourth-ok .ensures) (c .if5 .taken))
+    all-fail (chainIn g) (fromNewest g) (left4 (c .before .before)) (failed-is (c .before .fourth-ok .ensures) (c .if5 .taken))
 
 newest-works-requires : tie.Need-newest-works-requires
 newest-works-requires c κs = search needs

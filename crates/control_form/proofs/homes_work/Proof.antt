@@ -5,11 +5,11 @@ use native.Mathlib.Omega.{arith}
 use lib.ListN.{length}
 use borrow.Author.Needs.{needs}
 use Rattle.mask.specs.Masks.{byte, members, withoutCard}
-use Rattle.mask.proofs.FirstMember.{some-members}
+use Rattle.mask.proofs.FirstMember.{one-fewer, some-members}
 use Rattle.control_form.specs.Reading.{isHomeAt, secondAt, wordsEnd}
 use Rattle.control_form.proofs.Checks.{failed-is, passed-is}
 use Rattle.control_form.proofs.Idle.{Idle, Tried, all-work, begun-there, first-idle, idle-all, idle-less}
-use Rattle.control_form.proofs.Idle.{lacking, less, tried-more, tried-none}
+use Rattle.control_form.proofs.Idle.{lacking, tried-more, tried-none}
 use Rattle.control_form.proofs.Ranges.{all-from, from-all}
 use Rattle.control_form.proofs.homes_work.Statement.{statement}
 use Rattle.control_form.proofs.homes_work.Tie as tie
@@ -84,7 +84,7 @@ loop-less : tie.Need-loop-less Inv-loop μ-loop
 loop-less c =
     let f = c .before .before .before .before .before in
     let t = f .before .before in
-    less (t .loop .idle) (c .without-first .result) (t .loop .inv .0) (f .before .loop-test .taken) (c .without-first .ensures .0)
+    one-fewer (t .loop .idle) (c .without-first .result) (t .loop .inv .0) (f .before .loop-test .taken) (c .without-first .ensures .0)
 
 loop-again : tie.Need-loop-again Inv-loop μ-loop
 loop-again c =

@@ -1,4 +1,4 @@
--- The proof of `is_safe`. Assumes nothing.
+-- By the count of failed members. Assumes nothing.
 use mathlib.Core.Path.{sym}
 use borrow.Author.Tests.{le-ltb, lt-ltb}
 use Rattle.control_form.specs.ControlForm.{isSafe}

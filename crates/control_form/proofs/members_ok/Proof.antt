@@ -1,4 +1,4 @@
--- The proof of `members_ok`. Assumes nothing.
+-- By the count of members. Assumes nothing.
 use mathlib.Core.Path.{sym}
 use borrow.Author.Tests.{le-leb, lt-leb}
 use Rattle.control_form.specs.ControlForm.{membersOk}

@@ -72,7 +72,7 @@ module _ (P : Parameters) (L : Laws P) where
       many =
           let a : ℕ = count cards (λ x. has (mask (k .newest)) x && has (remove (k .working) c) x) in
           let s = base-marked .safe (k .newest) (newest-in P k) in
-          let h : copies (k .setting) ≤ a = enough-work P (k .setting) (remove (k .working) c) (insert (k .failed) c) (k .newest) s in
+          let h : copies (k .setting) ≤ a = enough-work P (k .setting) (remove (k .working) c) (insert (k .failed) c) (mask (k .newest)) s in
           let g : a ≤ count cards (has (mask (without (k .newest) c))) = count-mono cards (λ x. has (mask (k .newest)) x && has (remove (k .working) c) x) (has (mask (without (k .newest) c))) inc in
           omega arith
         where

@@ -1,11 +1,5 @@
 -- Open at all, or open with the card. Assumes nothing.
-use Prim.Native.Nat.{ℕ}
-use mathlib.Core.Bool.{Bool, cond, false, true}
-use mathlib.Core.Option.{none, some}
-use mathlib.Core.Path.{_≡_, refl}
-use lib.Dec.{leb}
 use borrow.Author.Needs.{needs}
-use Rattle.method.specs.Slots.{isSome}
 use Rattle.control.proofs.Struct.{open-bit}
 use Rattle.tables.proofs.is_begun.Statement.{statement}
 use Rattle.tables.proofs.is_begun.Tie as tie

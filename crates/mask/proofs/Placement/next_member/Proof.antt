@@ -1,6 +1,6 @@
 -- The proof of `Placement::next_member`: the members behind a card are those below its bit, computed for every mask and
 -- member. Assumes nothing.
-use mathlib.Core.Path.{_≡_, _∙_, ap}
+use mathlib.Core.Path.{_∙_, ap}
 use Prim.Native.Nat.{ℕ, _-_, _<_}
 use native.Mathlib.Omega.{arith}
 use lib.Bits.{bitAnd}

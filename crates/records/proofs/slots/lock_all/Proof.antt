@@ -1,13 +1,12 @@
 -- The proof of `slots::lock_all`. Where the slot is locked on each member that is left, it is locked on each member of the
 -- mask. Assumes nothing.
-use mathlib.Core.Path.{_∙_, _≡_, ap, refl, sym}
+use mathlib.Core.Path.{_∙_, _≡_, refl, sym}
 use Prim.Native.Nat.{_/_, _<_}
-use native.Mathlib.Omega.{arith}
-use lib.ListN.{length, length-drop}
+use lib.ListN.{length}
 use borrow.Author.Needs.{needs}
 use Rattle.image.specs.Layout.{slotCount, valueBound}
 use Rattle.mask.specs.Masks.{byte, members}
-use Rattle.mask.proofs.FirstMember.{no-members, some-members}
+use Rattle.mask.proofs.FirstMember.{no-members, one-fewer, some-members}
 use Rattle.slot.specs.Words.{stateOf}
 use Rattle.trail.specs.Trail.{holdersIn}
 use Rattle.records.proofs.Locking.{each-end, each-turn, lock-holders, lock-mask, lockEach, state-fits}
@@ -43,7 +42,8 @@ without-first-requires c κs = some (c .before .before .before .before .before)
 loop-less : tie.Need-loop-less Inv-loop μ-loop
 loop-less c =
     let i = c .before .before .before .before .before .before in
-    omega (arith, ap length (c .without-first .ensures .0), length-drop 1 (members (byte (i .before .loop .left))), some i)
+    let l = i .before .loop in
+    one-fewer (l .left) (c .without-first .result) (l .inv .0) (i .loop-test .taken) (c .without-first .ensures .0)
 
 loop-again : tie.Need-loop-again Inv-loop μ-loop
 loop-again c =

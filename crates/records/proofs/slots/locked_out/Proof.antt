@@ -2,12 +2,11 @@
 -- exactly where one that is left has. Assumes nothing.
 use mathlib.Core.Path.{_∙_, _≡_, ap, refl, sym}
 use Prim.Native.Nat.{_<_}
-use native.Mathlib.Omega.{arith}
-use lib.ListN.{length, length-drop}
+use lib.ListN.{length}
 use borrow.Author.Needs.{needs}
 use Rattle.lists.specs.Tests.{any}
 use Rattle.mask.specs.Masks.{byte, members}
-use Rattle.mask.proofs.FirstMember.{no-members, some-members}
+use Rattle.mask.proofs.FirstMember.{no-members, one-fewer, some-members}
 use Rattle.records.specs.Slots.{lockedAt}
 use Rattle.records.proofs.Reading.{any-hit, any-miss, locked-out-is}
 use Rattle.records.proofs.slots.locked_out.Statement.{statement}
@@ -51,8 +50,8 @@ without-first-requires c κs = some (c .before .before .before)
 loop-less : tie.Need-loop-less Inv-loop μ-loop
 loop-less c =
     let i = c .before .before .before .before in
-    let m = members (byte (i .before .loop .left)) in
-    omega (arith, ap length (c .without-first .ensures .0), length-drop 1 m, some i)
+    let l = i .before .loop in
+    one-fewer (l .left) (c .without-first .result) (l .inv .0) (i .loop-test .taken) (c .without-first .ensures .0)
 
 loop-again : tie.Need-loop-again Inv-loop μ-loop
 loop-again c =

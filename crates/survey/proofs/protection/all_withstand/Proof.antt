@@ -1,20 +1,20 @@
--- The proof of `protection::all_withstand`. Assumes nothing.
+-- The masks before i withstand it. Assumes nothing.
 use Prim.Native.Nat.{_-_, _≤_}
 use borrow.Author.Needs.{needs}
-use borrow.Author.Tests.{not-false, not-true}
 use mathlib.Core.Bool.{true}
-use mathlib.Core.Path.{_∙_, _≡_, refl, sym}
+use mathlib.Core.Path.{_≡_, refl}
 use native.Mathlib.Omega.{arith}
 use Rattle.lists.specs.Tests.{allBelow}
-use Rattle.lists.proofs.Counts.{all-more}
 use Rattle.method.specs.Protection.{withstands}
-use Rattle.control_form.proofs.Checks.{every-passed, one-fails, placementTest}
+use Rattle.control.specs.Meaning.{meaning}
+use Rattle.control.proofs.Active.{every-passed, maskPasses, one-fails, one-passes}
+use Rattle.control_form.proofs.Checks.{failed-is, passed-is}
 use Rattle.cabinet_rules.specs.Cabinet.{cabinet}
 use Rattle.survey.proofs.protection.all_withstand.Statement.{statement}
 use Rattle.survey.proofs.protection.all_withstand.Tie as tie
 
 abbrev Inv-loop : tie.InvT-loop
-Inv-loop k i₀ i = (i ≤ k .count) × (allBelow i (placementTest (withstands cabinet tt) k) ≡ true)
+Inv-loop k i₀ i = (i ≤ k .count) × (allBelow i (maskPasses (withstands cabinet tt (meaning k .working) (meaning k .failed)) k) ≡ true)
 
 abbrev μ-loop : tie.MeasureT-loop
 μ-loop k i₀ i = k .count - i
@@ -35,7 +35,9 @@ returns : tie.Need-returns Inv-loop μ-loop
 returns c =
     let l = c .before .before .before .before .loop in
     let s = c .before .before .before .before .before in
-    one-fails (withstands cabinet tt) (s .args .t1) (s .pre) (l .i) (search needs) (unfold placementTest withstands in (sym (c .before .withstands .ensures) ∙ not-true _ (c .if1 .taken)))
+    let k = s .args .t1 in
+    one-fails (withstands cabinet tt (meaning k .working) (meaning k .failed)) k (s .pre) (l .i) (search needs)
+    (unfold meaning in (failed-is (c .before .withstands .ensures) (c .if1 .taken)))
 
 add-i : tie.Need-add-i Inv-loop μ-loop
 add-i c = search needs
@@ -47,13 +49,18 @@ loop-again : tie.Need-loop-again Inv-loop μ-loop
 loop-again c =
     let l = c .before .before .before .before .loop in
     let s = c .before .before .before .before .before in
-    (search needs, all-more (placementTest (withstands cabinet tt) (s .args .t1)) (l .i) (unfold placementTest withstands in (sym (c .before .withstands .ensures) ∙ not-false _ (c .if1 .left))) (l .inv .1))
+    let k = s .args .t1 in (
+      search needs,
+      one-passes (withstands cabinet tt (meaning k .working) (meaning k .failed)) k (s .pre) (l .i)
+          (unfold meaning in (passed-is (c .before .withstands .ensures) (c .if1 .left))) (l .inv .1),
+    )
 
 returns-2 : tie.Need-returns-2 Inv-loop μ-loop
 returns-2 c =
     let l = c .before .loop in
     let s = c .before .before in
-    every-passed (withstands cabinet tt) (s .args .t1) (s .pre) (l .i) (omega arith) (l .inv .1)
+    let k = s .args .t1 in
+    every-passed (withstands cabinet tt (meaning k .working) (meaning k .failed)) k (s .pre) (l .i) (omega arith) (l .inv .1)
 
 pub all-withstand-spec : {M : Type 1} → statement M
 all-withstand-spec =
