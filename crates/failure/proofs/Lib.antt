@@ -1,1 +1,5 @@
-pub mod Failing
+pub mod StopRule
+pub mod Room
+pub mod Marking
+pub mod Stopping
+pub mod GoingOn

@@ -1,13 +1,49 @@
 // fail: a card is lost, and the store goes on without it or stops.
+ghost use mathlib.Core.Bool.{false};
+ghost use mathlib.Core.Path.{_≡_};
+ghost use Rattle.image.specs.Layout.{Whole};
+ghost use Rattle.method.specs.Rules.{stopping};
+ghost use Rattle.control.specs.Meaning.{Counted, meaning};
+ghost use Rattle.cabinet_rules.specs.Cabinet.{cabinet};
+ghost use Rattle.cabinet_rules.specs.Images.{controlIn};
 ghost use Rattle.promise.specs.Promise.{Done, asked};
 ghost use Rattle.promise.specs.declared.Call.{Call};
+ghost use Rattle.failure.specs.Failing.{Failing, stoppedOn};
+use control::Control;
 use control::codec;
 use image::Card;
 use promise::Answer;
 
-// The card no longer works and is marked failed. Where an active placement is then lost, every open transaction is
-// rolled back and the store stops. Otherwise what was begun there is rolled back, and if the card was in the newest
-// placement one without it is added.
+// An active placement is lost: every open transaction is rolled back on the working cards, and the store stops.
+fn stop(image: &mut [u8], marked: Control)
+    requires { ⌜ Whole (now image) ⌝ }
+    requires { ⌜ Counted marked ⌝ }
+    ensures { λ _. ⌜ now (image .exit) ≡ stoppedOn (meaning marked) (now (image .entry)) ⌝ }
+{
+    tables::end_held(image, marked.working, false, tables::all_open(marked));
+    codec::write(image, marked.halt());
+}
+
+// No active placement is lost: what was begun at the card is rolled back, and if the card was in the newest placement
+// one without it is added.
+fn go_on(image: &mut [u8], marked: Control, card: Card) -> Answer
+    requires { ⌜ Failing marked (now image) (card .0) ⌝ }
+    requires { ⌜ stopping cabinet (controlIn (now image)) (card .0) ≡ false ⌝ }
+    ensures { λ r. ⌜ Done (asked (Call.Fail card)) (now (image .entry)) r (now (image .exit)) ⌝ }
+{
+    tables::end_held(image, marked.working, false, tables::begun_at(marked, card));
+    let closed = marked.close_at(card);
+    let newest = marked.newest_mask();
+    if mask::has(newest, card) {
+        let mask = mask::without_card(newest, card);
+        codec::write(image, closed.add(mask));
+        return Answer::Placed(mask);
+    }
+    codec::write(image, closed);
+    Answer::Unplaced
+}
+
+// The card no longer works and is marked failed; where an active placement is then lost, the store stops.
 pub fn fail(image: &mut [u8], card: Card) -> Answer
     ensures { λ r. ⌜ Done (asked (Call.Fail card)) (now (image .entry)) r (now (image .exit)) ⌝ }
 {
@@ -22,18 +58,8 @@ pub fn fail(image: &mut [u8], card: Card) -> Answer
     }
     let marked = k.mark_failed(card);
     if !control_form::all_safe(marked) {
-        tables::end_held(image, marked.working, false, tables::all_open(k));
-        codec::write(image, marked.halt());
+        stop(image, marked);
         return Answer::Stopped;
     }
-    tables::end_held(image, marked.working, false, tables::begun_at(k, card));
-    let closed = marked.close_at(card);
-    let newest = k.newest_mask();
-    if mask::has(newest, card) {
-        let mask = mask::without_card(newest, card);
-        codec::write(image, closed.add(mask));
-        return Answer::Placed(mask);
-    }
-    codec::write(image, closed);
-    Answer::Unplaced
+    go_on(image, marked, card)
 }

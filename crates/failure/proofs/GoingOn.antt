@@ -1,0 +1,115 @@
+-- The store goes on: what the rollback of the card's own transactions, their closing and the placement without the card leave is the image of
+-- the rules' plan, and there is room for that placement. Assumes nothing.
+use Prim.Native.Nat.{_-_, _<_, ℕ}
+use lib.ListN.{getD, length, length-reverse}
+use mathlib.Core.Bool.{Bool, false, true}
+use mathlib.Core.List.{[], _∷_, reverse}
+use mathlib.Core.Option.{none}
+use mathlib.Core.Path.{_∙_, _≡_, ap, ap₂, refl, sym}
+use native.Mathlib.Omega.{arith}
+use Rattle.lists.specs.Tests.{In}
+use Rattle.lists.proofs.Lists.{in-left, in-reverse}
+use Rattle.image.specs.Layout.{Whole, mostActive, mostPlaced}
+use Rattle.mask.specs.Masks.{Byte, byte, hasCard, withoutCard}
+use Rattle.mask.specs.Placements.{Placement, fromMask}
+use Rattle.slot.specs.Blocks.{inSet}
+use Rattle.method.specs.Changes.{marked}
+use Rattle.method.specs.ControlPart.{active, added, begunAt, closed}
+use Rattle.method.specs.Rules.{act, dropHeld, fail, placed, stampAll, stamping, stopping, unplaced, writing}
+use Rattle.control.specs.ControlBytes.{Part}
+use Rattle.control.specs.Meaning.{Is, meaning, newestMask, placementIn, putControl}
+use Rattle.control.specs.declared.Control.{Control as Struct}
+use Rattle.control.proofs.Struct.{length-placements, newest-mask-is}
+use Rattle.control_form.proofs.RoundTrip.{form-part, part-clauses}
+use Rattle.cabinet_rules.specs.Cabinet.{cabinet}
+use Rattle.cabinet_rules.specs.Images.{Image, controlIn, planOn}
+use Rattle.promise.specs.Given.{viewOf}
+use Rattle.promise.specs.Promise.{Done}
+use Rattle.promise.specs.declared.Answer.the-variants.{Placed, Unplaced}
+use Rattle.promise.proofs.Finish.{by-both, by-plan, form-good}
+use Rattle.promise.proofs.Laid.{laid, whole-laid, write-control}
+use Rattle.tables.specs.Tables.{endWrites, setOf}
+use Rattle.failure.specs.Failing.{Failing}
+use Rattle.failure.proofs.Room.{room-for}
+use Rattle.failure.proofs.Stopping.{dropped}
+
+older-count : (k : Struct) → length (meaning k .older) ≡ k .count - 1
+unfolding meaning
+older-count k = length-placements (placementIn k) (k .count - 1)
+
+-- The card's own transactions have been dropped in the tables, and closed in the struct x.
+pub record Closing (m : Struct) (g : Image) (c : ℕ) (out : Image) (x : Struct) : Type 0 where
+  pub out-is : out ≡ laid (endWrites (meaning m .working) false (inSet (setOf (begunAt (meaning m) c))) g) g
+  pub closes : Is x (closed (meaning m) (begunAt (meaning m) c))
+
+pub closing : {m x : Struct} {g out : Image} {c set : ℕ} → set ≡ setOf (begunAt (meaning m) c)
+    → out ≡ laid (endWrites (byte (m .working)) false (inSet set) g) g → Is x (closed (meaning m) (begunAt (meaning m) c)) → Closing m g c out x
+unfolding meaning
+closing e l ix = record { out-is = rw e at l; closes = ix }
+
+module _ {m x : Struct} {g out : Image} {c : ℕ} (f : Failing m g c) (s : stopping cabinet (controlIn g) c ≡ false) (t : Closing m g c out x) where
+  -- the newest mask, and the control part once what was begun at the card has closed
+  abbrev newest : Byte
+  newest = controlIn g .newest .mask
+
+  abbrev closedPart : Part
+  closedPart = closed (marked cabinet (controlIn g) c) (begunAt (controlIn g) c)
+
+  closed-is : meaning x ≡ closedPart
+  closed-is = t .closes .means ∙ ap (λ (y : Part). closed y (begunAt y c)) (f .is .means)
+
+  out-dropped : out ≡ laid (dropHeld cabinet (begunAt (controlIn g) c) c (viewOf g)) g
+  out-dropped = t .out-is
+      ∙ ap (λ (p : Part). laid (endWrites (meaning m .working) false (inSet (setOf (begunAt p c))) g) g) (f .is .means)
+      ∙ dropped f (begunAt (controlIn g) c)
+
+  pub out-whole : Whole out
+  out-whole = ap length out-dropped ∙ whole-laid (dropHeld cabinet (begunAt (controlIn g) c) c (viewOf g)) g
+
+  newest-is : {n : ℕ} → n ≡ newestMask m → byte n ≡ newest
+  newest-is {n} e = newest-mask-is m n e ∙ ap (λ (p : Part). p .newest .mask) (f .is .means)
+
+  had : {n : ℕ} {b : Bool} → n ≡ newestMask m → b ≡ hasCard (byte n) c → hasCard newest c ≡ b
+  had e h = ap (λ (z : Byte). hasCard z c) (sym (newest-is e)) ∙ sym h
+
+  -- ---- the card was not in the newest placement
+  unplaced-plan : hasCard newest c ≡ false
+      → planOn (fail c) g ≡ stamping cabinet (writing cabinet unplaced closedPart (dropHeld cabinet (begunAt (controlIn g) c) c (viewOf g))) (λ x. none)
+  unfolding act
+  unplaced-plan h = rw (s, h)
+
+  pub unplaced-done : {n : ℕ} {b : Bool} → n ≡ newestMask m → b ≡ hasCard (byte n) c → b ≡ false
+      → (behind : Image) → behind ≡ putControl out (meaning x) → Done (fail c) g Unplaced behind
+  unplaced-done e h z behind l =
+      let w = dropHeld cabinet (begunAt (controlIn g) c) c (viewOf g) in
+      by-both (fail c) refl g (f .formed) Unplaced closedPart w behind (f .accepted) (unplaced-plan (had e h ∙ z))
+      (l ∙ ap₂ putControl out-dropped closed-is)
+
+  -- ---- the card was in it
+  abbrev addedPart : Part
+  addedPart = added closedPart (fromMask (withoutCard newest c)) tt
+
+  placed-plan : hasCard newest c ≡ true
+      → planOn (fail c) g ≡ stamping cabinet (writing cabinet (placed (withoutCard newest c)) addedPart (dropHeld cabinet (begunAt (controlIn g) c) c (viewOf g)))
+      (stampAll cabinet addedPart)
+  unfolding act
+  placed-plan h = rw (s, h)
+
+  pub placed-done : {n mask : ℕ} {b : Bool} {y : Struct} → n ≡ newestMask m → b ≡ hasCard (byte n) c → b ≡ true → byte mask ≡ withoutCard (byte n) c
+      → Is y (added (meaning x) (fromMask (byte mask)) tt) → (behind : Image) → behind ≡ putControl out (meaning y) → Done (fail c) g (Placed mask) behind
+  placed-done {mask = mask} {y = y} e h z without iy behind l =
+      let w = dropHeld cabinet (begunAt (controlIn g) c) c (viewOf g) in
+      let q : byte mask ≡ withoutCard newest c = without ∙ ap (λ (b : Byte). withoutCard b c) (newest-is e) in
+      let is : meaning y ≡ addedPart = iy .means ∙ ap₂ (λ (p : Part) (b : Byte). added p (fromMask b) tt) closed-is q in
+      by-plan (fail c) refl g (f .formed) (Placed mask) _ behind (f .accepted) (placed-plan (had e h ∙ z)) (ap (λ (b : Byte). placed b) q)
+      (l ∙ ap₂ putControl out-dropped is ∙ write-control w g addedPart _)
+
+  older-active : (p : Placement) → In p (reverse (controlIn g .older)) → In p (active (controlIn g))
+  older-active p i = in-left (controlIn g .older) (controlIn g .newest ∷ []) p (in-reverse (controlIn g .older) p i)
+
+  pub room : {n : ℕ} {b : Bool} → n ≡ newestMask m → b ≡ hasCard (byte n) c → b ≡ true → x .count < mostActive
+  room e h z =
+      let chain = part-clauses (controlIn g) (form-part (λ n. getD g n 0) (form-good g (f .formed))) .chain in
+      let few : length (reverse (controlIn g .older)) < mostPlaced = room-for (controlIn g) c (reverse (controlIn g .older)) older-active chain s (had e h ∙ z) in
+      let n : length (meaning x .older) ≡ length (controlIn g .older) = ap (λ (p : Part). length (p .older)) closed-is in
+      omega (arith, few, n, older-count x, length-reverse (controlIn g .older))

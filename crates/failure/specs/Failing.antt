@@ -1,0 +1,27 @@
+-- What the two halves of a fail are given, and the image of a store that stops. Assumes nothing.
+use Prim.Native.Nat.{ℕ}
+use mathlib.Core.Bool.{false}
+use mathlib.Core.Path.{_≡_}
+use Rattle.slot.specs.Blocks.{inSet}
+use Rattle.method.specs.Changes.{marked}
+use Rattle.method.specs.ControlPart.{halted, isOpen}
+use Rattle.method.specs.Rules.{fail}
+use Rattle.control.specs.ControlBytes.{Part}
+use Rattle.control.specs.Meaning.{Is, putControl}
+use Rattle.control.specs.declared.Control.{Control}
+use Rattle.control_form.specs.ControlForm.{formRefusal}
+use Rattle.cabinet_rules.specs.Cabinet.{cabinet}
+use Rattle.cabinet_rules.specs.Images.{Image, controlIn}
+use Rattle.promise.specs.Given.{rowsOn}
+use Rattle.promise.proofs.Laid.{laid}
+use Rattle.tables.specs.Tables.{endWrites, setOf}
+
+-- The fail of card c is accepted, and the struct is the image's control part with the card marked failed.
+pub record Failing (m : Control) (g : Image) (c : ℕ) : Type 0 where
+  pub formed : formRefusal g ≡ 0
+  pub accepted : 0 ≡ rowsOn (fail c) g
+  pub is : Is m (marked cabinet (controlIn g) c)
+
+-- Every open transaction is rolled back on the working cards, and the store stops.
+unfoldable pub stoppedOn : Part → Image → Image
+stoppedOn m g = putControl (laid (endWrites (m .working) false (inSet (setOf (isOpen m))) g) g) (halted m)
