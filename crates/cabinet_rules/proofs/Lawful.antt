@@ -11,8 +11,7 @@ use native.Mathlib.Omega.{arith}
 use Rattle.lists.specs.Tests.{distinct, elem}
 use Rattle.lists.proofs.Bools.{and-r, imp-out, nor-l, nor-r, not-not-is}
 use Rattle.lists.proofs.Counts.{below-all}
-use Rattle.image.specs.Layout.{blockCount, cardCount, controlSize, copyCount, leastMembers, mostPlaced, recordCount, slotCount, tranBound}
-use Rattle.image.specs.Layout.{valueBound}
+use Rattle.image.specs.Layout.{blockCount, cardCount, controlSize, copyCount, leastMembers, mostPlaced, recordCount, slotCount, tranBound, valueBound}
 use Rattle.mask.specs.Masks.{Byte, hasCard, isWithin, size, withoutCard}
 use Rattle.mask.proofs.Masks.{has-card, has-none, has-with, has-without}
 use Rattle.mask.proofs.SiteLaws.{site-count, site-distinct, site-member}

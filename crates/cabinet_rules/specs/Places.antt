@@ -3,6 +3,7 @@ use Prim.Native.Nat.{ℕ}
 use lib.Dec.{leb, ltb}
 use lib.ListN.{length}
 use mathlib.Core.Bool.{Bool, _||_, not}
+use Rattle.image.specs.Layout.{mostPlaced}
 use Rattle.mask.specs.Masks.{Byte, isWithin, size}
 use Rattle.image.specs.Layout.{leastMembers, mostPlaced}
 use Rattle.method.specs.ControlPart.{ControlPart, active}

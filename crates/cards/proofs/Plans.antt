@@ -1,49 +1,97 @@
--- What accepted calls of this family leave, and the promise of start. Assumes nothing.
+-- What accepted calls of this family leave, by the image that was read and the control part that was written; and the promise of a refused call.
+-- Assumes nothing.
 use Prim.Native.Nat.{_<_, _≤_, ℕ}
-use borrow.Author.Tests.{eq-eqb, le-ltb, lt-ltb, ne-eqb}
 use lib.ListN.{length}
-use mathlib.Core.Option.{some}
-use mathlib.Core.Path.{_∙_, _≡_, refl}
-use Rattle.image.specs.Layout.{Whole, imageSize, leastMembers}
-use Rattle.mask.specs.Masks.{Byte, size, withCard, withoutCard}
-use Rattle.mask.specs.Placements.{fromMask}
-use Rattle.slot.specs.Blocks.{emptyBlock}
-use Rattle.method.specs.Changes.{startedBy}
+use mathlib.Core.Path.{_∙_, _≡_, refl, ap, ap₂, sym}
+use Rattle.image.specs.Layout.{Whole, cardCount, controlSize, mostActive}
+use Rattle.mask.specs.Masks.{Byte, withCard, withoutCard}
+use Rattle.mask.specs.Placements.{fromMask, Placement}
+use mathlib.Core.Logic.{_≢_}
+use native.Mathlib.Omega.{arith}
 use Rattle.method.specs.ControlPart.{added, withCards}
-use Rattle.method.specs.Rules.{act, clearCard, clearStamp, fit, ok, place, refusal, stampAll, stamping, start, unwritten, withdraw, writing}
-use Rattle.control.specs.Meaning.{putControl}
-use Rattle.cabinet_rules.specs.Cabinet.{cabinet, startRow}
-use Rattle.cabinet_rules.specs.Images.{Image, answerBy, controlIn, nextBy, planOn, refusalBy}
+use Rattle.method.specs.Rules.{Call, act, clearCard, clearStamp, fit, ok, place, stampAll, stamping, unwritten, withdraw, writing}
+use Rattle.control.specs.ControlBytes.{Part}
+use Rattle.control.specs.Meaning.{Is, meaning, putControl}
+use Rattle.control.specs.declared.Control.{Control as Struct}
+use Rattle.cabinet_rules.specs.Cabinet.{cabinet}
+use Rattle.cabinet_rules.specs.Images.{Image, controlIn, planOn}
+use Rattle.promise.specs.Given.{Given, rowsOn, viewOf}
 use Rattle.promise.specs.Promise.{Done}
-use Rattle.promise.proofs.Laid.{write-control}
-use Rattle.cards.specs.Clearing.{cleared}
 use Rattle.promise.specs.declared.Answer.the-variants.{Ok, Refused}
+use Rattle.promise.proofs.Finish.{by-both, by-control, by-rules, given-whole}
+use Rattle.promise.proofs.Laid.{laid}
+use Rattle.cards.proofs.Rows.{fit-range, fit-rows, place-few, place-rows, rowsOf, withdraw-range, withdraw-rows}
 
+-- ---- the rules' plans
 module _ (g : Image) where
-  pub fit-plan : (c : ℕ) → planOn (fit c) g ≡ stamping cabinet (writing cabinet ok (withCards (controlIn g) (withCard (controlIn g .working) c) (withoutCard (controlIn g .failed) c)) (clearCard cabinet c)) (clearStamp cabinet c)
+  abbrev fitted : ℕ → Part
+  fitted c = withCards (controlIn g) (withCard (controlIn g .working) c) (withoutCard (controlIn g .failed) c)
+
+  abbrev withdrawn : ℕ → Part
+  withdrawn c = withCards (controlIn g) (withoutCard (controlIn g .working) c) (controlIn g .failed)
+
+  fit-plan : (c : ℕ) → planOn (fit c) g ≡ stamping cabinet (writing cabinet ok (fitted c) (clearCard cabinet c)) (clearStamp cabinet c)
   unfolding act
   fit-plan c = refl
 
-  pub withdraw-plan : (c : ℕ) → planOn (withdraw c) g ≡ stamping cabinet (writing cabinet ok (withCards (controlIn g) (withoutCard (controlIn g .working) c) (controlIn g .failed)) (clearCard cabinet c)) (clearStamp cabinet c)
+  withdraw-plan : (c : ℕ) → planOn (withdraw c) g ≡ stamping cabinet (writing cabinet ok (withdrawn c) (clearCard cabinet c)) (clearStamp cabinet c)
   unfolding act
   withdraw-plan c = refl
 
-  pub place-plan : (m : Byte) → planOn (place m) g ≡ stamping cabinet (unwritten cabinet ok (added (controlIn g) (fromMask m) tt)) (stampAll cabinet (added (controlIn g) (fromMask m) tt))
+  abbrev placedOn : Byte → Part
+  placedOn m = added (controlIn g) (fromMask m) tt
+
+  place-plan : (m : Byte) → planOn (place m) g ≡ stamping cabinet (unwritten cabinet ok (placedOn m)) (stampAll cabinet (placedOn m))
   unfolding act
   place-plan m = refl
 
-  -- ---- start: row 1, row 9, and done
-  pub start-1 : (m : Byte) → (length g ≡ imageSize → ⊥) → Done (start m) g (Refused 1) g
-  unfolding answerBy nextBy refusalBy
-  start-1 m n = record { answers = rw (ne-eqb (length g) imageSize n); leaves = rw (ne-eqb (length g) imageSize n) }
+-- ---- on an image that was read
+module _ {k : Struct} {g : Image} (is : Given k g) where
+  -- the rows of the struct are those of the image
+  rows-on : (c : Call cabinet) → rowsOf c (controlIn g) ≡ rowsOn c g → {n : ℕ} → n ≡ rowsOf c (meaning k) → n ≡ rowsOn c g
+  rows-on c same e = e ∙ ap (rowsOf c) (is .is .means) ∙ same
 
-  pub start-9 : (m : Byte) → Whole g → size m < leastMembers → Done (start m) g (Refused 9) g
-  unfolding answerBy nextBy refusalBy refusal startRow
-  start-9 m w h = record { answers = rw (eq-eqb (length g) imageSize w, lt-ltb (size m) leastMembers h); leaves = rw (eq-eqb (length g) imageSize w, lt-ltb (size m) leastMembers h) }
+  pub fit-refused : (c n : ℕ) → n ≡ rowsOf (fit c) (meaning k) → n ≢ 0 → Done (fit c) g (Refused n) g
+  fit-refused c n e d = by-rules (fit c) refl g (is .formed) n (rows-on (fit c) (fit-rows (controlIn g) (viewOf g) c) e) d
 
-  pub start-done : (m : Byte) → Whole g → leastMembers ≤ size m → (behind : Image) → behind ≡ putControl (cleared g) (startedBy cabinet m) → Done (start m) g Ok behind
-  unfolding answerBy nextBy refusalBy refusal startRow act cleared
-  start-done m w h behind e = record {
-    answers = rw (eq-eqb (length g) imageSize w, le-ltb (size m) leastMembers h);
-    leaves = e ∙ rw (eq-eqb (length g) imageSize w, le-ltb (size m) leastMembers h) (write-control (λ c b. some emptyBlock) g (startedBy cabinet m) _);
-  }
+  pub withdraw-refused-on : (c n : ℕ) → n ≡ rowsOf (withdraw c) (meaning k) → n ≢ 0 → Done (withdraw c) g (Refused n) g
+  withdraw-refused-on c n e d = by-rules (withdraw c) refl g (is .formed) n (rows-on (withdraw c) (withdraw-rows (controlIn g) (viewOf g) c) e) d
+
+  pub place-refused : (m : Byte) (n : ℕ) → n ≡ rowsOf (place m) (meaning k) → n ≢ 0 → Done (place m) g (Refused n) g
+  place-refused m n e d = by-rules (place m) refl g (is .formed) n (rows-on (place m) (place-rows (controlIn g) (viewOf g) m) e) d
+
+  pub fit-done : (c n : ℕ) (x : Struct) (behind : Image) → n ≡ rowsOf (fit c) (meaning k) → n ≡ 0
+      → Is x (withCards (meaning k) (withCard (meaning k .working) c) (withoutCard (meaning k .failed) c))
+      → behind ≡ putControl (laid (clearCard cabinet c) g) (meaning x) → Done (fit c) g Ok behind
+  fit-done c n x behind e z ix l =
+      let p : meaning x ≡ fitted g c = ix .means ∙ ap (λ (q : Part). withCards q (withCard (q .working) c) (withoutCard (q .failed) c)) (is .is .means) in
+      by-both (fit c) refl g (is .formed) Ok (fitted g c) (clearCard cabinet c) behind (rows-on (fit c) (fit-rows (controlIn g) (viewOf g) c) (sym z ∙ e)) (fit-plan g c)
+      (l ∙ ap (putControl (laid (clearCard cabinet c) g)) p)
+
+  pub withdraw-done : (c n : ℕ) (x : Struct) (behind : Image) → n ≡ rowsOf (withdraw c) (meaning k) → n ≡ 0
+      → Is x (withCards (meaning k) (withoutCard (meaning k .working) c) (meaning k .failed))
+      → behind ≡ putControl (laid (clearCard cabinet c) g) (meaning x) → Done (withdraw c) g Ok behind
+  withdraw-done c n x behind e z ix l =
+      let p : meaning x ≡ withdrawn g c = ix .means ∙ ap (λ (q : Part). withCards q (withoutCard (q .working) c) (q .failed)) (is .is .means) in
+      by-both (withdraw c) refl g (is .formed) Ok (withdrawn g c) (clearCard cabinet c) behind
+      (rows-on (withdraw c) (withdraw-rows (controlIn g) (viewOf g) c) (sym z ∙ e)) (withdraw-plan g c) (l ∙ ap (putControl (laid (clearCard cabinet c) g)) p)
+
+  pub place-done : (m : Byte) (p : Placement) (n : ℕ) (x : Struct) (behind : Image) → p ≡ fromMask m → n ≡ rowsOf (place m) (meaning k) → n ≡ 0
+      → Is x (added (meaning k) p tt) → behind ≡ putControl g (meaning x) → Done (place m) g Ok behind
+  place-done m p n x behind q e z ix l =
+      let is-added : meaning x ≡ placedOn g m = ix .means ∙ ap₂ (λ (k : Part) (p : Placement). added k p tt) (is .is .means) q in
+      by-control (place m) refl g (is .formed) Ok (placedOn g m) behind (rows-on (place m) (place-rows (controlIn g) (viewOf g) m) (sym z ∙ e)) (place-plan g m)
+      (l ∙ ap (putControl g) is-added)
+
+  -- what the functions below an accepted call ask
+  pub long : controlSize ≤ length g
+  long = let w : Whole g = given-whole is in omega arith
+
+  pub fit-card : (c n : ℕ) → n ≡ rowsOf (fit c) (meaning k) → n ≡ 0 → c < cardCount
+  fit-card c n e z = fit-range (meaning k) c (sym z ∙ e)
+
+  pub withdraw-card : (c n : ℕ) → n ≡ rowsOf (withdraw c) (meaning k) → n ≡ 0 → c < cardCount
+  withdraw-card c n e z = withdraw-range (meaning k) c (sym z ∙ e)
+
+  pub place-room : (m : Byte) (n : ℕ) → n ≡ rowsOf (place m) (meaning k) → n ≡ 0 → k .count < mostActive
+  place-room m n e z = place-few k (is .is .counted) m (sym z ∙ e)

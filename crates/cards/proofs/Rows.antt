@@ -1,15 +1,16 @@
 -- The refusal rows of fit, withdraw and place in the values that the code has, and what an accepted call has shown. Assumes nothing.
-use Prim.Native.Nat.{_-_, _<_, ℕ}
-use borrow.Author.Tests.{leb-false, lt-ltb, ltb-true}
+use Prim.Native.Nat.{_-_, _<_, _≤_, ℕ}
+use borrow.Author.Tests.{le-leb, le-ltb, leb-false, leb-true, lt-leb, lt-ltb, ltb-true}
 use lib.Dec.{eqb, leb, ltb}
 use lib.ListN.{length}
 use mathlib.Core.Bool.{Bool, _||_, false, not, true}
-use mathlib.Core.Logic.{_≢_}
+use mathlib.Core.Logic.{_⊎_, _≢_, inl, inr}
 use mathlib.Core.List.{[], _++_, _∷_}
 use mathlib.Core.Path.{_∙_, _≡_, ap, ap₂, refl, sym}
 use native.Mathlib.Omega.{arith}
 use Rattle.lists.specs.Tests.{anyBelow}
-use Rattle.image.specs.Layout.{cardCount, leastMembers, mostPlaced, tranBound}
+use Rattle.image.specs.Layout.{cardCount, leastMembers, mostPlaced, tranBound, mostActive}
+use Rattle.lists.proofs.Bools.{split}
 use Rattle.mask.specs.Masks.{Byte, byte, hasCard, isWithin, size}
 use Rattle.method.specs.ControlPart.{begunAt}
 use Rattle.method.specs.PlainList.{noBlocks}
@@ -44,10 +45,11 @@ module _ (k : Part) (v : View cabinet) where
   place-rows m = refl
 
 -- ---- by the code's tests
-pub fit-by : (k : Struct) (c : ℕ) (w a : Bool) → w ≡ hasCard (byte (k .working)) c → a ≡ inActive cabinet (meaning k) c
-    → row 3 (not (ltb c cardCount)) (row 4 (k .stopped) (row 8 (w || a) 0)) ≡ rowsOf (fit c) (meaning k)
+-- fit: in range, stopped, working, in an active placement
+pub fit-by : (k : Struct) (c : ℕ) (r s w a : Bool) → ltb c cardCount ≡ r → k .stopped ≡ s → hasCard (byte (k .working)) c ≡ w → inActive cabinet (meaning k) c ≡ a
+    → row 3 (not r) (row 4 s (row 8 (w || a) 0)) ≡ rowsOf (fit c) (meaning k)
 unfolding refusal meaning
-fit-by k c w a ew ea = ap₂ (λ (x y : Bool). row 3 (not (ltb c cardCount)) (row 4 (k .stopped) (row 8 (x || y) 0))) ew ea
+fit-by k c r s w a er es ew ea = rw (sym er, sym es, sym ew, sym ea)
 
 module _ (k : Part) (c n : ℕ) (e : n ≡ cardRows k c) where
   pub withdraw-refused : n ≢ 0 → n ≡ rowsOf (withdraw c) k
@@ -72,15 +74,59 @@ module _ (k : Part) (c n : ℕ) (e : n ≡ cardRows k c) where
       go : (a s w o : Bool) (below : ℕ) → a ≡ true → s ≡ false → w ≡ true → row 8 o below ≡ row 3 (not a) (row 4 s (row 8 (not w || o) below))
       go a s w o below p q r = rw (p, q, r)
 
-pub place-by : (k : Struct) → Counted k → (m n : ℕ) (w again : Bool) → n ≡ size (byte m) → w ≡ isWithin (byte m) (byte (k .working))
-    → again ≡ againByRails (meaning k .newest) (byte m)
-    → row 4 (k .stopped) (row 9 (ltb n leastMembers || (not w || again)) (row 10 (leb mostPlaced (k .count)) 0)) ≡ rowsOf (place (byte m)) (meaning k)
-unfolding refusal placeRows meaning
-place-by k c m n w again en ew ea = rw (en, ew, ea)
-    (ap (λ (x : ℕ). row 4 (k .stopped) (row 9 (ltb (size (byte m)) leastMembers || (not (isWithin (byte m) (byte (k .working))) || againByRails (placementIn k (k .count - 1)) (byte m))) (row 10 (leb mostPlaced x) 0))) (sym count-is))
+-- under two members is not usable
+few : (m : Byte) → ltb (size m) leastMembers ≡ not (leb leastMembers (size m))
+few m = go (split (leb leastMembers (size m)))
   where
-    count-is : length (placementsIn (placementIn k) (k .count - 1) ++ (placementIn k (k .count - 1) ∷ [])) ≡ k .count
-    count-is = ap length (active-is k c) ∙ length-placements (placementIn k) (k .count)
+    go : (leb leastMembers (size m) ≡ true) ⊎ (leb leastMembers (size m) ≡ false) → ltb (size m) leastMembers ≡ not (leb leastMembers (size m))
+    go (inl e) = rw e (le-ltb (size m) leastMembers (leb-true leastMembers (size m) e))
+    go (inr e) = rw e (lt-ltb (size m) leastMembers (leb-false leastMembers (size m) e))
+
+-- place: the number of each return, by the tests that lead there
+module _ (k : Struct) (c : Counted k) (m : ℕ) where
+  abbrev again : Bool
+  again = againByRails (meaning k .newest) (byte m)
+
+  abbrev pub works : Bool
+  works = isWithin (byte m) (byte (k .working))
+
+  abbrev pub usable : Bool
+  usable = leb leastMembers (size (byte m))
+
+  -- the rows over the tests in the code's values
+  by-tests : row 4 (k .stopped) (row 9 (not usable || (not works || again)) (row 10 (leb mostPlaced (k .count)) 0)) ≡ rowsOf (place (byte m)) (meaning k)
+  unfolding refusal placeRows meaning
+  by-tests =
+      let rest : Bool = not works || again in
+      ap₂ (λ (b : Bool) (n : ℕ). row 4 (k .stopped) (row 9 (b || rest) (row 10 (leb mostPlaced n) 0))) (sym (few (byte m))) (sym count-is)
+    where
+      count-is : length (placementsIn (placementIn k) (k .count - 1) ++ (placementIn k (k .count - 1) ∷ [])) ≡ k .count
+      count-is = ap length (active-is k c) ∙ length-placements (placementIn k) (k .count)
+
+  tests-at : (s u w a f : Bool) → k .stopped ≡ s → usable ≡ u → works ≡ w → again ≡ a → leb mostPlaced (k .count) ≡ f
+      → row 4 s (row 9 (not u || (not w || a)) (row 10 f 0)) ≡ rowsOf (place (byte m)) (meaning k)
+  tests-at s u w a f es eu ew ea ef = rw (sym es, sym eu, sym ew, sym ea, sym ef) by-tests
+
+  pub says-4 : k .stopped ≡ true → 4 ≡ rowsOf (place (byte m)) (meaning k)
+  says-4 es = tests-at true usable works again _ es refl refl refl refl
+
+  module _ (run : k .stopped ≡ false) where
+    pub few-says-9 : usable ≡ false → 9 ≡ rowsOf (place (byte m)) (meaning k)
+    few-says-9 eu = tests-at false false works again _ run eu refl refl refl
+
+    module _ (eu : usable ≡ true) where
+      pub idle-says-9 : works ≡ false → 9 ≡ rowsOf (place (byte m)) (meaning k)
+      idle-says-9 ew = tests-at false true false again _ run eu ew refl refl
+
+      module _ (ew : works ≡ true) where
+        pub again-says-9 : again ≡ true → 9 ≡ rowsOf (place (byte m)) (meaning k)
+        again-says-9 ea = tests-at false true true true _ run eu ew ea refl
+
+        pub full-says-10 : again ≡ false → mostPlaced ≤ k .count → 10 ≡ rowsOf (place (byte m)) (meaning k)
+        full-says-10 ea h = tests-at false true true false true run eu ew ea (le-leb mostPlaced (k .count) h)
+
+        pub room-says-0 : again ≡ false → k .count < mostPlaced → 0 ≡ rowsOf (place (byte m)) (meaning k)
+        room-says-0 ea h = tests-at false true true false false run eu ew ea (lt-leb mostPlaced (k .count) h)
 
 -- ---- what an accepted call has shown
 pub fit-range : (k : Part) (c : ℕ) → 0 ≡ rowsOf (fit c) k → c < cardCount
@@ -91,7 +137,7 @@ pub withdraw-range : (k : Part) (c : ℕ) → 0 ≡ rowsOf (withdraw c) k → c 
 unfolding refusal
 withdraw-range k c e = ltb-true c cardCount (row-3 (ltb c cardCount) (sym e) .0)
 
-pub place-few : (k : Struct) → Counted k → (m : Byte) → 0 ≡ rowsOf (place m) (meaning k) → k .count < 4
+pub place-few : (k : Struct) → Counted k → (m : Byte) → 0 ≡ rowsOf (place m) (meaning k) → k .count < mostActive
 unfolding refusal placeRows meaning
 place-few k c m e =
     let bad : Bool = ltb (size m) leastMembers || (not (isWithin m (byte (k .working))) || againByRails (placementIn k (k .count - 1)) m) in

@@ -1,15 +1,17 @@
 // start, fit, withdraw and place: which cards there are and which of them the records are placed on.
 ghost use mathlib.Core.Path.{_≡_};
-ghost use Rattle.image.specs.Layout.{Whole};
-ghost use Rattle.method.specs.Rules.{inActive, refusal, fit, withdraw, place};
+ghost use Prim.Native.Nat.{_<_};
+ghost use Rattle.image.specs.Layout.{Whole, cardCount};
+ghost use Rattle.method.specs.Rules.{clearCard, inActive, refusal, fit, withdraw, place};
 ghost use Rattle.method.specs.PlainList.{noBlocks};
 ghost use Rattle.mask.specs.Masks.{byte};
 ghost use Rattle.mask.specs.Placements.{meant};
-ghost use Rattle.control.specs.Meaning.{Counted, meaning};
+ghost use Rattle.control.specs.Meaning.{Counted, meaning, putControl};
 ghost use Rattle.cabinet_rules.specs.Cabinet.{cabinet};
 ghost use Rattle.cabinet_rules.specs.Delivery.{againByRails};
 ghost use Rattle.promise.specs.Promise.{Done, asked};
 ghost use Rattle.promise.specs.declared.Call.{Call};
+ghost use Rattle.promise.proofs.Laid.{laid};
 ghost use Rattle.cards.specs.Clearing.{cleared};
 use control::Control;
 use control::codec;
@@ -36,11 +38,12 @@ pub fn start(image: &mut [u8], mask: u8) -> Answer
     if image.len() != image::IMAGE_SIZE {
         return Answer::Refused(1);
     }
-    if mask::members(mask) < Placement::LEAST_MEMBERS {
+    let first = Placement::from_mask(mask);
+    if !first.is_usable() {
         return Answer::Refused(9);
     }
     clear_tables(image);
-    codec::write(image, Control::started(mask));
+    codec::write(image, Control::started(first));
     Answer::Ok
 }
 
@@ -58,6 +61,17 @@ fn in_active(k: Control, card: Card) -> bool
         i += 1;
     }
     false
+}
+
+// The card's table is zeroed, and then the control part is written.
+fn empty_card(image: &mut [u8], card: Card, after: Control)
+    requires { ⌜ Whole (now image) × (card .0 < cardCount) ⌝ }
+    requires { ⌜ Counted after ⌝ }
+    ensures { λ _. ⌜ now (image .exit)
+        ≡ putControl (laid (clearCard cabinet (card .0)) (now (image .entry))) (meaning after) ⌝ }
+{
+    image::clear_table(image, card);
+    codec::write(image, after);
 }
 
 // The rows of fit from 3 on.
@@ -93,8 +107,7 @@ pub fn fit(image: &mut [u8], card: Card) -> Answer
     if refusal != 0 {
         return Answer::Refused(refusal);
     }
-    image::clear_table(image, card);
-    codec::write(image, k.admit(card));
+    empty_card(image, card, k.admit(card));
     Answer::Ok
 }
 
@@ -129,8 +142,7 @@ pub fn withdraw(image: &mut [u8], card: Card) -> Answer
     if refusal != 0 {
         return Answer::Refused(refusal);
     }
-    image::clear_table(image, card);
-    codec::write(image, k.dismiss(card));
+    empty_card(image, card, k.dismiss(card));
     Answer::Ok
 }
 
@@ -138,27 +150,27 @@ pub fn withdraw(image: &mut [u8], card: Card) -> Answer
 fn is_again(newest: Placement, mask: u8) -> bool
     ensures { λ r. ⌜ r ≡ againByRails (meant newest) (byte mask) ⌝ }
 {
-    if newest.rails {
-        return mask == newest.mask;
+    if !newest.rails {
+        return false;
     }
-    false
+    mask == newest.mask
 }
 
 // The rows of place from 4 on.
-fn place_refusal(k: Control, mask: u8) -> u8
+fn place_refusal(k: Control, placement: Placement) -> u8
     requires { ⌜ Counted k ⌝ }
-    ensures { λ r. ⌜ r ≡ refusal cabinet (place (byte mask)) (meaning k) (noBlocks cabinet) ⌝ }
+    ensures { λ r. ⌜ r ≡ refusal cabinet (place (meant placement .mask)) (meaning k) (noBlocks cabinet) ⌝ }
 {
     if k.stopped {
         return 4;
     }
-    if mask::members(mask) < Placement::LEAST_MEMBERS {
+    if !placement.is_usable() {
         return 9;
     }
-    if !mask::within(mask, k.working) {
+    if !mask::within(placement.mask, k.working) {
         return 9;
     }
-    if is_again(k.newest(), mask) {
+    if is_again(k.newest(), placement.mask) {
         return 9;
     }
     if k.count >= image::MOST_PLACED {
@@ -176,10 +188,11 @@ pub fn place(image: &mut [u8], mask: u8) -> Answer
         return Answer::Refused(found.refusal);
     }
     let k = found.control;
-    let refusal = place_refusal(k, mask);
+    let placement = Placement::from_mask(mask);
+    let refusal = place_refusal(k, placement);
     if refusal != 0 {
         return Answer::Refused(refusal);
     }
-    codec::write(image, k.add(mask));
+    codec::write(image, k.add(placement));
     Answer::Ok
 }

@@ -14,7 +14,7 @@ use borrow.Author.Tests.{eqb-true, eqb-false, eq-eqb, ne-eqb, ltb-true, lt-ltb, 
 use Rattle.lists.proofs.Bools.{tf, split, and-l, and-r, and-in, or-r}
 use Rattle.image.specs.Layout.{cardCount, mostActive, tranBound, tranCount}
 use Rattle.mask.specs.Masks.{Byte, bitOf, byte, noCards}
-use Rattle.mask.specs.Placements.{fromMask, meant}
+use Rattle.mask.specs.Placements.{Placement, fromMask, meant}
 use Rattle.mask.specs.declared.Placement.{Placement as Struct}
 use Rattle.method.specs.ControlPart.{active, isCard, begunAt, started, withHome, withCards, withPlacements, opened, closed, added, onlyNewest, halted}
 use Rattle.control.specs.ControlBytes.{field, fieldBound, homeIn, homeOf, keptAs, markIn, openBit, placementsIn}
@@ -60,6 +60,10 @@ no-more false = refl
 abbrev pub withHomes : Control → List ℕ → Control
 withHomes k l = record { stopped = k .stopped; count = k .count; masks = k .masks; working = k .working; failed = k .failed; marks = k .marks; homes = l }
 
+-- A placement by rails is the one that comes from its mask.
+from-mask : (p : Struct) → p .rails ≡ true → fromMask (byte (p .mask)) ≡ meant p
+from-mask p e = λ i. record { mask = byte (p .mask); byRails = sym e i }
+
 module _ (k : Control) (w : Counted k) where
   homes-are : (l : List ℕ) (f : ℕ → Option ℕ) → ((t : ℕ) → homeOf t (getD l (t - 1) 0) ≡ f t) → Is (withHomes k l) (withHome (meaning k) f)
   unfolding meaning
@@ -95,22 +99,22 @@ module _ (k : Control) (w : Counted k) where
           let b : t < tranBound = ltb-true t tranBound (and-r (ltb 0 t) (ltb t tranBound) e) in
           rw e (ap homeIn (same (t - 1) (omega arith)) ∙ kept-home c (getD (k .homes) (t - 1) 0))
 
-  pub add-is : (m : ℕ) → length (k .masks) ≡ mostActive → k .count < mostActive
+  pub add-is : (p : Struct) → p .rails ≡ true → length (k .masks) ≡ mostActive → k .count < mostActive
       → Is (record {
         stopped = k .stopped;
         count = k .count + 1;
-        masks = set (k .masks) (k .count) m;
+        masks = set (k .masks) (k .count) (p .mask);
         working = k .working;
         failed = k .failed;
         marks = bitOr (k .marks) (bitOf (k .count));
         homes = k .homes;
       })
-      (added (meaning k) (fromMask (byte m)) tt)
+      (added (meaning k) (meant p) tt)
   unfolding meaning
-  add-is m n h = record { counted = record { some = omega arith; few = omega arith }; means = ap₂ (withPlacements (meaning k)) old new }
+  add-is p e n h = record { counted = record { some = omega arith; few = omega arith }; means = ap₂ (withPlacements (meaning k)) old new }
     where
       masks : List ℕ
-      masks = set (k .masks) (k .count) m
+      masks = set (k .masks) (k .count) (p .mask)
 
       marks : ℕ
       marks = bitOr (k .marks) (bitOf (k .count))
@@ -119,17 +123,17 @@ module _ (k : Control) (w : Counted k) where
       c = omega arith
 
       kept : (i : ℕ) → i < k .count → keptAs i (getD masks i 0) marks ≡ placementIn k i
-      kept i b = ap₂ (λ (x : ℕ) (r : Bool). record { mask = byte x; byRails = r }) (getD-set-other (k .masks) (k .count) i m 0 (λ e. omega arith))
+      kept i b = ap₂ (λ (x : ℕ) (r : Bool). record { mask = byte x; byRails = r }) (getD-set-other (k .masks) (k .count) i (p .mask) 0 (λ e. omega arith))
           (mark-set (k .marks) (k .count) i h (omega arith) ∙ rw (ne-eqb i (k .count) (λ e. omega arith)) (no-more (markIn (k .marks) i)))
 
       old : placementsIn (λ i. keptAs i (getD masks i 0) marks) (k .count + 1 - 1) ≡ active (meaning k)
       old = ap (placementsIn (λ i. keptAs i (getD masks i 0) marks)) c
           ∙ placements-same (λ i. keptAs i (getD masks i 0) marks) (placementIn k) (k .count) kept ∙ sym (active-is k w)
 
-      new : keptAs (k .count + 1 - 1) (getD masks (k .count + 1 - 1) 0) marks ≡ fromMask (byte m)
+      new : keptAs (k .count + 1 - 1) (getD masks (k .count + 1 - 1) 0) marks ≡ meant p
       new = ap (λ (i : ℕ). keptAs i (getD masks i 0) marks) c
-          ∙ ap₂ (λ (x : ℕ) (r : Bool). record { mask = byte x; byRails = r }) (getD-set-same (k .masks) (k .count) m 0 (omega arith))
-          (mark-set (k .marks) (k .count) (k .count) h h ∙ rw (eq-eqb (k .count) (k .count) refl) (or-r (markIn (k .marks) (k .count)) true refl))
+          ∙ ap₂ (λ (x : ℕ) (r : Bool). record { mask = byte x; byRails = r }) (getD-set-same (k .masks) (k .count) (p .mask) 0 (omega arith))
+          (mark-set (k .marks) (k .count) (k .count) h h ∙ rw (eq-eqb (k .count) (k .count) refl) (or-r (markIn (k .marks) (k .count)) true refl) ∙ sym e)
 
   pub retire-is : (p : Struct) (marks : ℕ) → meant p ≡ meaning k .newest → marks ≡ cond (p .rails) (bitOf 0) 0
       → Is (record { stopped = k .stopped; count = 1; masks = p .mask ∷ 0 ∷ 0 ∷ 0 ∷ []; working = k .working; failed = k .failed; marks = marks; homes = k .homes })
@@ -163,11 +167,12 @@ pub halt-is : (k : Control) → Counted k
 unfolding meaning
 halt-is k w = record { counted = record { some = w .some; few = w .few }; means = ap (withHome (halted (meaning k))) (fun-ext none-open) }
 
-pub start-is : (m : ℕ)
-    → Is (record { stopped = false; count = 1; masks = m ∷ 0 ∷ 0 ∷ 0 ∷ []; working = m; failed = 0; marks = bitOf 0; homes = replicate tranCount 0 })
-    (started (fromMask (byte m)) (byte m) noCards tt tt)
+pub start-is : (p : Struct) → p .rails ≡ true
+    → Is (record { stopped = false; count = 1; masks = p .mask ∷ 0 ∷ 0 ∷ 0 ∷ []; working = p .mask; failed = 0; marks = bitOf 0; homes = replicate tranCount 0 })
+    (started (meant p) (byte (p .mask)) noCards tt tt)
 unfolding meaning
-start-is m = record {
+start-is p e = record {
   counted = record { some = omega arith; few = omega arith };
-  means = ap (withHome (started (fromMask (byte m)) (byte m) noCards tt tt)) (fun-ext none-open);
+  means = ap (withHome (started (fromMask (byte (p .mask))) (byte (p .mask)) noCards tt tt)) (fun-ext none-open)
+      ∙ ap (λ (q : Placement). started q (byte (p .mask)) noCards tt tt) (from-mask p e);
 }

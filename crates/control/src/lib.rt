@@ -1,11 +1,11 @@
 // The control part, as a struct by value: every change yields a whole new one.
 ghost use mathlib.Core.Path.{_≡_};
-ghost use mathlib.Core.Bool.{cond};
+ghost use mathlib.Core.Bool.{cond, true};
 ghost use Prim.Native.Nat.{_+_, _-_, _<_};
 ghost use lib.Dec.{eqb};
 ghost use Rattle.image.specs.Layout.{cardCount, tranBound, mostActive};
-ghost use Rattle.mask.specs.Masks.{bitOf, byte, noCards, withCard, withoutCard};
-ghost use Rattle.mask.specs.Placements.{fromMask, meant};
+ghost use Rattle.mask.specs.Masks.{bitOf, noCards, withCard, withoutCard};
+ghost use Rattle.mask.specs.Placements.{meant};
 ghost use Rattle.method.specs.ControlPart.{
   begunAt,
   started,
@@ -47,15 +47,16 @@ pub struct Control {
 }
 
 impl Control {
-    // The cards of a mask work and are the one placement; none failed, none open.
-    pub fn started(mask: u8) -> Control
-        ensures { λ r. ⌜ Is r (started (fromMask (byte mask)) (byte mask) noCards tt tt) ⌝ }
+    // The members of a placement by rails work, and it is the one placement; none failed, none open.
+    pub fn started(placement: Placement) -> Control
+        requires { ⌜ meant placement .byRails ≡ true ⌝ }
+        ensures { λ r. ⌜ Is r (started (meant placement) (meant placement .mask) noCards tt tt) ⌝ }
     {
         Control {
             stopped: false,
             count: 1,
-            masks: [mask, 0, 0, 0],
-            working: mask,
+            masks: [placement.mask, 0, 0, 0],
+            working: placement.mask,
             failed: 0,
             marks: FIRST_MARK,
             homes: [0u8; TRAN_COUNT],
@@ -137,14 +138,15 @@ impl Control {
         self
     }
 
-    // The placement becomes the newest, marked 1.
-    pub fn add(mut self, mask: u8) -> Self
+    // The placement, by rails, becomes the newest, marked 1.
+    pub fn add(mut self, placement: Placement) -> Self
         requires { ⌜ Counted self ⌝ }
         requires { ⌜ self .count < mostActive ⌝ }
-        ensures { λ r. ⌜ Is r (added (meaning self) (fromMask (byte mask)) tt) ⌝ }
+        requires { ⌜ meant placement .byRails ≡ true ⌝ }
+        ensures { λ r. ⌜ Is r (added (meaning self) (meant placement) tt) ⌝ }
     {
         let i = self.count as usize;
-        self.masks[i] = mask;
+        self.masks[i] = placement.mask;
         self.marks = self.marks | (FIRST_MARK >> self.count);
         self.count = self.count + 1;
         self

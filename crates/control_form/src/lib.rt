@@ -288,7 +288,7 @@ fn form_ok(s: &[u8]) -> bool
 fn unread(refusal: u8) -> Found
     ensures { λ r. ⌜ r .refusal ≡ refusal ⌝ }
 {
-    let none = Control::started(0);
+    let none = Control::started(mask::Placement::from_mask(0));
     Found {
         refusal: refusal,
         control: none,

@@ -95,12 +95,12 @@ module _ {m x : Struct} {g out : Image} {c : ℕ} (f : Failing m g c) (s : stopp
   unfolding act
   placed-plan h = rw (s, h)
 
-  pub placed-done : {n mask : ℕ} {b : Bool} {y : Struct} → n ≡ newestMask m → b ≡ hasCard (byte n) c → b ≡ true → byte mask ≡ withoutCard (byte n) c
-      → Is y (added (meaning x) (fromMask (byte mask)) tt) → (behind : Image) → behind ≡ putControl out (meaning y) → Done (fail c) g (Placed mask) behind
-  placed-done {mask = mask} {y = y} e h z without iy behind l =
+  pub placed-done : {n mask : ℕ} {b : Bool} {p : Placement} {y : Struct} → n ≡ newestMask m → b ≡ hasCard (byte n) c → b ≡ true → byte mask ≡ withoutCard (byte n) c
+      → p ≡ fromMask (byte mask) → Is y (added (meaning x) p tt) → (behind : Image) → behind ≡ putControl out (meaning y) → Done (fail c) g (Placed mask) behind
+  placed-done {mask = mask} {p = p} {y = y} e h z without from iy behind l =
       let w = dropHeld cabinet (begunAt (controlIn g) c) c (viewOf g) in
       let q : byte mask ≡ withoutCard newest c = without ∙ ap (λ (b : Byte). withoutCard b c) (newest-is e) in
-      let is : meaning y ≡ addedPart = iy .means ∙ ap₂ (λ (p : Part) (b : Byte). added p (fromMask b) tt) closed-is q in
+      let is : meaning y ≡ addedPart = iy .means ∙ ap₂ (λ (k : Part) (p : Placement). added k p tt) closed-is (from ∙ ap (λ (b : Byte). fromMask b) q) in
       by-plan (fail c) refl g (f .formed) (Placed mask) _ behind (f .accepted) (placed-plan (had e h ∙ z)) (ap (λ (b : Byte). placed b) q)
       (l ∙ ap₂ putControl out-dropped is ∙ write-control w g addedPart _)
 

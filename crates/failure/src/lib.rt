@@ -12,6 +12,7 @@ ghost use Rattle.failure.specs.Failing.{Failing, stoppedOn};
 use control::Control;
 use control::codec;
 use image::Card;
+use mask::Placement;
 use promise::Answer;
 
 // An active placement is lost: every open transaction is rolled back on the working cards, and the store stops.
@@ -36,7 +37,7 @@ fn go_on(image: &mut [u8], marked: Control, card: Card) -> Answer
     let newest = marked.newest_mask();
     if mask::has(newest, card) {
         let mask = mask::without_card(newest, card);
-        codec::write(image, closed.add(mask));
+        codec::write(image, closed.add(Placement::from_mask(mask)));
         return Answer::Placed(mask);
     }
     codec::write(image, closed);

@@ -138,24 +138,6 @@ pub fn get_block(image: &[u8], card: Card, block: Block) -> [u8; 41]
     read_at(image, block_address(card, block))
 }
 
-// Copies one block from a card to another.
-pub fn copy_block(image: &mut [u8], from: Card, to: Card, block: Block)
-    requires { ⌜ Whole (now image) × (from .0 < cardCount) × (to .0 < cardCount) × (block .0 < blockCount) ⌝ }
-    ensures { λ _. ⌜ now (image .exit)
-        ≡ putBlock (now (image .entry)) (to .0) (block .0) (blockAt (now (image .entry)) (from .0) (block .0)) ⌝ }
-{
-    let bytes = get_block(image, from, block);
-    put_block(image, to, block, bytes);
-}
-
-// Writes one block of a card with zeros.
-pub fn clear_block(image: &mut [u8], card: Card, block: Block)
-    requires { ⌜ Whole (now image) × (card .0 < cardCount) × (block .0 < blockCount) ⌝ }
-    ensures { λ _. ⌜ now (image .exit) ≡ putBlock (now (image .entry)) (card .0) (block .0) (zeros blockSize) ⌝ }
-{
-    put_block(image, card, block, [0u8; 41]);
-}
-
 // Writes zeros over s.
 pub fn clear(s: &mut [u8])
     ensures { λ _. ⌜ now (s .exit) ≡ zeros (length (now (s .entry))) ⌝ }

@@ -22,7 +22,7 @@ unfoldable pub chainedSites : Byte → ℕ → List ℕ
 chainedSites m b = memberAt m b ∷ memberAt m (b + 1) ∷ []
 
 -- ---- the choice by rails
--- The supply rail of a card.
+-- Cards 0 to 3 hang on one supply rail and 4 to 7 on the other.
 abbrev pub railOf : ℕ → ℕ
 railOf c = c / railSize
 

@@ -225,20 +225,6 @@ impl Placement {
         }
     }
 
-    // How many members.
-    pub fn members(self) -> u32
-        ensures { λ r. ⌜ r ≡ size (meant self .mask) ⌝ }
-    {
-        u8::count_ones(self.mask)
-    }
-
-    // Whether the card is a member.
-    pub fn has(self, card: Card) -> bool
-        ensures { λ r. ⌜ r ≡ hasCard (meant self .mask) (card .0) ⌝ }
-    {
-        has(self.mask, card)
-    }
-
     // Whether there are as many members as copies.
     pub fn is_usable(self) -> bool
         ensures { λ r. ⌜ r ≡ leb leastMembers (size (meant self .mask)) ⌝ }

@@ -1,4 +1,4 @@
--- The proof of `clear_tables`. Assumes nothing.
+-- The tables before c are empty, one more at each turn. Assumes nothing.
 use borrow.Author.Needs.{needs}
 use mathlib.Core.Path.{_≡_, sym, ap, _∙_}
 use mathlib.Core.List.{List}
@@ -10,9 +10,6 @@ use Rattle.promise.proofs.Laid.{laid, whole-laid}
 use Rattle.cards.proofs.Tables.{emptyTo, none-emptied, one-emptied, all-emptied}
 use Rattle.cards.proofs.clear_tables.Statement.{statement}
 use Rattle.cards.proofs.clear_tables.Tie as tie
-use Rattle.cards.proofs.clear_tables.Reads as reads
-use Rattle.cards.proofs.clear_tables.Lts as lts
-use Rattle.image.proofs.clear_table.Reads as clear-table-reads
 
 abbrev Inv-loop : tie.InvT-loop
 Inv-loop image₀ c₀ image c = (c ≤ cardCount) × (image ≡ laid (emptyTo c) image₀)

@@ -1,4 +1,4 @@
--- The masks before i lack the card. Assumes nothing.
+-- The placements before i lack the card: a search that stops at the first that has it. Assumes nothing.
 use borrow.Author.Needs.{needs}
 use mathlib.Core.Path.{_≡_, refl, sym, _∙_}
 use mathlib.Core.Bool.{true}
@@ -9,9 +9,6 @@ use Rattle.control.proofs.Active.{maskPasses}
 use Rattle.cards.proofs.Searches.{lacks, found-active, none-active, still-none}
 use Rattle.cards.proofs.in_active.Statement.{statement}
 use Rattle.cards.proofs.in_active.Tie as tie
-use Rattle.cards.proofs.in_active.Reads as reads
-use Rattle.cards.proofs.in_active.Lts as lts
-use Rattle.mask.proofs.has.Reads as has-reads
 
 abbrev Inv-loop : tie.InvT-loop
 Inv-loop card k i₀ i = (i ≤ k .count) × (allBelow i (maskPasses (lacks (card .0)) k) ≡ true)

@@ -1,27 +1,16 @@
--- The proof of `place`. Assumes nothing.
-use mathlib.Core.Path.{refl, sym, ap, _∙_}
-use native.Mathlib.Omega.{arith}
-use Rattle.mask.specs.Masks.{byte}
-use Rattle.mask.specs.Placements.{fromMask}
-use Rattle.method.specs.ControlPart.{added}
-use Rattle.method.specs.Rules.{place, look}
-use Rattle.control.specs.ControlBytes.{Part}
-use Rattle.control.specs.Meaning.{putControl}
-use Rattle.cabinet_rules.specs.Cabinet.{cabinet}
-use Rattle.cabinet_rules.specs.Images.{controlIn, stateIn}
-use Rattle.promise.specs.declared.Answer.the-variants.{Ok}
-use Rattle.promise.proofs.Finish.{form-long, by-form, by-rules, by-control}
-use Rattle.cards.proofs.Rows.{rowsOf, place-rows, place-few}
-use Rattle.cards.proofs.Plans.{place-plan}
+-- Refused by the form or by a row; else the placement of the mask is added to the control part, and only that changes. Assumes nothing.
 use borrow.Author.Needs.{needs}
+use mathlib.Core.Path.{_∙_, _≡_, ap, refl}
+use Rattle.mask.specs.Masks.{byte}
+use Rattle.mask.specs.Placements.{Placement}
+use Rattle.method.specs.Rules.{place}
+use Rattle.control.specs.Meaning.{meaning}
+use Rattle.promise.specs.Given.{Given}
+use Rattle.promise.proofs.Finish.{by-form, given}
+use Rattle.cards.proofs.Plans.{long, place-done, place-refused, place-room}
+use Rattle.cards.proofs.Rows.{rowsOf}
 use Rattle.cards.proofs.place.Statement.{statement}
 use Rattle.cards.proofs.place.Tie as tie
-use Rattle.cards.proofs.place.Reads as reads
-use Rattle.cards.proofs.place.Lts as lts
-use Rattle.cards.proofs.place_refusal.Reads as place-refusal-reads
-use Rattle.control.proofs.Control.add.Reads as add-reads
-use Rattle.control.proofs.codec.write.Reads as write-reads
-use Rattle.control_form.proofs.read.Reads as read-reads
 
 read-requires : tie.Need-read-requires
 read-requires c κs = search needs
@@ -30,29 +19,59 @@ same-length : tie.Need-same-length
 same-length c = search needs
 
 returns : tie.Need-returns
-returns c = by-form (place (byte (c .before .before .before .before .before .args .mask))) refl (c .before .before .before .before .before .args .image .now) (c .before .before .read .result .refusal) (c .before .before .read .ensures .refusal-is) (c .if1 .taken)
+returns c =
+    let r = c .before .before in
+    let a = r .before .before .before .args in
+    by-form (place (byte (a .mask))) refl (a .image .now) (r .read .result .refusal) (r .read .ensures .refusal-is) (c .if1 .taken)
+
+from-mask-requires : tie.Need-from-mask-requires
+from-mask-requires c κs = search needs
+
+-- the places that a later one has behind it, and what was read
+abbrev read-at : tie.After-place-refusal → tie.After-read
+read-at r = r .before .before .before .before .before
+
+abbrev start-at : tie.After-place-refusal → tie.Start
+start-at r = read-at r .before .before .before
+
+given-at : (r : tie.After-place-refusal) → Given (read-at r .read .result .control) (start-at r .args .image .now)
+given-at r = given (read-at r .read .ensures) (r .before .before .before .if1 .left)
+
+rows-at : (r : tie.After-place-refusal) → r .place-refusal .result ≡ rowsOf (place (byte (start-at r .args .mask))) (meaning (read-at r .read .result .control))
+rows-at r = r .place-refusal .ensures ∙ ap (λ (p : Placement). rowsOf (place (p .mask)) (meaning (read-at r .read .result .control))) (r .before .from-mask .ensures)
 
 place-refusal-requires : tie.Need-place-refusal-requires
-place-refusal-requires c κs = c .before .before .before .read .ensures .good (c .before .if1 .left) .counted
+place-refusal-requires c κs =
+    let k = c .before in
+    given (k .before .before .before .read .ensures) (k .before .if1 .left) .is .counted
 
 same-length-2 : tie.Need-same-length-2
 same-length-2 c = search needs
 
 returns-2 : tie.Need-returns-2
-returns-2 c = by-rules (place (byte (c .before .before .before .before .before .before .before .before .args .mask))) refl (c .before .before .before .before .before .before .before .before .args .image .now) (sym (c .before .before .before .before .before .read .ensures .refusal-is) ∙ c .before .before .before .if1 .left) (c .before .place-refusal .result) (c .before .place-refusal .ensures ∙ ap (rowsOf (place (byte (c .before .before .before .before .before .before .before .before .args .mask)))) (c .before .before .before .before .before .read .ensures .good (c .before .before .before .if1 .left) .means) ∙ place-rows (controlIn (c .before .before .before .before .before .before .before .before .args .image .now)) (look cabinet (stateIn (c .before .before .before .before .before .before .before .before .args .image .now))) (byte (c .before .before .before .before .before .before .before .before .args .mask))) (c .if2 .taken)
+returns-2 c = let r = c .before in place-refused (given-at r) (byte (start-at r .args .mask)) _ (rows-at r) (c .if2 .taken)
 
 add-requires : tie.Need-add-requires
-add-requires c κs = let k = c .before .before .before .before .before .before .read .ensures .good (c .before .before .before .before .if1 .left) in (k .counted, place-few (c .before .before .before .before .before .before .read .result .control) (k .counted) (byte (c .before .before .before .before .before .before .before .before .before .args .mask)) (sym (c .before .if2 .left) ∙ c .before .before .place-refusal .ensures))
+add-requires c κs =
+    let e = c .before in
+    let r = e .before in (
+      given-at r .is .counted,
+      (place-room (given-at r) (byte (start-at r .args .mask)) _ (rows-at r) (e .if2 .left), ap (λ (p : Placement). p .byRails) (r .before .from-mask .ensures)),
+    )
 
 write-requires : tie.Need-write-requires
-write-requires c κs = (omega (arith, form-long (c .before .before .before .before .before .before .before .before .before .before .args .image .now) (sym (c .before .before .before .before .before .before .before .read .ensures .refusal-is) ∙ c .before .before .before .before .before .if1 .left)), c .add .ensures .counted)
+write-requires c κs = (long (given-at (c .before .before .before)), c .add .ensures .counted)
 
 same-length-3 : tie.Need-same-length-3
 same-length-3 c = search needs
 
 returns-3 : tie.Need-returns-3
-returns-3 c = by-control (place (byte (c .before .before .before .before .before .before .before .before .before .before .before .before .before .args .mask))) refl (c .before .before .before .before .before .before .before .before .before .before .before .before .before .args .image .now) (sym (c .before .before .before .before .before .before .before .before .before .before .read .ensures .refusal-is) ∙ c .before .before .before .before .before .before .before .before .if1 .left) Ok (added (controlIn (c .before .before .before .before .before .before .before .before .before .before .before .before .before .args .image .now)) (fromMask (byte (c .before .before .before .before .before .before .before .before .before .before .before .before .before .args .mask))) tt) _ (sym (c .before .before .before .before .before .if2 .left) ∙ (c .before .before .before .before .before .before .place-refusal .ensures ∙ ap (rowsOf (place (byte (c .before .before .before .before .before .before .before .before .before .before .before .before .before .args .mask)))) (c .before .before .before .before .before .before .before .before .before .before .read .ensures .good (c .before .before .before .before .before .before .before .before .if1 .left) .means) ∙ place-rows (controlIn (c .before .before .before .before .before .before .before .before .before .before .before .before .before .args .image .now)) (look cabinet (stateIn (c .before .before .before .before .before .before .before .before .before .before .before .before .before .args .image .now))) (byte (c .before .before .before .before .before .before .before .before .before .before .before .before .before .args .mask)))) (place-plan (c .before .before .before .before .before .before .before .before .before .before .before .before .before .args .image .now) (byte (c .before .before .before .before .before .before .before .before .before .before .before .before .before .args .mask)))
-    (c .before .before .write .ensures ∙ ap (putControl (c .before .before .before .before .before .before .before .before .before .before .before .before .before .args .image .now)) (c .before .before .before .add .ensures .means ∙ ap (λ (k : Part). added k (fromMask (byte (c .before .before .before .before .before .before .before .before .before .before .before .before .before .args .mask))) tt) (c .before .before .before .before .before .before .before .before .before .before .read .ensures .good (c .before .before .before .before .before .before .before .before .if1 .left) .means)))
+returns-3 c =
+    let w = c .before .before in
+    let a = w .before in
+    let e = a .before .before in
+    let r = e .before in
+    place-done (given-at r) (byte (start-at r .args .mask)) _ _ _ _ (r .before .from-mask .ensures) (rows-at r) (e .if2 .left) (a .add .ensures) (w .write .ensures)
 
 pub place-spec : {M : Type 1} → statement M
 place-spec =
@@ -61,6 +80,7 @@ place-spec =
     read-requires
     same-length
     returns
+    from-mask-requires
     place-refusal-requires
     same-length-2
     returns-2

@@ -1,4 +1,4 @@
--- The proof of `withdraw_refusal`. Assumes nothing.
+-- Refused by a row of a working card; else each return is what the rows say of the two tests behind these. Assumes nothing.
 use mathlib.Core.Path.{refl}
 use borrow.Author.Tests.{eq-eqb, ne-eqb}
 use Rattle.control.specs.Meaning.{meaning}
@@ -36,7 +36,7 @@ returns-3 c =
     let r = i .before .before in
     let a = r .before .args in
     rw (b .before .if2 .left, ne-eqb _ _ (c .if3 .taken)) at
-    (withdraw-by (meaning (a .k)) (a .card .0) (r .card-refusal .result) (r .card-refusal .ensures) (i .before .if1 .left) (i .in-active .result) (b .begun-at .result) (i .in-active .ensures) (b .begun-at .ensures))
+    (withdraw-by (meaning (a .k)) (a .card .0) (r .card-refusal .result) (r .card-refusal .ensures) (i .before .if1 .left) _ _ (i .in-active .ensures) (b .begun-at .ensures))
 
 returns-4 : tie.Need-returns-4
 returns-4 c =
@@ -45,7 +45,7 @@ returns-4 c =
     let r = i .before .before in
     let a = r .before .args in
     rw (b .before .if2 .left, eq-eqb _ _ (c .if3 .left)) at
-    (withdraw-by (meaning (a .k)) (a .card .0) (r .card-refusal .result) (r .card-refusal .ensures) (i .before .if1 .left) (i .in-active .result) (b .begun-at .result) (i .in-active .ensures) (b .begun-at .ensures))
+    (withdraw-by (meaning (a .k)) (a .card .0) (r .card-refusal .result) (r .card-refusal .ensures) (i .before .if1 .left) _ _ (i .in-active .ensures) (b .begun-at .ensures))
 
 pub withdraw-refusal-spec : {M : Type 1} → statement M
 withdraw-refusal-spec =

@@ -1,3 +1,4 @@
+-- The other rail, by the side of the card's number. Assumes nothing.
 use borrow.Author.Tests.{lt-ltb, le-ltb}
 use Rattle.image.specs.Layout.{railSize}
 use Rattle.mask.specs.Placements.{otherRail}

@@ -1,4 +1,4 @@
--- The proof of `Control::add`. Assumes nothing.
+-- One mask more, at the count, with its mark. Assumes nothing.
 use Rattle.control.proofs.Changes.{add-is}
 use borrow.Author.Needs.{needs}
 use Rattle.control.proofs.Control.add.Statement.{statement}
@@ -17,7 +17,7 @@ add-self : tie.Need-add-self
 add-self c = search needs
 
 returns : tie.Need-returns
-returns c = add-is (c .args .t1) (c .pre .0) (c .args .mask) (search needs) (search needs)
+returns c = add-is (c .args .t1) (c .pre .0) (c .args .placement) (c .pre .1 .1) (search needs) (search needs)
 
 pub add-spec : {M : Type 1} → statement M
 add-spec = tie.close (tie.spec cast-i element-write-self shr-self add-self returns)
