@@ -1,4 +1,4 @@
--- What the two halves of a fail are given, and the image of a store that stops. Assumes nothing.
+-- What going on after a failure is given, and the image of a store that stops. Assumes nothing.
 use Prim.Native.Nat.{ℕ}
 use mathlib.Core.Bool.{false}
 use mathlib.Core.Path.{_≡_}

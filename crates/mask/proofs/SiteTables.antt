@@ -82,7 +82,8 @@ module _ (n : ℕ) (rails : Bool) (left first across : ℕ) (small : n < 256) (u
   entry-across h d s = entry (s ∙ sym (rw (ne-eqb across 0 d) (first-is across h (some-members across h d))))
 
   -- the next member
-  pub entry-next : across ≡ 0 → (rest : ℕ) → members (byte rest) ≡ drop 1 (members (byte left)) → second ≡ getD (members (byte rest)) 0 (getD (members (byte n)) 0 0) → AreMembers r (isSite placement i)
+  pub entry-next : across ≡ 0 → (rest : ℕ) → members (byte rest) ≡ drop 1 (members (byte left)) → second ≡ getD (members (byte rest)) 0 (getD (members (byte n)) 0 0)
+      → AreMembers r (isSite placement i)
   entry-next z rest t s = entry (s ∙ ap (λ (l : List ℕ). getD l 0 (getD (members (byte n)) 0 0)) t ∙ next-left (byte n) i left from some ∙ sym (rw (eq-eqb across 0 z)))
 
 -- ---- a list of masks, entry by entry

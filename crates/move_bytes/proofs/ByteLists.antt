@@ -62,7 +62,8 @@ module _ (g : Image) (a : Listed) (ms : List Move) (d : ListDone g blankList a m
     moves-long = length-map (movesOn g) moveFor ∙ sym counted
 
     first-are : firstBytes ms n ≡ concatMap bytesOf (map moveFor (movesOn g))
-    first-are = ap (concatMap bytesOf) (ap (take n) moves-are ∙ ap (λ (k : ℕ). take k (map moveFor (movesOn g) ++ drop n blankList)) (sym moves-long) ∙ take-append-seam (map moveFor (movesOn g)) (drop n blankList))
+    first-are = ap (concatMap bytesOf) (ap (take n) moves-are ∙ ap (λ (k : ℕ). take k (map moveFor (movesOn g) ++ drop n blankList)) (sym moves-long)
+        ∙ take-append-seam (map moveFor (movesOn g)) (drop n blankList))
 
     long-enough : n ≤ length ms
     long-enough =

@@ -28,7 +28,8 @@ length-first l zero h = refl
 length-first l (suc n) h =
     let e : length (firstBytes l n) ≡ n * entrySize = length-first l n (omega arith) in
     let s : length (firstBytes l (suc n)) ≡ length (firstBytes l n) + 2 =
-    ap (λ (t : List Move). length (concatMap bytesOf t)) (take-suc l n blankMove h) ∙ ap length (concat-more bytesOf (take n l) (getD l n blankMove)) ∙ length-append (firstBytes l n) (bytesOf (getD l n blankMove)) in
+    ap (λ (t : List Move). length (concatMap bytesOf t)) (take-suc l n blankMove h) ∙ ap length (concat-more bytesOf (take n l) (getD l n blankMove))
+    ∙ length-append (firstBytes l n) (bytesOf (getD l n blankMove)) in
     omega (arith, e, s)
 
 pub put-length : (l : List ℕ) (moves : List Move) (i : ℕ) → i ≤ length moves → i * entrySize ≤ length l → length (splice l 0 (firstBytes moves i)) ≡ length l

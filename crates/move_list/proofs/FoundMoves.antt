@@ -65,7 +65,8 @@ module _ (g : Image) (b from : ℕ) (hb : b < blockCount) (m : AreMembers from (
   unfolding movesOf anyLockedIn anyLocked
   locked-of-block = sym (any-map (entryAt b) (λ (e : Entry). anyLocked cabinet (viewOf g (e .card) (e .block))) (keepIf (origin g b) (numbersBelow cardCount))
       ∙ any-keep-below (origin g b) (λ c. anyLocked cabinet (viewOf g c b)) cardCount
-      ∙ ap (anyBelow cardCount) (fun-ext (λ c. and-when (origin g b c) (anyLocked cabinet (viewOf g c b)) (anyLockedIn (blockIn g c b)) (seen c) ∙ ap (λ (t : Bool). t && anyLockedIn (blockIn g c b)) (sym (m c)))))
+      ∙ ap (anyBelow cardCount)
+      (fun-ext (λ c. and-when (origin g b c) (anyLocked cabinet (viewOf g c b)) (anyLockedIn (blockIn g c b)) (seen c) ∙ ap (λ (t : Bool). t && anyLockedIn (blockIn g c b)) (sym (m c)))))
     where
       seen : (c : ℕ) → origin g b c ≡ true → anyLocked cabinet (viewOf g c b) ≡ anyLockedIn (blockIn g c b)
       seen c e = ap (anyLocked cabinet) (look-on g c b (and-l _ _ (sym (held-look g c b hb) ∙ origin-holds cabinet (controlIn g) (viewOf g) b c e)) hb)
@@ -111,7 +112,8 @@ all-moves g origins n e below = concat-below blockCount (λ b h. sym (moves-are-
   where
     concat-below : (m : ℕ) → ((b : ℕ) → b < m → movesAt origins b ≡ movesOfBlock g b) → concatMap (movesAt origins) (numbersBelow m) ≡ concatMap (movesOfBlock g) (numbersBelow m)
     concat-below zero h = refl
-    concat-below (suc m) h = concat-more (movesAt origins) (numbersBelow m) m ∙ ap₂ _++_ (concat-below m (λ b l. h b (omega arith))) (h m (omega arith)) ∙ sym (concat-more (movesOfBlock g) (numbersBelow m) m)
+    concat-below (suc m) h = concat-more (movesAt origins) (numbersBelow m) m ∙ ap₂ _++_ (concat-below m (λ b l. h b (omega arith))) (h m (omega arith))
+        ∙ sym (concat-more (movesOfBlock g) (numbersBelow m) m)
 
 all-counted : (g : Image) (n count : ℕ) → n ≡ blockCount → count ≡ length (movesBelow g n) → count ≡ length (movesOn g)
 unfolding movesBelow moveList

@@ -1,4 +1,6 @@
 pub mod Looks
+pub mod MoveRows
+pub mod MoveWrites
 pub mod Moves
 pub mod Settles
 pub mod SettledMasks

@@ -1,5 +1,7 @@
 pub mod OneRecordList
 pub mod Protection
+mod MoveRuns
 pub mod MoveList
+pub mod NoMoves
 mod MoveRows
 mod LocalArray

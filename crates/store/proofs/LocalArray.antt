@@ -23,10 +23,12 @@ module _ {M : Type 1} (𝓤 : URA M) (H : Heap 𝓤) (A : Atoms 𝓤) (W : Given
   pub array-lent : Single (R .mir) → (vs : List Val) → ent 𝓤 (sep 𝓤 (sem 𝓤 H A (cellAt fullShare (Array R n .mir) vs b o)) (sem 𝓤 H A (Array R n .own xs vs))) (sem 𝓤 H A (row R fullShare xs b o))
   unfolding partOf
   array-lent one vs =
-      qed W (‵ (cellAt fullShare (Array R n .mir) vs b o) ∷ ‵ (Array R n .own xs vs) ∷ []) ∵ fjoin ! $ fpack ! (List Val) (λ us. fsep (cellAt fullShare (Array R n .mir) us b o) (Array R n .own xs us)) vs $
+      qed W (‵ (cellAt fullShare (Array R n .mir) vs b o) ∷ ‵ (Array R n .own xs vs) ∷ []) ∵ fjoin ! $ fpack ! (List Val)
+      (λ us. fsep (cellAt fullShare (Array R n .mir) us b o) (Array R n .own xs us)) vs $
       use1 W (‵ (arr-parts (shares R) n .part fullShare xs b o)) (array-apart 𝓤 H A W R fullShare one n xs b o) $ fsplit ! $ drop ! $ done !
 
   -- the row of n elements is the cell of an array with what it owns
-  pub array-back : length xs ≡ n → ent 𝓤 (sem 𝓤 H A (row R fullShare xs b o)) (ex 𝓤 (λ (vs : List Val). sep 𝓤 (sem 𝓤 H A (cellAt fullShare (Array R n .mir) vs b o)) (sem 𝓤 H A (Array R n .own xs vs))))
+  pub array-back : length xs ≡ n
+      → ent 𝓤 (sem 𝓤 H A (row R fullShare xs b o)) (ex 𝓤 (λ (vs : List Val). sep 𝓤 (sem 𝓤 H A (cellAt fullShare (Array R n .mir) vs b o)) (sem 𝓤 H A (Array R n .own xs vs))))
   unfolding partOf
   array-back l = qed W (‵ (row R fullShare xs b o) ∷ []) ∵ feqI ! ℕ (length xs) n l $ fjoin ! $ by ! (array-whole 𝓤 H A W R fullShare n xs b o)

@@ -1,4 +1,4 @@
--- The proof of `list`. Assumes nothing.
+-- By the answer: the entries are written where they fit, and else no byte. Assumes nothing.
 use borrow.Author.Needs.{needs}
 use Prim.Native.Nat.{ℕ}
 use mathlib.Core.List.{List}

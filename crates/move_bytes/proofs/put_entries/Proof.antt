@@ -1,4 +1,4 @@
--- The proof of `put_entries`. Assumes nothing.
+-- The bytes of the entries before i stand at the front, one entry more at each turn. Assumes nothing.
 use Prim.Native.Nat.{_*_, _-_, _≤_, ℕ}
 use borrow.Author.Needs.{needs}
 use lib.ListN.{getD, length}

@@ -1,4 +1,4 @@
--- The proof of `put_entry`. Assumes nothing.
+-- Two stores are the two bytes of the entry. Assumes nothing.
 use borrow.Author.Needs.{needs}
 use lib.ListN.{length-set}
 use native.Mathlib.Omega.{arith}

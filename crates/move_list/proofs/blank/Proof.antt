@@ -1,4 +1,4 @@
--- The proof of `blank`. Assumes nothing.
+-- The array is the blank list, entry by entry. Assumes nothing.
 use mathlib.Core.Path.{refl}
 use Rattle.move_list.specs.Promise.{blankList}
 use Rattle.move_list.proofs.blank.Statement.{statement}

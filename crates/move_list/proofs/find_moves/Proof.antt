@@ -1,4 +1,4 @@
--- The proof of `find_moves`. Assumes nothing.
+-- Refused by the form or as stopped; else the plan that was found is the rules'. Assumes nothing.
 use borrow.Author.Needs.{needs}
 use mathlib.Core.Path.{subst, sym}
 use Rattle.promise.proofs.Finish.{given}

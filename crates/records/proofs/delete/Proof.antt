@@ -1,4 +1,4 @@
--- The proof of `delete`. Assumes nothing.
+-- Each return is one of the laws of a call on a record. Assumes nothing.
 use mathlib.Core.Path.{_∙_, ap}
 use borrow.Author.Needs.{needs}
 use borrow.Author.Tests.{not-false, not-true}

@@ -1,4 +1,4 @@
--- The proof of `get`. Assumes nothing.
+-- Each return is one of the laws of a call on a record. Assumes nothing.
 use borrow.Author.Needs.{needs}
 use Rattle.records.proofs.Calls.{get-done, get-refused, rec-fits, whole}
 use Rattle.records.proofs.get.Statement.{statement}

@@ -1,4 +1,4 @@
--- The proof of `store`: each return is one of the laws of a call on a record. Assumes nothing.
+-- Each return is one of the laws of a call on a record. Assumes nothing.
 use mathlib.Core.Bool.{true}
 use mathlib.Core.Path.{_∙_, _≡_, sym}
 use Prim.Native.Nat.{_<_}

@@ -1,4 +1,4 @@
--- The proof of `move_block`. Assumes nothing.
+-- Refused by the form or by a row; else what the spreading promises. Assumes nothing.
 use mathlib.Core.Path.{_∙_, refl, sym}
 use Rattle.method.specs.Rules.{move}
 use Rattle.promise.proofs.Finish.{by-form, by-rules, given}

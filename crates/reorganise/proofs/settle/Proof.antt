@@ -1,4 +1,4 @@
--- The proof of `settle`. Assumes nothing.
+-- Refused by the form or by a row; else only the newest placement stays, and only the control part changes. Assumes nothing.
 use Prim.Native.Nat.{_-_}
 use mathlib.Core.Path.{_∙_, ap, refl, sym}
 use native.Mathlib.Omega.{arith}

@@ -1,4 +1,4 @@
--- The proof of `fresh_block`. Assumes nothing.
+-- The array is the fresh block, byte by byte. Assumes nothing.
 use mathlib.Core.Path.{refl}
 use borrow.Author.Needs.{needs}
 use Rattle.lists.specs.Tabulate.{tabulate}

@@ -25,7 +25,8 @@ same-length : tie.Need-same-length
 same-length c = search needs
 
 returns : tie.Need-returns
-returns c = obeyed-asked (sym (c .before .before .before .before .before .before .before .before .read .ensures) ∙ c .before .before .before .before .before .before .reading .given .1) (c .before .before .before .call-for .ensures) (c .before .before .perform .ensures)
+returns c = obeyed-asked (sym (c .before .before .before .before .before .before .before .before .read .ensures) ∙ c .before .before .before .before .before .before .reading .given .1)
+    (c .before .before .before .call-for .ensures) (c .before .before .perform .ensures)
 
 returns-2 : tie.Need-returns-2
 returns-2 c = obeyed-malformed (sym (c .before .before .read .ensures) ∙ c .enum-told .given .1)

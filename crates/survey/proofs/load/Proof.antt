@@ -1,4 +1,4 @@
--- The proof of `load`. Assumes nothing.
+-- Refused by the form or by a row; else nothing changes, and the answer is the load of the card's table. Assumes nothing.
 use mathlib.Core.Path.{_∙_, _≡_, ap, refl, sym}
 use Rattle.method.specs.Rules.{load}
 use Rattle.control.specs.ControlBytes.{Part}
@@ -51,7 +51,8 @@ returns-3 c =
     let r = e .before .before in
     let a = r .before .before .args in
     let g = a .image .now in
-    let ok : 0 ≡ cardRows (controlIn g) (a .card .0) = sym (c .before .if2 .left) ∙ m .card-refusal .ensures ∙ ap (λ (p : Part). cardRows p (a .card .0)) (r .read .ensures .good (e .if1 .left) .means) in
+    let ok : 0 ≡ cardRows (controlIn g) (a .card .0) = sym (c .before .if2 .left) ∙ m .card-refusal .ensures
+    ∙ ap (λ (p : Part). cardRows p (a .card .0)) (r .read .ensures .good (e .if1 .left) .means) in
     by-look (load (a .card .0)) refl g (given (r .read .ensures) (e .if1 .left) .formed) (Loaded (c .load-table .result)) (ok ∙ load-rows g (a .card .0))
     (load-plan g (a .card .0) (card-accepted (controlIn g) (a .card .0) ok .2) (c .load-table .result) (c .load-table .ensures))
 

@@ -1,4 +1,4 @@
--- The proof of `state`. Assumes nothing.
+-- Refused by the form or as stopped; else nothing changes, and the word follows from whether every placement withstands a failure. Assumes nothing.
 use mathlib.Core.Bool.{false, true}
 use mathlib.Core.Path.{_∙_, refl, sym}
 use native.Mathlib.Omega.{arith}

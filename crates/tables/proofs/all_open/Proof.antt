@@ -1,4 +1,4 @@
--- The proof of `all_open`: with every, the set of what was begun is the set of what is open. Assumes nothing.
+-- With every, the set of what was begun is the set of what is open. Assumes nothing.
 use borrow.Author.Needs.{needs}
 use Rattle.control.specs.Meaning.{meaning}
 use Rattle.tables.proofs.all_open.Statement.{statement}

@@ -1,4 +1,4 @@
--- The proof of `begun_at`: the bytes of the homes mean what the control part says. Assumes nothing.
+-- The bytes of the homes mean what the control part says. Assumes nothing.
 use borrow.Author.Needs.{needs}
 use Rattle.control.specs.Meaning.{meaning}
 use Rattle.tables.proofs.begun_at.Statement.{statement}

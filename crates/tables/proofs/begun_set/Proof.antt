@@ -1,5 +1,4 @@
--- The proof of `begun_set`: the set of the transactions up to i has been collected, and each new bit is above it.
--- Assumes nothing.
+-- The set of the transactions up to i has been collected, and each new bit is above it. Assumes nothing.
 use Prim.Native.Nat.{_+_, _-_, _≤_, ℕ}
 use borrow.Author.Needs.{needs}
 use mathlib.Core.Path.{_∙_, _≡_, ap}

@@ -1,4 +1,4 @@
--- The proof of `bit_if`: the set of one transaction is its bit. Assumes nothing.
+-- The set of one transaction is its bit. Assumes nothing.
 use mathlib.Core.Path.{_∙_}
 use borrow.Author.Needs.{needs}
 use Rattle.tables.proofs.Sets.{set-one}

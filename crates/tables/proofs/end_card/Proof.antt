@@ -1,4 +1,4 @@
--- The proof of `end_card`: the lent part is the card's table. Assumes nothing.
+-- The lent part is the card's table. Assumes nothing.
 use Prim.Native.Nat.{_+_, _-_, ℕ}
 use mathlib.Core.Path.{_∙_, _≡_, ap}
 use native.Mathlib.Omega.{arith}

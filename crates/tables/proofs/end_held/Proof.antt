@@ -1,5 +1,4 @@
--- The proof of `end_held`: the cards below c have their tables ended; with an empty set nothing is picked. Assumes
--- nothing.
+-- The cards below c have their tables ended; with an empty set nothing is picked. Assumes nothing.
 use Prim.Native.Nat.{_-_, _≤_, ℕ}
 use borrow.Author.Needs.{needs}
 use lib.ListN.{length}

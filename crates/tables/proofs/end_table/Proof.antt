@@ -1,4 +1,4 @@
--- The proof of `end_table`: the blocks below b have ended, each as the part that was lent. Assumes nothing.
+-- The blocks below b have ended, each as the part that was lent. Assumes nothing.
 use Prim.Native.Nat.{_*_, _+_, _-_, _≤_, ℕ}
 use borrow.Author.Needs.{needs}
 use lib.ListN.{length}

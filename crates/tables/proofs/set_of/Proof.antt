@@ -1,4 +1,4 @@
--- The proof of `set_of`: the shift stays below 16 bits. Assumes nothing.
+-- The shift stays below 16 bits. Assumes nothing.
 use borrow.Author.Needs.{needs}
 use Rattle.tables.proofs.Sets.{shift-one}
 use Rattle.tables.proofs.set_of.Statement.{statement}

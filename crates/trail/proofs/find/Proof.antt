@@ -1,4 +1,4 @@
--- The proof of `find`. After i turns the holders among the sites of the first i placements are found. Assumes nothing.
+-- After i turns the holders among the sites of the first i placements are found. Assumes nothing.
 use mathlib.Core.List.{_++_}
 use mathlib.Core.Path.{_∙_, _≡_, ap, refl, subst, sym}
 use Prim.Native.Nat.{_-_, _≤_}

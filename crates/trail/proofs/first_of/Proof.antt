@@ -1,4 +1,4 @@
--- The proof of `first_of`: with no holder the list is empty, else its first stays the first. Assumes nothing.
+-- With no holder the list is empty, else its first stays the first. Assumes nothing.
 use Prim.Native.Nat.{_<_}
 use borrow.Author.Needs.{needs}
 use Rattle.trail.proofs.Listed.{first-before, first-now}

@@ -1,4 +1,4 @@
--- The proof of `held_by`. Assumes nothing.
+-- The cards before c that hold the block have been found. Assumes nothing.
 use Prim.Native.Nat.{_-_, _≤_}
 use borrow.Author.Needs.{needs}
 use lib.Dec.{ltb}

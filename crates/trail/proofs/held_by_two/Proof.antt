@@ -1,4 +1,4 @@
--- The proof of `held_by_two`. Assumes nothing.
+-- The cards before c that hold each of the two blocks have been found. Assumes nothing.
 use Prim.Native.Nat.{_+_, _-_, _≤_, ℕ}
 use borrow.Author.Needs.{needs}
 use lib.Dec.{ltb}

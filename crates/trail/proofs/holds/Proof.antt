@@ -1,4 +1,4 @@
--- The proof of `holds`. Assumes nothing.
+-- A card holds the block where it works and its block is held. Assumes nothing.
 use mathlib.Core.Path.{_∙_, sym}
 use borrow.Author.Needs.{needs}
 use Rattle.trail.specs.Trail.{holdsAt}

@@ -1,4 +1,4 @@
--- The proof of `is_held`. Assumes nothing.
+-- The first byte of the block, read in the image, shows whether it is held. Assumes nothing.
 use native.Mathlib.Omega.{arith}
 use Rattle.trail.proofs.Holding.{held-byte}
 use borrow.Author.Needs.{needs}

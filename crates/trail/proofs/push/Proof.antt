@@ -1,4 +1,4 @@
--- The proof of `push`: the card stands at the end of the list where it holds the block. Assumes nothing.
+-- The card stands at the end of the list where it holds the block. Assumes nothing.
 use mathlib.Core.Path.{_∙_, sym}
 use borrow.Author.Needs.{needs}
 use Rattle.mask.specs.Masks.{byte}

@@ -1,4 +1,4 @@
--- The proof of `push_sites`: two cards, one after the other. Assumes nothing.
+-- Two cards, one after the other. Assumes nothing.
 use Rattle.mask.specs.Masks.{byte}
 use Rattle.mask.specs.Placements.{meant, sitesOf}
 use Rattle.mask.proofs.SiteLaws.{first-fits, second-fits}

@@ -1,4 +1,4 @@
--- The proof of `with_if`. Assumes nothing.
+-- The card is added where the test says so. Assumes nothing.
 use borrow.Author.Needs.{needs}
 use Rattle.trail.proofs.with_if.Statement.{statement}
 use Rattle.trail.proofs.with_if.Tie as tie

@@ -1,4 +1,4 @@
--- The proof of `begin`. Assumes nothing.
+-- Refused by the form or by a row; else the transaction opens, and only the control part changes. Assumes nothing.
 use borrow.Author.Needs.{needs}
 use mathlib.Core.Path.{_∙_, ap, refl, sym}
 use native.Mathlib.Omega.{arith}

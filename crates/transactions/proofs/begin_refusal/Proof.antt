@@ -1,4 +1,4 @@
--- The proof of `begin_refusal`. Assumes nothing.
+-- Each return is the row that its test and the tests before it leave. Assumes nothing.
 use Prim.Native.Nat.{ℕ}
 use mathlib.Core.Bool.{Bool}
 use mathlib.Core.Path.{_∙_, _≡_, ap, sym}

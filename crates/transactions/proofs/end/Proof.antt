@@ -1,4 +1,4 @@
--- The proof of `end`. Assumes nothing.
+-- Refused by the form or by a row; else the transaction has ended in the blocks and is closed. Assumes nothing.
 use borrow.Author.Needs.{needs}
 use mathlib.Core.Path.{_∙_, sym}
 use Rattle.control.specs.Meaning.{meaning}

@@ -1,4 +1,4 @@
--- The proof of `end_open`. Assumes nothing.
+-- What the tables' end leaves, with the control part written over it. Assumes nothing.
 use Prim.Native.Nat.{ℕ}
 use borrow.Author.Needs.{needs}
 use lib.Dec.{eqb}

@@ -1,4 +1,4 @@
--- The proof of `Plan::answer`. Assumes nothing.
+-- Each return is the rules' answer by its test and the tests before it. Assumes nothing.
 use borrow.Author.Needs.{needs}
 use borrow.Author.Tests.{eq-eqb, le-ltb, lt-ltb, ne-eqb}
 use Rattle.move_list.specs.Plans.{answerBy}

@@ -1,4 +1,4 @@
--- The proof of `Plan::nth`. Assumes nothing.
+-- The moves of the blocks before b are passed over: what is left of n counts from block b. Assumes nothing.
 use Prim.Native.Nat.{_+_, _-_, _≤_, ℕ}
 use borrow.Author.Needs.{needs}
 use lib.ListN.{getD}

@@ -1,4 +1,4 @@
--- The proof of `Plan::stored`. Assumes nothing.
+-- As many entries are written as the answer says: its number where it is one of moves, else none. Assumes nothing.
 use borrow.Author.Needs.{needs}
 use mathlib.Core.Path.{_∙_, ap, sym}
 use Rattle.move_list.specs.Plans.{filledOf}

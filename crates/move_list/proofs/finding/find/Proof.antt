@@ -1,4 +1,5 @@
--- The proof of `finding::find`. Assumes nothing.
+-- The moves of the blocks before b have been found and counted, and none of their copies has a lock; the place in the table of sites goes round with
+-- b. Assumes nothing.
 use Prim.Native.Nat.{_%_, _*_, _+_, _-_, _<_, _≤_}
 use borrow.Author.Needs.{needs}
 use lib.ListN.{getD, length, length-set}

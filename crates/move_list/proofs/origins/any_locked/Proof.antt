@@ -1,4 +1,4 @@
--- The proof of `origins::any_locked`. Assumes nothing.
+-- No member before c has a locked slot: a search that stops at the first that has one. Assumes nothing.
 use Prim.Native.Nat.{_-_, _≤_, ℕ}
 use borrow.Author.Needs.{needs}
 use mathlib.Core.Bool.{Bool, _&&_, false}

@@ -1,4 +1,4 @@
--- The proof of `origins::locked_at`: the lent part is the card's block. Assumes nothing.
+-- The lent part is the card's block. Assumes nothing.
 use Prim.Native.Nat.{_+_, _-_}
 use mathlib.Core.Path.{_∙_, ap, sym}
 use native.Mathlib.Omega.{arith}

@@ -1,4 +1,4 @@
--- The proof of `origins::lowest`. Assumes nothing.
+-- The first bit of the mask is its lowest card. Assumes nothing.
 use lib.Count.{leading-le}
 use native.Mathlib.Omega.{arith}
 use Rattle.move_list.proofs.OriginMasks.{lowest-card, lowest-is, lowest-none}

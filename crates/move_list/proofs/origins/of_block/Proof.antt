@@ -1,4 +1,4 @@
--- The proof of `origins::of_block`. Assumes nothing.
+-- The origins by the cards that hold the block are those by the rules' holders. Assumes nothing.
 use Prim.Native.Nat.{ℕ}
 use borrow.Author.Needs.{needs}
 use mathlib.Core.Bool.{Bool}

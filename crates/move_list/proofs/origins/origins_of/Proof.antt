@@ -1,4 +1,4 @@
--- The proof of `origins::origins_of`. Assumes nothing.
+-- A settled block sends nothing; else its strays send, and where there are none the lowest holder. Assumes nothing.
 use borrow.Author.Needs.{needs}
 use mathlib.Core.Path.{_∙_, sym}
 use native.Mathlib.Omega.{arith}

@@ -1,4 +1,4 @@
--- The proof of `access::early_rows`. Assumes nothing.
+-- A record out of range is 3; else the rows of an open transaction. Assumes nothing.
 use mathlib.Core.Path.{_∙_}
 use borrow.Author.Needs.{needs}
 use Rattle.control.specs.Meaning.{meaning}

@@ -1,4 +1,4 @@
--- The proof of `access::look_up`. Assumes nothing.
+-- Refused by the form, by an early row or by row 7; else what was read is ready for the call. Assumes nothing.
 use mathlib.Core.Path.{_∙_, refl, sym}
 use Prim.Native.Nat.{_<_}
 use native.Mathlib.Omega.{arith}

@@ -1,4 +1,4 @@
--- The proof of `access::with_value`. Assumes nothing.
+-- By whether the value is in range, and whether a row below 3 applies. Assumes nothing.
 use native.Mathlib.Omega.{arith}
 use Rattle.records.proofs.Values.{in-range, over-accepted, over-high, over-low}
 use Rattle.records.proofs.access.with_value.Statement.{statement}

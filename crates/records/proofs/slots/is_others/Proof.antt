@@ -1,4 +1,4 @@
--- The proof of `slots::is_others`. Assumes nothing.
+-- A slot with no lock is nobody's; else the number is compared. Assumes nothing.
 use borrow.Author.Tests.{eq-eqb, ne-eqb}
 use Rattle.records.proofs.slots.is_others.Statement.{statement}
 use Rattle.records.proofs.slots.is_others.Tie as tie

@@ -1,5 +1,4 @@
--- The proof of `slots::lay`: on each site a fresh block with the slot locked in it, which is the block that the rules
--- put. Assumes nothing.
+-- On each site a fresh block with the slot locked in it, which is the block that the rules put. Assumes nothing.
 use mathlib.Core.List.{List}
 use mathlib.Core.Path.{_∙_, ap}
 use Prim.Native.Nat.{ℕ}

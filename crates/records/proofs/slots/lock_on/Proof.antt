@@ -1,4 +1,4 @@
--- The proof of `slots::lock_on`. Assumes nothing.
+-- The lent part is the card's block, and its slot is locked there. Assumes nothing.
 use Prim.Native.Nat.{_+_, _-_}
 use native.Mathlib.Omega.{arith}
 use Rattle.image.specs.Layout.{blockSize}

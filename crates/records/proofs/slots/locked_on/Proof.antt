@@ -1,4 +1,4 @@
--- The proof of `slots::locked_on`. Assumes nothing.
+-- The test of the record's slot on the card. Assumes nothing.
 use mathlib.Core.Path.{_∙_, ap}
 use borrow.Author.Needs.{needs}
 use Rattle.slot.specs.declared.Slot.{Slot}

@@ -1,4 +1,4 @@
--- The proof of `slots::read_by`. Assumes nothing.
+-- The pending state for the transaction that locks the slot, else the committed one. Assumes nothing.
 use borrow.Author.Tests.{eq-eqb, ne-eqb}
 use Rattle.records.proofs.slots.read_by.Statement.{statement}
 use Rattle.records.proofs.slots.read_by.Tie as tie

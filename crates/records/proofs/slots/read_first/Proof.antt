@@ -1,4 +1,4 @@
--- The proof of `slots::read_first`. Assumes nothing.
+-- With no holder the record is absent; else the first holder's slot is read. Assumes nothing.
 use mathlib.Core.Path.{_∙_, ap}
 use Prim.Native.Nat.{_<_}
 use native.Mathlib.Omega.{arith}

@@ -1,4 +1,4 @@
--- The proof of `slots::reply`. Assumes nothing.
+-- A value where the state is present, else absent. Assumes nothing.
 
 use Rattle.records.proofs.slots.reply.Statement.{statement}
 use Rattle.records.proofs.slots.reply.Tie as tie

@@ -1,4 +1,4 @@
--- The proof of `slots::slot_on`. Assumes nothing.
+-- The lent part is the card's block, and the record's slot is read there. Assumes nothing.
 use Prim.Native.Nat.{_+_, _-_}
 use native.Mathlib.Omega.{arith}
 use borrow.Rule.Slice.PartMut.{midOf}

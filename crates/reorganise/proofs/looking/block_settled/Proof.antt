@@ -1,4 +1,4 @@
--- The proof of `looking::block_settled`. Assumes nothing.
+-- A block that no card holds is settled; a held one where its holders are the two sites. Assumes nothing.
 use native.Mathlib.Omega.{arith}
 use Rattle.reorganise.proofs.SettledMasks.{held-by-none, held-by-some}
 use Rattle.reorganise.proofs.looking.block_settled.Statement.{statement}

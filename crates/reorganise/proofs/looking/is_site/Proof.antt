@@ -1,4 +1,4 @@
--- The proof of `looking::is_site`. Assumes nothing.
+-- The card is the first site or the second. Assumes nothing.
 use Rattle.reorganise.proofs.Looks.{site-first, site-second}
 use Rattle.reorganise.proofs.looking.is_site.Statement.{statement}
 use Rattle.reorganise.proofs.looking.is_site.Tie as tie

@@ -1,4 +1,4 @@
--- The proof of `looking::newest_sites`. Assumes nothing.
+-- The sites of the newest placement, by what that placement means. Assumes nothing.
 use mathlib.Core.Path.{subst, sym}
 use Rattle.mask.specs.Placements.{AreSites, Placement, Usable}
 use borrow.Author.Needs.{needs}

@@ -1,4 +1,4 @@
--- The proof of `looking::newest_table`. Assumes nothing.
+-- The table of the newest placement's sites, by what that placement means. Assumes nothing.
 use mathlib.Core.Path.{subst, sym}
 use Rattle.mask.specs.Placements.{Placement, Usable}
 use Rattle.mask.specs.SiteTable.{SitesIn}

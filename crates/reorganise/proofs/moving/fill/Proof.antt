@@ -1,4 +1,4 @@
--- The proof of `moving::fill`. Assumes nothing.
+-- A site that has the block is left, another one gets it and counts as a copy. Assumes nothing.
 use native.Mathlib.Omega.{arith}
 use borrow.Author.Needs.{needs}
 use Rattle.reorganise.proofs.moving.fill.Statement.{statement}

@@ -1,4 +1,4 @@
--- The proof of `moving::refusal`: the tests of the lent block are those of the rules' rows 11 and 12. Assumes nothing.
+-- The tests of the lent block are those of the rules' rows 11 and 12. Assumes nothing.
 use Prim.Native.Nat.{_+_, _-_, _≤_, ℕ}
 use borrow.Author.Tests.{not-false, not-true}
 use borrow.Rule.Slice.PartMut.{midOf}
@@ -13,7 +13,7 @@ use Rattle.method.specs.Rules.{move, row}
 use Rattle.control.specs.ControlBytes.{Part}
 use Rattle.promise.specs.Given.{rowsOn}
 use Rattle.promise.specs.Rows.{cardRows}
-use Rattle.reorganise.proofs.Moves.{copy-card, copy-end, copy-rows, refused-block, refused-card}
+use Rattle.reorganise.proofs.MoveRows.{copy-card, copy-end, copy-rows, refused-block, refused-card}
 use borrow.Author.Needs.{needs}
 use Rattle.reorganise.proofs.moving.refusal.Statement.{statement}
 use Rattle.reorganise.proofs.moving.refusal.Tie as tie

@@ -1,4 +1,4 @@
--- The proof of `moving::spread`. Assumes nothing.
+-- Two sites and then the origin, each written or left, are what the rules' move leaves. Assumes nothing.
 use Prim.Native.Nat.{_+_, ℕ}
 use mathlib.Core.Bool.{cond}
 use mathlib.Core.List.{List}
@@ -6,7 +6,8 @@ use mathlib.Core.Path.{_∙_, ap, ap₂}
 use Rattle.image.specs.Layout.{Whole, blockSize, putBlock, zeros}
 use Rattle.promise.proofs.Finish.{given-whole}
 use Rattle.reorganise.proofs.Looks.{newest-usable}
-use Rattle.reorganise.proofs.Moves.{accepted, move-done}
+use Rattle.reorganise.proofs.MoveRows.{accepted}
+use Rattle.reorganise.proofs.Moves.{move-done}
 use borrow.Author.Needs.{needs}
 use Rattle.mask.proofs.SiteLaws.{first-fits, second-fits}
 use Rattle.reorganise.proofs.moving.spread.Statement.{statement}

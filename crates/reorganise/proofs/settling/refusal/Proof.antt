@@ -1,4 +1,4 @@
--- The proof of `settling::refusal`. Assumes nothing.
+-- Each return is the row that its test and the tests before it leave. Assumes nothing.
 use borrow.Author.Tests.{not-false, not-true}
 use mathlib.Core.Path.{_∙_, sym}
 use Rattle.reorganise.proofs.Settles.{settle-rows}

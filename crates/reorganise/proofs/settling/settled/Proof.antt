@@ -1,4 +1,4 @@
--- The proof of `settling::settled`. Assumes nothing.
+-- All blocks before b are settled, two more at each turn; the place in the table of sites goes round with b. Assumes nothing.
 use Prim.Native.Nat.{_%_, _+_, _-_, _<_, _≤_, ℕ}
 use borrow.Author.Needs.{needs}
 use borrow.Author.Tests.{not-false, not-true}

@@ -1,4 +1,4 @@
--- The proof of `Entry::plain`. Assumes nothing.
+-- An entry that is present is its value. Assumes nothing.
 use mathlib.Core.Path.{sym}
 use borrow.Author.Needs.{needs}
 use Rattle.slot.proofs.Words.{plain-some}

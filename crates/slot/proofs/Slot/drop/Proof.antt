@@ -1,4 +1,4 @@
--- The proof of `Slot::drop`. Assumes nothing.
+-- The fields are those of the freed slot with the committed state. Assumes nothing.
 use borrow.Author.Needs.{needs}
 use Rattle.slot.proofs.Slot.drop.Statement.{statement}
 use Rattle.slot.proofs.Slot.drop.Tie as tie

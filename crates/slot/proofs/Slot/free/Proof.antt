@@ -1,4 +1,4 @@
--- The proof of `Slot::free`. Assumes nothing.
+-- Freed by taking or by dropping, as the test says. Assumes nothing.
 use borrow.Author.Needs.{needs}
 use Rattle.slot.proofs.Slot.free.Statement.{statement}
 use Rattle.slot.proofs.Slot.free.Tie as tie

@@ -1,4 +1,4 @@
--- The proof of `Slot::from_word`. Assumes nothing.
+-- The fields are quotients and remainders of the number. Assumes nothing.
 use borrow.Author.Needs.{needs}
 use Rattle.slot.specs.Words.{slotOf}
 use Rattle.slot.proofs.Slot.from_word.Statement.{statement}

@@ -1,4 +1,4 @@
--- The proof of `Slot::lock_by`. Assumes nothing.
+-- The fields are those of the locked slot. Assumes nothing.
 use borrow.Author.Needs.{needs}
 use Rattle.slot.proofs.Slot.lock_by.Statement.{statement}
 use Rattle.slot.proofs.Slot.lock_by.Tie as tie

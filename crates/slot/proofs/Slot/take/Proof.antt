@@ -1,4 +1,4 @@
--- The proof of `Slot::take`. Assumes nothing.
+-- The fields are those of the freed slot with the pending state. Assumes nothing.
 use borrow.Author.Needs.{needs}
 use Rattle.slot.proofs.Slot.take.Statement.{statement}
 use Rattle.slot.proofs.Slot.take.Tie as tie

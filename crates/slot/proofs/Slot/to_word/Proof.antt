@@ -1,4 +1,4 @@
--- The proof of `Slot::to_word`. Assumes nothing.
+-- The number is the sum of the fields by their weights, and it has 40 bits. Assumes nothing.
 use native.Mathlib.Omega.{arith}
 use borrow.Author.Needs.{needs}
 use Rattle.slot.specs.Words.{wordOf}

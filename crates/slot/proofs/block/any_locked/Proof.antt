@@ -1,4 +1,4 @@
--- The proof of `block::any_locked`: the locks joined are 0 exactly if no slot is locked. Assumes nothing.
+-- The locks joined are 0 exactly if no slot is locked. Assumes nothing.
 use Prim.Native.Nat.{ℕ}
 use mathlib.Core.Bool.{not}
 use mathlib.Core.Path.{ap, _∙_}

@@ -1,4 +1,4 @@
--- The proof of `block::committed_at`: the highest bit of a slot's first byte is its present bit. Assumes nothing.
+-- The highest bit of a slot's first byte is its present bit. Assumes nothing.
 use Prim.Native.Nat.{_<_}
 use native.Mathlib.Omega.{arith}
 use lib.ListN.{getD}

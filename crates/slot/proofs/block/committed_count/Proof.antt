@@ -1,4 +1,4 @@
--- The proof of `block::committed_count`: the loop counts the slots below i. Assumes nothing.
+-- The loop counts the slots below i. Assumes nothing.
 use mathlib.Core.Path.{_≡_, refl, ap, _∙_}
 use Prim.Native.Nat.{ℕ, _≤_, _<_, _-_, _+_}
 use native.Mathlib.Omega.{arith}

@@ -1,5 +1,4 @@
--- The proof of `block::end_held`: a block that is not held, and one in which nothing is picked, stays as it is.
--- Assumes nothing.
+-- A block that is not held, and one in which nothing is picked, stays as it is. Assumes nothing.
 use mathlib.Core.Path.{sym, _∙_}
 use Rattle.slot.specs.Blocks.{inSet}
 use Rattle.slot.proofs.Ends.{ended-bare, ended-held, ended-idle}

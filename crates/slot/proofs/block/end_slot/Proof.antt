@@ -1,4 +1,4 @@
--- The proof of `block::end_slot`: a slot that is read and freed is in range, so it can be written. Assumes nothing.
+-- A slot that is read and freed is in range, so it can be written. Assumes nothing.
 use mathlib.Core.Path.{_≡_, sym, ap, subst, _∙_}
 use mathlib.Core.Bool.{true, false}
 use Rattle.slot.specs.declared.Slot.{Slot}

@@ -1,4 +1,4 @@
--- The proof of `block::end_slots`: the slots below i have ended. Assumes nothing.
+-- The slots below i have ended. Assumes nothing.
 use mathlib.Core.Path.{_≡_, ap, refl, _∙_}
 use Prim.Native.Nat.{ℕ, _≤_, _-_}
 use native.Mathlib.Omega.{arith}

@@ -1,4 +1,4 @@
--- The proof of `block::is_held`: the first byte shows the bit 'held'. Assumes nothing.
+-- The first byte shows the bit 'held'. Assumes nothing.
 use native.Mathlib.Omega.{arith}
 use Rattle.slot.proofs.Steps.{held-of-list}
 use borrow.Author.Needs.{needs}

@@ -1,5 +1,4 @@
--- The proof of `block::is_picked`: the bit that the byte chooses in 32 is the bit of the lock in the set. Assumes
--- nothing.
+-- The bit that the byte chooses in 32 is the bit of the lock in the set. Assumes nothing.
 use Prim.Native.Nat.{_+_, _*_}
 use native.Mathlib.Omega.{arith}
 use Rattle.image.specs.Layout.{slotSize}

@@ -1,5 +1,4 @@
--- The proof of `block::joined_locks`: the bytes that have the locks are joined, and of that the field of the lock is
--- taken. Assumes nothing.
+-- The bytes that have the locks are joined, and of that the field of the lock is taken. Assumes nothing.
 use Prim.Native.Nat.{_+_, _*_}
 use native.Mathlib.Omega.{arith}
 use lib.ListN.{getD}

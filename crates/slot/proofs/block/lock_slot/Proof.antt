@@ -1,4 +1,4 @@
--- The proof of `block::lock_slot`: a slot that is read and locked is in range, so it can be written. Assumes nothing.
+-- A slot that is read and locked is in range, so it can be written. Assumes nothing.
 use mathlib.Core.Path.{sym, ap, subst, _∙_}
 use Prim.Native.Nat.{_<_}
 use native.Mathlib.Omega.{arith}

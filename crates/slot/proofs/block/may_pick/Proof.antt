@@ -1,5 +1,4 @@
--- The proof of `block::may_pick`: without a lock only transaction 0 is found in the slots, and a lock that the set has
--- also has the bits that its numbers share. Assumes nothing.
+-- Without a lock only transaction 0 is found in the slots, and a lock that the set has also has the bits that its numbers share. Assumes nothing.
 use mathlib.Core.Bool.{true}
 use mathlib.Core.Path.{refl, sym, _∙_}
 use native.Mathlib.Omega.{arith}

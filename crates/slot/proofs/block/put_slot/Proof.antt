@@ -1,4 +1,4 @@
--- The proof of `block::put_slot`: five stores are the five bytes of the slot's number. Assumes nothing.
+-- Five stores are the five bytes of the slot's number. Assumes nothing.
 use native.Mathlib.Omega.{arith}
 use lib.ListN.{length-set}
 use Rattle.slot.proofs.Steps.{stores-slot}

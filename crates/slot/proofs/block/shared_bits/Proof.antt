@@ -1,4 +1,4 @@
--- The proof of `block::shared_bits`: the four constants are the sets of the numbers that lack a bit. Assumes nothing.
+-- The four constants are the sets of the numbers that lack a bit. Assumes nothing.
 use Rattle.slot.proofs.Locks.{shared-sum}
 use borrow.Author.Needs.{needs}
 use Rattle.slot.proofs.block.shared_bits.Statement.{statement}

@@ -1,4 +1,4 @@
--- The proof of `block::slot_at`: the five bytes, as one number, show the slot. Assumes nothing.
+-- The five bytes, as one number, show the slot. Assumes nothing.
 use borrow.Author.Needs.{needs}
 use Rattle.slot.proofs.block.slot_at.Statement.{statement}
 use Rattle.slot.proofs.block.slot_at.Tie as tie

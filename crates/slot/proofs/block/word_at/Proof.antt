@@ -1,4 +1,4 @@
--- The proof of `block::word_at`: five bytes as one number, the first highest. Assumes nothing.
+-- Five bytes as one number, the first highest. Assumes nothing.
 use mathlib.Core.Path.{_≡_}
 use Prim.Native.Nat.{ℕ, _%_, _<_}
 use native.Mathlib.Omega.{arith}

@@ -1,6 +1,6 @@
--- The proof of `moves::fill`: a walk of its MIR, by hand, with a loop. The borrow of the list is opened once, before the loop, and closed once,
--- behind it; between the two the row of entries is the function's own. A turn calls `Plan::nth`, takes one entry out of the row, stores the
--- move over it, and puts it back. All that the proof knows of `nth` is that it meets its contract.
+-- A walk of its MIR, by hand, with a loop. The borrow of the list is opened once, before the loop, and closed once, behind it; between the two
+-- the row of entries is the function's own. A turn calls `Plan::nth`, takes one entry out of the row, stores the move over it, and puts it back.
+-- All that the proof knows of `nth` is that it meets its contract.
 --     At i         the whole context where the loop's test is reached: i moves are stored
 --     turn-at      a turn from `At i`: `ends` where i is n, which leaves the loop and runs the rest of the body, and `more` where i is below n
 -- Assumes nothing.
@@ -28,9 +28,11 @@ use ghost.Atoms.{Atoms, sem}
 use contract.Lifetimes.{AllOutlive}
 use contract.Monad.{Fun, fact}
 use contract.Running.{givenOf, tables, tablesOf}
-use types.Kit.{Given, Item, Sq, runs, anyQ, atRet, ‵, raw, _⊛_, ⋆, some, later, _$_, _∵_, !, qed, by, move, keep, drop, use0, use1, split, join, pick, rewrite, fsplit, fsplit3, fjoin, feqI, suffices, frame, await, done}
+use types.Kit.{Given, Item, Sq, runs, anyQ, atRet, ‵, raw, _⊛_, ⋆, some, later, _$_, _∵_, !, qed, by}
+use types.Kit.{move, keep, drop, use0, use1, split, join, pick, rewrite, fsplit, fsplit3, fjoin, feqI, suffices, frame, await, done}
 use types.Part.{whole, sub, look-in}
-use types.Run.{Below, again, loops, look, store, store-raw, init, forget, stop, hop, fld, from, load, lit, unit-lit, of-opd, bin, and-then, no-more, assigns, assigns-last, first, blocks, stays, leaves-loop, exec, land, returns, enter, alloc1, alloc0, params1, pass1, pass0, free1, free0}
+use types.Run.{Below, again, loops, look, store, store-raw, init, forget, stop, hop, fld, from, load, lit, unit-lit, of-opd, bin, and-then}
+use types.Run.{no-more, assigns, assigns-last, first, blocks, stays, leaves-loop, exec, land, returns, enter, alloc1, alloc0, params1, pass1, pass0, free1, free0}
 use sound.WpLaws.{fmOf, WpFn-mono}
 use denote.RattleType.{RattleType, owns}
 use denote.Shadow.{pureI}
@@ -133,7 +135,9 @@ abbrev ≺ : (n : ℕ) → X n → X n → Type 0
 ≺-wf : (n : ℕ) → WellFounded (≺ n)
 ≺-wf n = InvImage·wf (left n) (Nat·lt-wfRel .wf)
 
-module _ {M : Type 1} (𝓤 : URA M) (H : Heap 𝓤) (A : Atoms 𝓤) (W : Given 𝓤 H A) (at-mem : Memory → SProp 𝓤) (run : Routine → Fun 𝓤) (κ : Lft) (bounds : AllOutlive 1 (fill.signature .outlives) (κ, tt)) (q : Share) (p : Plan) (b o : ℕ) (γ : GName) (ys : List Move) (n : ℕ) (fits : n < 2 ^ 64) (room : Room R (length ys)) (le : n ≤ length ys) (v : Val) (is-plan : Is RP p (v ∷ [])) where
+module _ {M : Type 1} (𝓤 : URA M) (H : Heap 𝓤) (A : Atoms 𝓤) (W : Given 𝓤 H A) (at-mem : Memory → SProp 𝓤) (run : Routine → Fun 𝓤) (κ : Lft)
+    (bounds : AllOutlive 1 (fill.signature .outlives) (κ, tt)) (q : Share) (p : Plan) (b o : ℕ) (γ : GName) (ys : List Move) (n : ℕ) (fits : n < 2 ^ 64) (room : Room R (length ys))
+    (le : n ≤ length ys) (v : Val) (is-plan : Is RP p (v ∷ [])) where
   -- the moves that the plan stands for
   abbrev found : List Entry
   found = movesIn (p .origins)
@@ -176,7 +180,8 @@ module _ {M : Type 1} (𝓤 : URA M) (H : Heap 𝓤) (A : Atoms 𝓤) (W : Given
   to i = ((tt, tt, tt, (p, (i, tt)), (v ∷ [], (vint w64 i ∷ [], tt))), tt)
 
   goes-nth : (i : ℕ) → i < 2 ^ 64 → ent 𝓤 (⋆ 𝓤 H A []) (Nth 𝓤 H A at-mem run .pre (to i))
-  goes-nth i i-fits = qed W [] ∵ nothing ! $ owned ! usize (Is usize) (uint-makes 𝓤 H A W w64) i _ (refl, i-fits) $ fjoin ! $ owned ! RP (Is RP) (LL.makes P.the-type P′.the-plain 𝓤 H A) p _ is-plan $ fjoin ! $ nothing ! $ join ! $ frame ! $ done !
+  goes-nth i i-fits = qed W [] ∵ nothing ! $ owned ! usize (Is usize) (uint-makes 𝓤 H A W w64) i _ (refl, i-fits) $ fjoin ! $ owned ! RP (Is RP) (LL.makes P.the-type P′.the-plain 𝓤 H A) p _ is-plan
+      $ fjoin ! $ nothing ! $ join ! $ frame ! $ done !
 
   said : (i : ℕ) (r : Move) → ent 𝓤 (ensured 𝓤 H A nth.ended (nth.clauses 𝓤 H A at-mem run) tt (p, (i, tt)) tt r) (fact 𝓤 (r ≡ moveAt found i))
   said i r = exE 𝓤 _ (λ ws. snd∗ 𝓤 (sem 𝓤 H A (lasts nth.ended tt (p, (i, tt)) ws)) (fact 𝓤 (r ≡ moveAt found i)))
@@ -204,11 +209,13 @@ module _ {M : Type 1} (𝓤 : URA M) (H : Heap 𝓤) (A : Atoms 𝓤) (W : Given
       abbrev Frame : List (Item 𝓤)
       Frame = ‵ (fat fullShare P′.mir l₁ 0 v) ∷ ‵ (fat fullShare sl l₂ 0 u) ∷ ‵ (fat fullShare (tyInt w64) l₃ 0 (vint w64 n)) ∷ ‵ (froom tyUnit l₀ 0)
           ∷ ‵ (fobor κ q (Held R (length ys) b o γ)) ∷ ‵ (fobs γ (codedHoleys R .code (heres R ys))) ∷ ‵ (fauth γ (codedHoleys R .code (heres R ys)))
-          ∷ ‵ (fdies tyUnit l₀) ∷ ‵ (fdies P′.mir l₁) ∷ ‵ (fdies sl l₂) ∷ ‵ (fdies (tyInt w64) l₃) ∷ ‵ (fdies (tyInt w64) l₄) ∷ ‵ (fdies tyBool l₅) ∷ ‵ (fdies T′.mir l₆) ∷ ‵ (fdies (tyInt w64) l₇) ∷ ‵ (fdies tyPtr l₈) ∷ []
+          ∷ ‵ (fdies tyUnit l₀) ∷ ‵ (fdies P′.mir l₁) ∷ ‵ (fdies sl l₂) ∷ ‵ (fdies (tyInt w64) l₃) ∷ ‵ (fdies (tyInt w64) l₄) ∷ ‵ (fdies tyBool l₅) ∷ ‵ (fdies T′.mir l₆) ∷ ‵ (fdies (tyInt w64) l₇) ∷
+          ‵ (fdies tyPtr l₈) ∷ []
 
       -- i moves are stored: the row; i; the other locals of a turn
       abbrev At : ℕ → List (Item 𝓤)
-      At i = ‵ (row R fullShare (upto i) b o) ∷ ‵ (fat fullShare (tyInt w64) l₄ 0 (vint w64 i)) ∷ ‵ (froom tyBool l₅ 0) ∷ ‵ (froom T′.mir l₆ 0) ∷ ‵ (froom (tyInt w64) l₇ 0) ∷ ‵ (froom tyPtr l₈ 0) ∷ Frame
+      At i = ‵ (row R fullShare (upto i) b o) ∷ ‵ (fat fullShare (tyInt w64) l₄ 0 (vint w64 i)) ∷ ‵ (froom tyBool l₅ 0) ∷ ‵ (froom T′.mir l₆ 0) ∷ ‵ (froom (tyInt w64) l₇ 0) ∷ ‵ (froom tyPtr l₈ 0)
+          ∷ Frame
 
       abbrev Inv : X n → List (Item 𝓤)
       Inv t = At (t .0)
@@ -240,20 +247,27 @@ module _ {M : Type 1} (𝓤 : URA M) (H : Heap 𝓤) (A : Atoms 𝓤) (W : Given
           stays ! (load ! (from ! (stop !)) (look ! 2 refl)) $
           -- the call
           use0 W (raw (Nth 𝓤 H A at-mem run .pre (to i))) (goes-nth i (below-fits fits less)) $
-          calls-at ! (fmOf 𝓤 H (W .laws) 𝓣) (Nth 𝓤 H A at-mem run) known (to i) (and-then ! (load ! (from ! (stop !)) (look ! 7 refl)) (and-then ! (load ! (from ! (stop !)) (look ! 2 refl)) (no-more !))) (λ w.
-          use1 W (later (some (λ (r : Move). (‵ ftrue ⊛ ‵ (R .own r (w ∷ []))) ⊛ raw (ensured 𝓤 H A nth.ended (nth.clauses 𝓤 H A at-mem run) tt (p, (i, tt)) tt r)))) (id⊢ 𝓤 _) $ await ! tt $ pick ! (λ r.
+          calls-at ! (fmOf 𝓤 H (W .laws) 𝓣) (Nth 𝓤 H A at-mem run) known (to i)
+          (and-then ! (load ! (from ! (stop !)) (look ! 7 refl)) (and-then ! (load ! (from ! (stop !)) (look ! 2 refl)) (no-more !))) (λ w.
+          use1 W (later (some (λ (r : Move). (‵ ftrue ⊛ ‵ (R .own r (w ∷ []))) ⊛ raw (ensured 𝓤 H A nth.ended (nth.clauses 𝓤 H A at-mem run) tt (p, (i, tt)) tt r)))) (id⊢ 𝓤 _) $ await ! tt
+          $ pick ! (λ r.
           split ! $ move ! (1 ∷ []) $ use1 W (raw (fact 𝓤 (r ≡ moveAt found i))) (said i r) $ heard ! (r ≡ moveAt found i) (λ e. split ! $ drop ! $ facts ! R (Is R) (shows 𝓤 H A R) r (w ∷ []) (λ is.
           -- [the row; _4; _5; _6; _7; _8; _1; _2; _3; _0; …]
-          land ! (from ! (stop !)) (init ! 3 refl (LL.lawful T.the-type T′.the-laws 𝓤 H A W .typed r _ is .0)) $ rewrite ! 3 (λ (y : Val). ‵ (fat fullShare T′.mir l₆ 0 y)) (ap only (LL.tells T.the-type T′.the-laws r (w ∷ []) is)) refl $
-          assigns ! (bin ! (load ! (from ! (stop !)) (look ! 1 refl)) (lit ! tt) (record { fits = bytes-fit (room .1) less le })) (from ! (stop !)) (init ! 4 refl (tt, record { fits = bytes-fit (room .1) less le })) $
+          land ! (from ! (stop !)) (init ! 3 refl (LL.lawful T.the-type T′.the-laws 𝓤 H A W .typed r _ is .0)) $ rewrite ! 3 (λ (y : Val). ‵ (fat fullShare T′.mir l₆ 0 y))
+          (ap only (LL.tells T.the-type T′.the-laws r (w ∷ []) is)) refl $
+          assigns ! (bin ! (load ! (from ! (stop !)) (look ! 1 refl)) (lit ! tt) (record { fits = bytes-fit (room .1) less le })) (from ! (stop !))
+          (init ! 4 refl (tt, record { fits = bytes-fit (room .1) less le })) $
           assigns ! (bin ! (load ! (from ! (fld ! refl (stop !))) (look-in ! 7 (sub ! 0 refl (whole !)))) (load ! (from ! (stop !)) (look ! 4 refl)) tt) (from ! (stop !)) (init ! 5 refl (tt, tt)) $
           rewrite ! 5 (λ (z : ℕ). ‵ (fat fullShare tyPtr l₈ 0 (vptr b z))) (sym (place-is 2 o i)) refl $
           -- the entry is taken out, stored to, and put back
           elem-out ! R (Is R) (shows 𝓤 H A R) vals (LL.tells T.the-type T′.the-laws) fullShare (upto i) i r b o (len-at i less) (λ _.
-          assigns ! (of-opd ! (load ! (from ! (stop !)) (look ! 5 refl))) (from ! (hop ! (look ! 7 refl) (stop !))) (store-raw ! 0 refl (LL.lawful T.the-type T′.the-laws 𝓤 H A W .typed r (vals r) (spelled r (w ∷ []) is) .0)) $
-          move ! (1 ∷ []) $ drop ! $ owned ! R (Is R) (LL.makes T.the-type T′.the-plain 𝓤 H A) r _ (spelled r (w ∷ []) is) $ move ! (1 ∷ 0 ∷ []) $ elem-put ! R fullShare (upto i) i r (vals r) b o (len-at i less) $
+          assigns ! (of-opd ! (load ! (from ! (stop !)) (look ! 5 refl))) (from ! (hop ! (look ! 7 refl) (stop !)))
+          (store-raw ! 0 refl (LL.lawful T.the-type T′.the-laws 𝓤 H A W .typed r (vals r) (spelled r (w ∷ []) is) .0)) $
+          move ! (1 ∷ []) $ drop ! $ owned ! R (Is R) (LL.makes T.the-type T′.the-plain 𝓤 H A) r _ (spelled r (w ∷ []) is) $ move ! (1 ∷ 0 ∷ []) $ elem-put ! R fullShare (upto i) i r (vals r) b o
+          (len-at i less) $
           rewrite ! 0 (λ (zs : List Move). ‵ (row R fullShare zs b o)) (ap (λ (m : Move). set (upto i) i m) e ∙ set-next found i ys (within less le)) refl $
-          assigns-last ! (bin ! (load ! (from ! (stop !)) (look ! 1 refl)) (lit ! tt) (record { fits = next-fits fits less })) (from ! (stop !)) (store ! 1 refl (tt, record { fits = next-fits fits less })) $
+          assigns-last ! (bin ! (load ! (from ! (stop !)) (look ! 1 refl)) (lit ! tt) (record { fits = next-fits fits less })) (from ! (stop !))
+          (store ! 1 refl (tt, record { fits = next-fits fits less })) $
           forget ! 2 refl $ forget ! 3 refl $ forget ! 4 refl $ forget ! 5 refl $
           again ! (≺ n) Inv (i, i-le) (i + 1, next-le less) (falls less))))))
         where
@@ -261,12 +275,15 @@ module _ {M : Type 1} (𝓤 : URA M) (H : Heap 𝓤) (A : Atoms 𝓤) (W : Given
           spelled r ws is = subst (Is R r) (LL.tells T.the-type T′.the-laws r ws is) is
 
       turn-at : (t : X n) → Sq W (Inv t) (runs (𝓣 .C) (𝓣 .Λ) E mir.turn-1 (anyQ (afterTurn 𝓤 H (Below 𝓤 H A (≺ n) Inv t) Left)))
-      turn-at t = ⊎-elim (λ e. subst (λ (k : ℕ). Sq W (At k) (runs (𝓣 .C) (𝓣 .Λ) E mir.turn-1 (anyQ (afterTurn 𝓤 H (Below 𝓤 H A (≺ n) Inv t) Left)))) (sym e) (ends (Below 𝓤 H A (≺ n) Inv t))) (λ less. more (t .0) (t .1) less) (eq-or-lt-of-le (t .1))
+      turn-at t = ⊎-elim (λ e. subst (λ (k : ℕ). Sq W (At k) (runs (𝓣 .C) (𝓣 .Λ) E mir.turn-1 (anyQ (afterTurn 𝓤 H (Below 𝓤 H A (≺ n) Inv t) Left)))) (sym e) (ends (Below 𝓤 H A (≺ n) Inv t)))
+          (λ less. more (t .0) (t .1) less) (eq-or-lt-of-le (t .1))
 
       -- the body from its first statement: the borrow is opened once, before the loop
-      body : Sq W (‵ (froom tyPtr l₈ 0) ∷ ‵ (fdies tyPtr l₈) ∷ ‵ (froom (tyInt w64) l₇ 0) ∷ ‵ (fdies (tyInt w64) l₇) ∷ ‵ (froom T′.mir l₆ 0) ∷ ‵ (fdies T′.mir l₆) ∷ ‵ (froom tyBool l₅ 0) ∷ ‵ (fdies tyBool l₅)
+      body : Sq W (‵ (froom tyPtr l₈ 0) ∷ ‵ (fdies tyPtr l₈) ∷ ‵ (froom (tyInt w64) l₇ 0) ∷ ‵ (fdies (tyInt w64) l₇) ∷ ‵ (froom T′.mir l₆ 0) ∷ ‵ (fdies T′.mir l₆) ∷ ‵ (froom tyBool l₅ 0) ∷
+          ‵ (fdies tyBool l₅)
           ∷ ‵ (froom (tyInt w64) l₄ 0) ∷ ‵ (fdies (tyInt w64) l₄) ∷ ‵ (fat fullShare (tyInt w64) l₃ 0 (vint w64 n)) ∷ ‵ (fdies (tyInt w64) l₃) ∷ ‵ (fat fullShare sl l₂ 0 u) ∷ ‵ (fdies sl l₂)
-          ∷ ‵ (fat fullShare P′.mir l₁ 0 v) ∷ ‵ (fdies P′.mir l₁) ∷ ‵ (froom tyUnit l₀ 0) ∷ ‵ (fdies tyUnit l₀) ∷ (‵ (flft κ q) ⊛ ‵ ftrue) ∷ ‵ (owns (RP ∷ MutSlice (named 0) κ R ∷ usize ∷ []) a at) ∷ [])
+          ∷ ‵ (fat fullShare P′.mir l₁ 0 v) ∷ ‵ (fdies P′.mir l₁) ∷ ‵ (froom tyUnit l₀ 0) ∷ ‵ (fdies tyUnit l₀) ∷ (‵ (flft κ q) ⊛ ‵ ftrue) ∷ ‵ (owns (RP ∷ MutSlice (named 0) κ R ∷ usize ∷ []) a at)
+          ∷ [])
           (runs (𝓣 .C) (𝓣 .Λ) E mir.t-1 (atRet E Post))
       body =
           assigns ! (of-opd ! (lit ! tt)) (from ! (stop !)) (init ! 8 refl (tt, record { fits = lit< tt })) $
@@ -279,7 +296,8 @@ module _ {M : Type 1} (𝓤 : URA M) (H : Heap 𝓤) (A : Atoms 𝓤) (W : Given
     walk g =
         qed W ((‵ (flft κ q) ⊛ ‵ ftrue) ∷ ‵ (owns (RP ∷ MutSlice (named 0) κ R ∷ usize ∷ []) a at) ∷ []) ∵ enter ! (𝓣 .C) (𝓣 .Λ) code.function (v ∷ u ∷ vint w64 n ∷ []) _ $
         alloc1 ! (λ l₀. alloc1 ! (λ l₁. alloc1 ! (λ l₂. alloc1 ! (λ l₃. alloc1 ! (λ l₄. alloc1 ! (λ l₅. alloc1 ! (λ l₆. alloc1 ! (λ l₇. alloc1 ! (λ l₈. alloc0 ! $ params1 ! $
-        pass1 ! (init ! 14 refl (LL.lawful P.the-type P′.the-laws 𝓤 H A W .typed p (v ∷ []) is-plan .0)) $ pass1 ! (init ! 12 refl (mut-slice-lawful 𝓤 H A W (named 0) κ R .typed (x ys) (u ∷ []) g .0)) $ pass1 ! (init ! 10 refl (tt, record { fits = fits })) $ pass0 ! $
+        pass1 ! (init ! 14 refl (LL.lawful P.the-type P′.the-laws 𝓤 H A W .typed p (v ∷ []) is-plan .0))
+        $ pass1 ! (init ! 12 refl (mut-slice-lawful 𝓤 H A W (named 0) κ R .typed (x ys) (u ∷ []) g .0)) $ pass1 ! (init ! 10 refl (tt, record { fits = fits })) $ pass0 ! $
         body l₀ l₁ l₂ l₃ l₄ l₅ l₆ l₇ l₈)))))))))
 
 module _ {M : Type 1} (𝓤 : URA M) (H : Heap 𝓤) (A : Atoms 𝓤) (W : Given 𝓤 H A) (mem : Memory → SProp 𝓤) (run : Routine → Fun 𝓤) where
@@ -287,12 +305,14 @@ module _ {M : Type 1} (𝓤 : URA M) (H : Heap 𝓤) (A : Atoms 𝓤) (W : Given
   fill-walks 𝓣 known = walked 𝓤 H A fill.ended stayed (fill.clauses 𝓤 H A mem run) (WpFn 𝓤 H (𝓣 .C) (𝓣 .Λ) code.function) (λ κs. (plan-vals, (slice-vals, (uint-vals w64, tt))))
       (λ κs. (LL.tells P.the-type P′.the-laws, (mut-slice-tells (named 0) (κs .0) R, (uint-tells w64, tt))))
       (λ κs qs bounds a g are. needs 𝓤 (a .1 .1 .0 ≤ length (a .1 .0 .now)) _ (λ le.
-      walk 𝓤 H A W mem run (κs .0) bounds (qs .0) (a .0) (a .1 .0 .ptr .0) (a .1 .0 .ptr .1) (a .1 .0 .name) (a .1 .0 .now) (a .1 .1 .0) (are .1 .1 .0 .1) (are .1 .0 .0 .1) le (only (plan-vals (a .0))) (are .0) 𝓣 known (are .1 .0)))
+      walk 𝓤 H A W mem run (κs .0) bounds (qs .0) (a .0) (a .1 .0 .ptr .0) (a .1 .0 .ptr .1) (a .1 .0 .name) (a .1 .0 .now) (a .1 .1 .0) (are .1 .1 .0 .1) (are .1 .0 .0 .1) le
+      (only (plan-vals (a .0))) (are .0) 𝓣 known (are .1 .0)))
 
 fill-meets : {M : Type 1} (𝓤 : URA M) (H : Heap 𝓤) (A : Atoms 𝓤) → Given 𝓤 H A → (mem : Memory → SProp 𝓤) (run : Routine → Fun 𝓤) (𝓣 : Tables 𝓤 H) → Triple 𝓤 (𝓣 .C #nth) (Nth 𝓤 H A mem run)
     → Meets 𝓤 H A fill.signature (WpFn 𝓤 H (𝓣 .C) (𝓣 .Λ) code.function) (fill.spec 𝓤 H A mem run)
 fill-meets 𝓤 H A W mem run 𝓣 known =
-    walk-meets 𝓤 H A fill.ended stayed W (goes-none 𝓤 H A W 1 (λ _. RP) yes (λ κs x f. refl), (goes-slice 𝓤 H A W 1 0 tt (plain (λ _. R)), (goes-none 𝓤 H A W 1 (λ _. usize) yes (λ κs x f. refl), tt))) (fill.clauses 𝓤 H A mem run)
+    walk-meets 𝓤 H A fill.ended stayed W
+    (goes-none 𝓤 H A W 1 (λ _. RP) yes (λ κs x f. refl), (goes-slice 𝓤 H A W 1 0 tt (plain (λ _. R)), (goes-none 𝓤 H A W 1 (λ _. usize) yes (λ κs x f. refl), tt))) (fill.clauses 𝓤 H A mem run)
     (WpFn 𝓤 H (𝓣 .C) (𝓣 .Λ) code.function) (WpFn-mono 𝓤 H (W .laws) 𝓣 code.function) (fill-walks 𝓤 H A W mem run 𝓣 known)
 
 pub fill-spec : {M : Type 1} → stated.statement M

@@ -1,4 +1,4 @@
--- The proof of `loading::load_block`: the lent part is the card's block. Assumes nothing.
+-- The lent part is the card's block. Assumes nothing.
 use Prim.Native.Nat.{_+_, _-_}
 use mathlib.Core.Path.{_∙_, _≡_, ap, sym}
 use native.Mathlib.Omega.{arith}

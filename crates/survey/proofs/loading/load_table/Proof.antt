@@ -1,4 +1,4 @@
--- The proof of `loading::load_table`. Assumes nothing.
+-- The load of the blocks before b has been added up, and it is at most eight a block. Assumes nothing.
 use Prim.Native.Nat.{_*_, _+_, _-_, _≤_}
 use borrow.Author.Needs.{needs}
 use mathlib.Core.Path.{_∙_, _≡_, ap}

@@ -1,4 +1,4 @@
--- The masks before i withstand it. Assumes nothing.
+-- The placements before i withstand one more failure: a search that stops at the first that does not. Assumes nothing.
 use Prim.Native.Nat.{_-_, _≤_}
 use borrow.Author.Needs.{needs}
 use mathlib.Core.Bool.{true}

@@ -1,4 +1,4 @@
--- The proof of `protection::withstands`. Assumes nothing.
+-- The two counts of the code are those of the rules. Assumes nothing.
 use Prim.Native.Nat.{suc}
 use borrow.Author.Needs.{needs}
 use borrow.Author.Tests.{le-ltb, lt-ltb}
