@@ -24,6 +24,10 @@ refusals 110 3000
 pairs 111 3000
 sweep 112 3000
 LIST
+# More commands than the program reads at a time, and three bytes of one more.
+mkdir -p ../tests/listings/cut
+target/release/generate mixed 113 2000 | head -c 9998 > ../tests/listings/cut/stdin
+target/release/listing < ../tests/listings/cut/stdin > ../tests/listings/cut/stdout
 while read -r edition kind seed earlier commands; do
     folder=../tests/older/$edition
     mkdir -p "$folder"

@@ -8,7 +8,7 @@ trap 'rm -f "$listing"' EXIT
 failed=0
 [ -x target/bin/cabinet ] || rt check cabinet || exit 1
 # The kinds by name, so that one whose files are gone is missed.
-for kind in conflicts deletes edges failures flips long mixed noise pairs refusals reorganise sweep; do
+for kind in conflicts cut deletes edges failures flips long mixed noise pairs refusals reorganise sweep; do
     stored=tests/listings/$kind
     if target/bin/cabinet <"$stored/stdin" >"$listing" && cmp "$listing" "$stored/stdout"; then
         echo "passed  listing of $kind"

@@ -25,6 +25,14 @@ fn stored_listings() {
     assert_eq!(tally.impossible(), Vec::<String>::new());
 }
 
+/// The file that ends within a command, behind more commands than the program reads at a time.
+#[test]
+fn cut_listing() {
+    let (commands, stored) = stored("cut");
+    assert!(commands.len() > 1_024 * COMMAND_BYTES && commands.len() % COMMAND_BYTES != 0);
+    assert!(listing(&commands) == stored);
+}
+
 /// The calls of a command file that the editions answer differently, with the other's answers. State is left out: it
 /// differs whatever the sites.
 fn different(one: Edition, other: Edition, commands: &[u8]) -> Vec<(Call, Answer)> {

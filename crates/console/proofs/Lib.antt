@@ -1,0 +1,4 @@
+pub mod Buffers
+pub mod Advances
+pub mod AllListed
+pub mod Loop
