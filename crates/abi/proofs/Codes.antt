@@ -14,7 +14,7 @@ use Rattle.promise.specs.Promise.{Done, shown}
 use Rattle.promise.specs.declared.Answer.{Answer as AnswerValue}
 use Rattle.promise.specs.declared.Answer.the-variants.{Placed}
 use Rattle.command.specs.Meaning.{Obeyed}
-use Rattle.abi.specs.Codes.{Coded, CodedCommand, OneNumberEach, answerOf, codeOf, coded, kindOf, kinds, numberOf}
+use Rattle.abi.specs.Codes.{Coded, CodedCommand, OneNumberEach, answerOfCode, codeOf, coded, kindOf, kinds, answerNumber}
 use Rattle.abi.specs.Codes.{numberRange}
 
 -- ---- codes
@@ -25,8 +25,8 @@ number-back : (k n : ℕ) → n < numberRange → coded k n % numberRange ≡ n
 number-back k n h = omega arith
 
 -- the entry of an answer's kind, with its number, is the answer
-entry : (a : Answer cabinet) → getD kinds (kindOf a) refused (numberOf a) ≡ a
-unfolding kindOf numberOf
+entry : (a : Answer cabinet) → getD kinds (kindOf a) refused (answerNumber a) ≡ a
+unfolding kindOf answerNumber
 entry ok = refl
 entry (value n) = refl
 entry absent = refl
@@ -40,17 +40,17 @@ entry unprotected = refl
 entry (loaded n) = refl
 entry (refused n) = refl
 
-pub answer-back : (a : Answer cabinet) → numberOf a < numberRange → answerOf (codeOf a) ≡ a
-unfolding answerOf
+pub answer-back : (a : Answer cabinet) → answerNumber a < numberRange → answerOfCode (codeOf a) ≡ a
+unfolding answerOfCode
 answer-back a h =
-    ap (λ (k : ℕ). getD kinds k refused (codeOf a % numberRange)) (kind-back (kindOf a) (numberOf a) h)
-    ∙ ap (getD kinds (kindOf a) refused) (number-back (kindOf a) (numberOf a) h) ∙ entry a
+    ap (λ (k : ℕ). getD kinds k refused (codeOf a % numberRange)) (kind-back (kindOf a) (answerNumber a) h)
+    ∙ ap (getD kinds (kindOf a) refused) (number-back (kindOf a) (answerNumber a) h) ∙ entry a
 
 pub one-number-each : OneNumberEach
-one-number-each a b h k e = sym (answer-back a h) ∙ ap answerOf e ∙ answer-back b k
+one-number-each a b h k e = sym (answer-back a h) ∙ ap answerOfCode e ∙ answer-back b k
 
 pub placed-code : (m : ℕ) → m < 256 → coded 3 m ≡ codeOf (shown (Placed m))
-unfolding kindOf numberOf
+unfolding kindOf answerNumber
 placed-code m h =
     let e : m ≡ m % 256 = omega arith in
     ap (coded 3) e

@@ -26,19 +26,19 @@ kindOf unprotected = 9
 kindOf (loaded n) = 10
 kindOf (refused n) = 15
 
-unfoldable pub numberOf : Answer cabinet → ℕ
-numberOf ok = 0
-numberOf (value n) = n
-numberOf absent = 0
-numberOf (placed m) = m .0
-numberOf unplaced = 0
-numberOf stops = 0
-numberOf (copied n) = n
-numberOf (retired n) = n
-numberOf protected = 0
-numberOf unprotected = 0
-numberOf (loaded n) = n
-numberOf (refused n) = n
+unfoldable pub answerNumber : Answer cabinet → ℕ
+answerNumber ok = 0
+answerNumber (value n) = n
+answerNumber absent = 0
+answerNumber (placed m) = m .0
+answerNumber unplaced = 0
+answerNumber stops = 0
+answerNumber (copied n) = n
+answerNumber (retired n) = n
+answerNumber protected = 0
+answerNumber unprotected = 0
+answerNumber (loaded n) = n
+answerNumber (refused n) = n
 
 -- The code of an answer: kind × 65,536 + number.
 abbrev pub numberRange : ℕ
@@ -48,7 +48,7 @@ abbrev pub coded : ℕ → ℕ → ℕ
 coded kind number = kind * numberRange + number
 
 abbrev pub codeOf : Answer cabinet → ℕ
-codeOf a = coded (kindOf a) (numberOf a)
+codeOf a = coded (kindOf a) (answerNumber a)
 
 -- The answer of a code: by its kind, with its number. The kinds that are not theirs stand for ok here.
 abbrev pub kinds : List (ℕ → Answer cabinet)
@@ -70,13 +70,13 @@ kinds =
     ∷ (λ n. ok)
     ∷ []
 
-unfoldable pub answerOf : ℕ → Answer cabinet
-answerOf code = getD kinds (code / numberRange) refused (code % numberRange)
+unfoldable pub answerOfCode : ℕ → Answer cabinet
+answerOfCode code = getD kinds (code / numberRange) refused (code % numberRange)
 
 -- Each answer, of those whose number has 16 bits, has a code of its own.
 abbrev pub OneNumberEach : Type 0
 OneNumberEach =
-    (a b : Answer cabinet) → numberOf a < numberRange → numberOf b < numberRange → codeOf a ≡ codeOf b → a ≡ b
+    (a b : Answer cabinet) → answerNumber a < numberRange → answerNumber b < numberRange → codeOf a ≡ codeOf b → a ≡ b
 
 -- A call on an image was answered with this code and left the image behind.
 pub record Coded (c : Call cabinet) (before : Image) (code : ℕ) (behind : Image) : Type 0 where

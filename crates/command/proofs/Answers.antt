@@ -14,16 +14,18 @@ use Rattle.command.specs.declared.Command.the-variants.{Of, WideMove}
 use Rattle.command.specs.declared.Fields.{Fields}
 use Rattle.command.specs.declared.Reading.{Reading}
 use Rattle.command.specs.declared.Reading.the-variants.{Asks, Malformed}
-use Rattle.command.specs.Commands.{bytesOf, callAt, callFields, commandAt, commandOf, commandSize, fieldsFor}
-use Rattle.command.specs.Commands.{fieldsIn, fits, formed, isOfCase, isWideMove, leftBy, mostBlock, readOf}
-use Rattle.command.specs.Commands.{wellFormed, written}
+use Rattle.command.specs.declared.Writing.{Writing}
+use Rattle.command.specs.declared.Writing.the-variants.{Malformed as Writing·Malformed, Written}
+use Rattle.command.specs.Commands.{bytesFor, callAt, callFields, commandAt, commandOf, commandSize, fieldsFor}
+use Rattle.command.specs.Commands.{fieldsIn, isWritable, formed, isOfCase, isWideMove, writeLeaves, mostBlock, readOf}
+use Rattle.command.specs.Commands.{isWritten, wellFormed, writeOf}
 
 -- a conjunction that fails at its first test, and one that goes on past it
 pub fails-here : (p q : Bool) → p ≡ false → false ≡ (p && q)
 fails-here p q e = sym (ap (λ (b : Bool). b && q) e)
 
-pub goes-on : (p q r : Bool) → p ≡ true → r ≡ q → r ≡ (p && q)
-goes-on p q r e h = h ∙ sym (ap (λ (b : Bool). b && q) e)
+pub goes-past : (p q r : Bool) → p ≡ true → r ≡ q → r ≡ (p && q)
+goes-past p q r e h = h ∙ sym (ap (λ (b : Bool). b && q) e)
 
 -- ---- the reader
 read-by : (l : List ℕ) (b : Bool) → b ≡ wellFormed l → cond b (Asks (commandOf l)) Malformed ≡ readOf l
@@ -36,7 +38,7 @@ read-length l d = read-by l false (fails-here _ _ (ne-eqb _ _ d))
 
 pub read-form : (l : List ℕ) (b : Bool) → length l ≡ commandSize → formed (fieldsIn l) ≡ b → cond b (Asks (commandOf l)) Malformed ≡ readOf l
 unfolding wellFormed
-read-form l b e h = read-by l b (goes-on _ _ _ (eq-eqb _ _ e) (sym h))
+read-form l b e h = read-by l b (goes-past _ _ _ (eq-eqb _ _ e) (sym h))
 
 -- the command and the form that a reading tells
 toldBy : Command → Reading → Command
@@ -71,33 +73,52 @@ unfolding commandAt
 command-is f b e = ap (λ (t : Bool). cond t (WideMove (record { 0 = f .card }) (f .number)) (Of (callAt f))) e
 
 -- ---- the writer
--- whether a command fits, in each of its cases
-pub fits-call : {f : Fields} {call : Call} {c : Command} → c ≡ Of call → f ≡ callFields call → isWideMove f ≡ false → formed f ≡ fits c
-unfolding fits
-fits-call {f} {call} {c} told e narrow =
-    goes-on (isOfCase (Of call)) (formed (callFields call)) (formed f) (ap not (sym (ap isWideMove e) ∙ narrow)) (ap formed e) ∙ sym (ap fits told)
+-- whether a command is writable, in each of its cases
+pub writable-call : {f : Fields} {call : Call} {c : Command} → c ≡ Of call → f ≡ callFields call → isWideMove f ≡ false → formed f ≡ isWritable c
+unfolding isWritable
+writable-call {f} {call} {c} told e narrow =
+    goes-past (isOfCase (Of call)) (formed (callFields call)) (formed f) (ap not (sym (ap isWideMove e) ∙ narrow)) (ap formed e) ∙ sym (ap isWritable told)
 
-pub fits-small : {k : Card} {n : ℕ} {c : Command} → c ≡ WideMove k n → n ≤ mostBlock → false ≡ fits c
-unfolding fits
-fits-small {k} {n} {c} told h = fails-here (ltb mostBlock n) _ (le-ltb mostBlock n h) ∙ sym (ap fits told)
+pub writable-small : {k : Card} {n : ℕ} {c : Command} → c ≡ WideMove k n → n ≤ mostBlock → false ≡ isWritable c
+unfolding isWritable
+writable-small {k} {n} {c} told h = fails-here (ltb mostBlock n) _ (le-ltb mostBlock n h) ∙ sym (ap isWritable told)
 
-pub fits-wide : {f : Fields} {k : Card} {n : ℕ} {c : Command} → c ≡ WideMove k n → mostBlock < n → f ≡ fieldsFor (WideMove k n) → formed f ≡ fits c
-unfolding fits
-fits-wide {f} {k} {n} {c} told h e = goes-on (ltb mostBlock n) _ (formed f) (lt-ltb mostBlock n h) (ap formed e) ∙ sym (ap fits told)
+pub writable-wide : {f : Fields} {k : Card} {n : ℕ} {c : Command} → c ≡ WideMove k n → mostBlock < n → f ≡ fieldsFor (WideMove k n) → formed f ≡ isWritable c
+unfolding isWritable
+writable-wide {f} {k} {n} {c} told h e = goes-past (ltb mostBlock n) _ (formed f) (lt-ltb mostBlock n h) (ap formed e) ∙ sym (ap isWritable told)
 
-pub fits-formed : (c : Command) → fits c ≡ true → formed (fieldsFor c) ≡ true
-unfolding fits
-fits-formed c h = and-r (isOfCase c) _ h
+pub writable-formed : (c : Command) → isWritable c ≡ true → formed (fieldsFor c) ≡ true
+unfolding isWritable
+writable-formed c h = and-r (isOfCase c) _ h
 
 -- what the writer answers and leaves
-abbrev pub Leaves : Bool → List ℕ → Command → List ℕ → Type 0
-Leaves b l command m = (b ≡ written l command) × (m ≡ leftBy l command)
+abbrev said : Bool → Writing
+said b = cond b Written Writing·Malformed
 
-write-by : (l : List ℕ) (command : Command) (b : Bool) → b ≡ written l command → Leaves b l command (cond b (bytesOf command) l)
-write-by l command b e = (e, ap (λ (t : Bool). cond t (bytesOf command) l) e)
+abbrev pub Leaves : Writing → List ℕ → Command → List ℕ → Type 0
+Leaves w l command m = (w ≡ writeOf l command) × (m ≡ writeLeaves l command)
 
-pub write-length : (l : List ℕ) (command : Command) → (length l ≡ commandSize → ⊥) → Leaves false l command l
+write-by : (l : List ℕ) (command : Command) (b : Bool) → b ≡ isWritten l command → Leaves (said b) l command (cond b (bytesFor command) l)
+unfolding writeOf
+write-by l command b e = (ap said e, ap (λ (t : Bool). cond t (bytesFor command) l) e)
+
+pub write-length : (l : List ℕ) (command : Command) → (length l ≡ commandSize → ⊥) → Leaves Writing·Malformed l command l
 write-length l command d = write-by l command false (fails-here _ _ (ne-eqb _ _ d))
 
-pub write-fit : (l : List ℕ) (command : Command) (b : Bool) → length l ≡ commandSize → fits command ≡ b → Leaves b l command (cond b (bytesOf command) l)
-write-fit l command b e h = write-by l command b (goes-on _ _ _ (eq-eqb _ _ e) (sym h))
+pub write-fit : (l : List ℕ) (command : Command) (b : Bool) → length l ≡ commandSize → isWritable command ≡ b
+    → Leaves (said b) l command (cond b (bytesFor command) l)
+write-fit l command b e h = write-by l command b (goes-past _ _ _ (eq-eqb _ _ e) (sym h))
+
+-- what is written is writable, and five bytes were lent
+wrote : Writing → Bool
+wrote Written = true
+wrote Writing·Malformed = false
+
+told-written : (b : Bool) → said b ≡ Written → b ≡ true
+unfolding wrote
+told-written true e = refl
+told-written false e = ap wrote e
+
+pub write-says : (l : List ℕ) (command : Command) → writeOf l command ≡ Written → isWritten l command ≡ true
+unfolding writeOf
+write-says l command e = told-written (isWritten l command) e

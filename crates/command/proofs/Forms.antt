@@ -14,7 +14,7 @@ use Rattle.promise.specs.declared.Call.{Call}
 use Rattle.command.specs.declared.Fields.{Fields}
 use Rattle.command.specs.Commands.{callAt, calls, fieldsGiven, formed, forms, isWideMove, lastCall, mostBlock}
 use Rattle.command.specs.Commands.{mostCard, mostNumber, mostTran, mostValue, moveOperation, operationCount}
-use Rattle.command.specs.Commands.{unknown, within}
+use Rattle.command.specs.Commands.{unknown, fieldsWithin}
 
 infixr 5 _then_
 -- ---- the operation's entry in the tables
@@ -81,8 +81,8 @@ pub record AtMost (tran card number value : ℕ) (f : Fields) : Type 0 where
   pub number-fits : f .number ≤ number
   pub value-fits : f .value ≤ value
 
-pub at-most : (a b c d : ℕ) (f : Fields) → within a b c d f ≡ true → AtMost a b c d f
-unfolding within
+pub at-most : (a b c d : ℕ) (f : Fields) → fieldsWithin a b c d f ≡ true → AtMost a b c d f
+unfolding fieldsWithin
 at-most a b c d f h =
     let r1 : (leb (f .card) b && (leb (f .number) c && leb (f .value) d)) ≡ true = and-r (leb (f .tran) a) _ h in
     let r2 : (leb (f .number) c && leb (f .value) d) ≡ true = and-r (leb (f .card) b) _ r1 in
@@ -97,8 +97,8 @@ at-most a b c d f h =
 abbrev pub Wide : Fields → Type 0
 Wide f = AtMost mostTran mostCard mostNumber mostValue f
 
-widened : (f : Fields) (a b c d : ℕ) → (leb a mostTran && (leb b mostCard && (leb c mostNumber && leb d mostValue))) ≡ true → within a b c d f ≡ true → Wide f
-unfolding within
+widened : (f : Fields) (a b c d : ℕ) → (leb a mostTran && (leb b mostCard && (leb c mostNumber && leb d mostValue))) ≡ true → fieldsWithin a b c d f ≡ true → Wide f
+unfolding fieldsWithin
 widened f a b c d small h =
     let m : AtMost a b c d f = at-most a b c d f h in
     let n : Wide (fieldsGiven 0 a b c d) = at-most mostTran mostCard mostNumber mostValue (fieldsGiven 0 a b c d) small in

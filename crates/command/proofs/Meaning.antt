@@ -26,8 +26,8 @@ use Rattle.promise.specs.declared.Call.{Call}
 use Rattle.command.specs.declared.Command.{Command}
 use Rattle.command.specs.declared.Command.the-variants.{Of, WideMove}
 use Rattle.command.specs.declared.Reading.the-variants.{Asks, Malformed}
-use Rattle.command.specs.Commands.{commandOf, mostBlock, readOf, wellFormed}
-use Rattle.command.specs.Meaning.{Obeyed, blockFor, callFor, commandAnswer, commandNext, malformed, ruled}
+use Rattle.command.specs.Commands.{commandOf, malformed, mostBlock, readOf, wellFormed}
+use Rattle.command.specs.Meaning.{Obeyed, blockFor, callFor, commandAnswer, commandNext, ruled}
 use Rattle.command.proofs.Answers.{read-asks, read-malformed}
 
 -- row 3 applies to a block out of range

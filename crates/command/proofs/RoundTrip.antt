@@ -16,11 +16,13 @@ use Rattle.command.specs.declared.Command.{Command}
 use Rattle.command.specs.declared.Command.the-variants.{Of, WideMove}
 use Rattle.command.specs.declared.Fields.{Fields}
 use Rattle.command.specs.declared.Reading.the-variants.{Asks}
-use Rattle.command.specs.Commands.{bytesOf, callAt, callFields, calls, commandAt, commandOf, commandSize, encoded}
-use Rattle.command.specs.Commands.{fieldsFor, fieldsGiven, fieldsIn, fieldsOf, fits, formed, forms, isByte}
+use Rattle.command.specs.Commands.{bytesFor, callAt, callFields, calls, commandAt, commandOf, commandSize, encoded}
+use Rattle.command.specs.Commands.{fieldsFor, fieldsGiven, fieldsIn, fieldsOf, isWritable, formed, forms, isByte}
 use Rattle.command.specs.Commands.{isOfCase, isWideMove, lastCall, mostCard, mostMask, mostNumber, mostTran}
-use Rattle.command.specs.Commands.{mostValue, moveOperation, operationCount, readOf, unknown, wellFormed, within}
-use Rattle.command.proofs.Answers.{command-is, fits-formed, read-asks, read-form}
+use Rattle.command.specs.Commands.{mostValue, moveOperation, operationCount, readOf, unknown, wellFormed, fieldsWithin}
+use Rattle.command.specs.Commands.{isWritten}
+use Rattle.command.specs.RoundTrips.{ReadWrites, WrittenReads}
+use Rattle.command.proofs.Answers.{command-is, read-asks, read-form, writable-formed, write-fit, write-says}
 use Rattle.command.proofs.Bytes.{by-five}
 use Rattle.command.proofs.Forms.{AtMost, Each, Wide, _then_, at-most, each-at, form-of, formed-known}
 use Rattle.command.proofs.Forms.{formed-wide, none}
@@ -82,7 +84,7 @@ kept-fits zero n h = omega arith
 kept-fits (suc most) n h = refl
 
 -- fields of this form, made anew from those that the operation has
-back : (f : Fields) (n a b c d : ℕ) → f .operation ≡ n → within a b c d f ≡ true → fieldsGiven n (kept a (f .tran)) (kept b (f .card)) (kept c (f .number)) (kept d (f .value)) ≡ f
+back : (f : Fields) (n a b c d : ℕ) → f .operation ≡ n → fieldsWithin a b c d f ≡ true → fieldsGiven n (kept a (f .tran)) (kept b (f .card)) (kept c (f .number)) (kept d (f .value)) ≡ f
 back f n a b c d e h =
     let m : AtMost a b c d f = at-most a b c d f h in
     same-fields (sym e) (kept-fits a (f .tran) (m .tran-fits)) (kept-fits b (f .card) (m .card-fits))
@@ -140,17 +142,22 @@ unfolding commandAt
 fields-back f h = back-at f (isWideMove f) refl h
 
 -- ---- the two theorems
--- What is written reads as the command.
-pub written-reads : (c : Command) → fits c ≡ true → readOf (bytesOf c) ≡ Asks c
-unfolding fits bytesOf
-written-reads c h =
-    let k : formed (fieldsFor c) ≡ true = fits-formed c h in
+-- the bytes of a writable command read as it
+bytes-read : (c : Command) → isWritable c ≡ true → readOf (bytesFor c) ≡ Asks c
+unfolding isWritable bytesFor
+bytes-read c h =
+    let k : formed (fieldsFor c) ≡ true = writable-formed c h in
     let e : fieldsIn (encoded (fieldsFor c)) ≡ fieldsFor c = fields-encoded (fieldsFor c) (formed-wide (fieldsFor c) k) in
     sym (read-form (encoded (fieldsFor c)) true refl (ap formed e ∙ k))
     ∙ ap Asks (ap commandAt e ∙ command-back c (and-l (isOfCase c) _ h))
 
-of-form : (l : List ℕ) → all isByte l ≡ true → wellFormed l ≡ true → (fits (commandOf l) ≡ true) × (bytesOf (commandOf l) ≡ l)
-unfolding wellFormed fits bytesOf fieldsIn
+pub written-reads : WrittenReads
+written-reads lent c e =
+    let w : isWritten lent c ≡ true = write-says lent c e in
+    ap (λ (t : Bool). readOf (cond t (bytesFor c) lent)) w ∙ bytes-read c (and-r (eqb (length lent) commandSize) _ w)
+
+of-form : (l : List ℕ) → all isByte l ≡ true → wellFormed l ≡ true → (isWritable (commandOf l) ≡ true) × (bytesFor (commandOf l) ≡ l)
+unfolding wellFormed isWritable bytesFor fieldsIn
 of-form l bytes h =
     let size : length l ≡ commandSize = eqb-true _ _ (and-l (eqb (length l) commandSize) _ h) in
     let k : formed (fieldsIn l) ≡ true = and-r (eqb (length l) commandSize) _ h in
@@ -159,8 +166,14 @@ of-form l bytes h =
       ap encoded (b .1) ∙ by-five (λ m. all isByte m ≡ true → encoded (fieldsIn m) ≡ m) encoded-fields l size bytes,
     )
 
--- What is read can be written, and writes back to its bytes.
-pub read-writes : (l : List ℕ) (c : Command) → all isByte l ≡ true → readOf l ≡ Asks c → (fits c ≡ true) × (bytesOf c ≡ l)
-read-writes l c bytes e =
+-- what is read is writable, and its bytes are those read
+read-bytes : (l : List ℕ) (c : Command) → all isByte l ≡ true → readOf l ≡ Asks c → (isWritable c ≡ true) × (bytesFor c ≡ l)
+read-bytes l c bytes e =
     let r = read-asks l c e in
-    subst (λ (d : Command). (fits d ≡ true) × (bytesOf d ≡ l)) (r .1) (of-form l bytes (r .0))
+    subst (λ (d : Command). (isWritable d ≡ true) × (bytesFor d ≡ l)) (r .1) (of-form l bytes (r .0))
+
+pub read-writes : ReadWrites
+read-writes bytes lent c small size e =
+    let r = read-bytes bytes c small e in
+    let w = write-fit lent c true size (r .0) in
+    record { says = sym (w .0); leaves = sym (w .1) ∙ r .1 }

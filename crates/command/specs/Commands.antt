@@ -12,6 +12,8 @@ use Rattle.command.specs.declared.Command.the-variants.{Of, WideMove}
 use Rattle.command.specs.declared.Fields.{Fields}
 use Rattle.command.specs.declared.Reading.{Reading}
 use Rattle.command.specs.declared.Reading.the-variants.{Asks, Malformed}
+use Rattle.command.specs.declared.Writing.{Writing}
+use Rattle.command.specs.declared.Writing.the-variants.{Malformed as Writing·Malformed, Written}
 
 -- The bytes of a command, the known operations, and the one that has a block.
 abbrev pub commandSize : ℕ
@@ -58,38 +60,38 @@ abbrev pub mostMask : ℕ
 mostMask = 255
 
 -- The transaction, the card, the record or block and the value or mask are at most these.
-unfoldable pub within : ℕ → ℕ → ℕ → ℕ → Fields → Bool
-within tran card number value f =
+unfoldable pub fieldsWithin : ℕ → ℕ → ℕ → ℕ → Fields → Bool
+fieldsWithin tran card number value f =
     leb (f .tran) tran && (leb (f .card) card && (leb (f .number) number && leb (f .value) value))
 
 -- "Fields that an operation lacks are zero, and a mask is below 256": the form of each known operation.
 abbrev pub forms : List (Fields → Bool)
 forms =
     -- 0 start
-    within 0 0 0 mostMask
+    fieldsWithin 0 0 0 mostMask
     -- 1 begin
-    ∷ within mostTran mostCard 0 0
+    ∷ fieldsWithin mostTran mostCard 0 0
     -- 2 get, 3 store, 4 delete
-    ∷ within mostTran 0 mostNumber 0
-    ∷ within mostTran 0 mostNumber mostValue
-    ∷ within mostTran 0 mostNumber 0
+    ∷ fieldsWithin mostTran 0 mostNumber 0
+    ∷ fieldsWithin mostTran 0 mostNumber mostValue
+    ∷ fieldsWithin mostTran 0 mostNumber 0
     -- 5 commit, 6 rollback
-    ∷ within mostTran 0 0 0
-    ∷ within mostTran 0 0 0
+    ∷ fieldsWithin mostTran 0 0 0
+    ∷ fieldsWithin mostTran 0 0 0
     -- 7 fit, 8 withdraw
-    ∷ within 0 mostCard 0 0
-    ∷ within 0 mostCard 0 0
+    ∷ fieldsWithin 0 mostCard 0 0
+    ∷ fieldsWithin 0 mostCard 0 0
     -- 9 place
-    ∷ within 0 0 0 mostMask
+    ∷ fieldsWithin 0 0 0 mostMask
     -- 10 fail
-    ∷ within 0 mostCard 0 0
+    ∷ fieldsWithin 0 mostCard 0 0
     -- 11 move
-    ∷ within 0 mostCard mostNumber 0
+    ∷ fieldsWithin 0 mostCard mostNumber 0
     -- 12 settle, 13 state
-    ∷ within 0 0 0 0
-    ∷ within 0 0 0 0
+    ∷ fieldsWithin 0 0 0 0
+    ∷ fieldsWithin 0 0 0 0
     -- 14 load
-    ∷ within 0 mostCard 0 0
+    ∷ fieldsWithin 0 mostCard 0 0
     ∷ []
 
 -- "Operations 0 to 14 are known, and 15 is malformed": known, and of its form.
@@ -180,8 +182,8 @@ isOfCase (Of call) = not (isWideMove (callFields call))
 isOfCase (WideMove c n) = ltb mostBlock n
 
 -- "The writer refuses alike, also a number too wide for its field": the command is of its case, and its fields formed.
-unfoldable pub fits : Command → Bool
-fits command = isOfCase command && formed (fieldsFor command)
+unfoldable pub isWritable : Command → Bool
+isWritable command = isOfCase command && formed (fieldsFor command)
 
 -- The five bytes with these fields, and those of a command.
 abbrev pub encoded : Fields → List ℕ
@@ -193,12 +195,28 @@ encoded f =
     ∷ (f .value % 2 ^ 8)
     ∷ []
 
-unfoldable pub bytesOf : Command → List ℕ
-bytesOf command = encoded (fieldsFor command)
+unfoldable pub bytesFor : Command → List ℕ
+bytesFor command = encoded (fieldsFor command)
 
--- Whether the writer writes, and the lent bytes after it: "then leaves its lent bytes as found".
-abbrev pub written : List ℕ → Command → Bool
-written l command = eqb (length l) commandSize && fits command
+-- "Reader and writer refuse 15 for any length but five bytes": whether the writer writes, what it says, and the lent bytes
+-- after it: "then leaves its lent bytes as found".
+abbrev pub isWritten : List ℕ → Command → Bool
+isWritten l command = eqb (length l) commandSize && isWritable command
 
-abbrev pub leftBy : List ℕ → Command → List ℕ
-leftBy l command = cond (written l command) (bytesOf command) l
+unfoldable pub writeOf : List ℕ → Command → Writing
+writeOf l command = cond (isWritten l command) Written Writing·Malformed
+
+abbrev pub writeLeaves : List ℕ → Command → List ℕ
+writeLeaves l command = cond (isWritten l command) (bytesFor command) l
+
+-- 15 is "command malformed": the number that reader and writer refuse with, and 0 where they do not refuse.
+abbrev pub malformed : ℕ
+malformed = 15
+
+abbrev pub readingRefusal : Reading → ℕ
+readingRefusal (Asks command) = 0
+readingRefusal Malformed = malformed
+
+abbrev pub writingRefusal : Writing → ℕ
+writingRefusal Written = 0
+writingRefusal Writing·Malformed = malformed

@@ -13,17 +13,14 @@ use Rattle.promise.specs.declared.Call.{Call as CallValue}
 use Rattle.promise.specs.declared.Call.the-variants.{Move}
 use Rattle.command.specs.declared.Command.{Command}
 use Rattle.command.specs.declared.Command.the-variants.{Of, WideMove}
-use Rattle.command.specs.Commands.{commandOf, mostBlock, wellFormed}
+use Rattle.command.specs.Commands.{commandOf, malformed, mostBlock, wellFormed}
 
 -- The call of the rules that a command asks for: a wide move has its own number there.
 abbrev pub ruled : Command → Call cabinet
 ruled (Of call) = asked call
 ruled (WideMove c n) = move (c .0) n
 
--- 15 is "command malformed", and "Command form comes before all others": what the bytes of a command are answered.
-abbrev pub malformed : ℕ
-malformed = 15
-
+-- "Command form comes before all others": what the bytes of a command are answered.
 unfoldable pub commandAnswer : List ℕ → Image → Answer cabinet
 commandAnswer l g = cond (wellFormed l) (answer (ruled (commandOf l)) g) (refused malformed)
 

@@ -11,13 +11,13 @@ ghost use Rattle.command.specs.Commands.{
   fieldsFor,
   fieldsGiven,
   fieldsOf,
-  fits,
+  fieldsWithin,
   formed,
   isWideMove,
-  leftBy,
+  isWritable,
   readOf,
-  within,
-  written,
+  writeLeaves,
+  writeOf,
 };
 ghost use Rattle.command.specs.Meaning.{blockFor, callFor};
 use image::Block;
@@ -91,6 +91,12 @@ pub enum Reading {
     Malformed,
 }
 
+// Whether a command was written.
+pub enum Writing {
+    Written,
+    Malformed,
+}
+
 // The fields of a command. The number is a record's or a block's, the value may be a mask.
 pub struct Fields {
     pub operation: u8,
@@ -115,7 +121,7 @@ fn decode(a: u8, b: u8, c: u8, d: u8, e: u8) -> Fields
 
 // Whether each field is at most its limit.
 fn is_within(f: Fields, tran: u8, card: u8, number: u16, value: u16) -> bool
-    ensures { λ r. ⌜ r ≡ within tran card number value f ⌝ }
+    ensures { λ r. ⌜ r ≡ fieldsWithin tran card number value f ⌝ }
 {
     if f.tran > tran {
         return false;
@@ -256,8 +262,8 @@ fn fields_for(command: Command) -> Fields
 }
 
 // Whether the command can be written. A wide move of a number that a block can have is not of its form.
-fn is_fit(command: Command) -> bool
-    ensures { λ r. ⌜ r ≡ fits command ⌝ }
+fn is_writable(command: Command) -> bool
+    ensures { λ r. ⌜ r ≡ isWritable command ⌝ }
 {
     match command {
         Command::Of(call) => return is_formed(call_fields(call)),
@@ -284,18 +290,18 @@ fn encode(bytes: &mut [u8], f: Fields)
 }
 
 // Writes a command: whether it was written. Refused, the bytes stay as found.
-pub fn write(bytes: &mut [u8], command: Command) -> bool
-    ensures { λ r. ⌜ (r ≡ written (now (bytes .entry)) command)
-        × (now (bytes .exit) ≡ leftBy (now (bytes .entry)) command) ⌝ }
+pub fn write(bytes: &mut [u8], command: Command) -> Writing
+    ensures { λ r. ⌜ (r ≡ writeOf (now (bytes .entry)) command)
+        × (now (bytes .exit) ≡ writeLeaves (now (bytes .entry)) command) ⌝ }
 {
     if bytes.len() != SIZE {
-        return false;
+        return Writing::Malformed;
     }
-    if is_fit(command) {
+    if is_writable(command) {
         encode(bytes, fields_for(command));
-        return true;
+        return Writing::Written;
     }
-    false
+    Writing::Malformed
 }
 
 // The block of the call that performs a move of this number.

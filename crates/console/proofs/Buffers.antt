@@ -34,9 +34,9 @@ drop-taken l e m h k =
     let s : m ≡ e + (m - e) = omega arith in
     ap (λ (j : ℕ). drop e (take j l)) s ∙ ap (drop e) (take-add e (m - e) l) ∙ drop-at (take e l) (take (m - e) (drop e l)) e (length-take-le e l (omega arith))
 
-pub size-le : (n : ℕ) (last : Bool) → performedSize n last ≤ n
-size-le n true = omega arith
-size-le n false = omega arith
+pub performed-le : (n : ℕ) (last : Bool) → performedSize n last ≤ n
+performed-le n true = omega arith
+performed-le n false = omega arith
 
 pub rest-short : (n : ℕ) (last : Bool) → n - performedSize n last < commandSize
 rest-short n true = omega arith
@@ -58,7 +58,7 @@ pub performed-is : (number w got : ℕ) (l : List ℕ) (g : Image) → w + got �
 unfolding performed
 performed-is number w got l g h =
     (λ i. take (performedSize (held-length number w got l g h i) (eqb (length-segment l w got h i) 0)) (held-is number w got l g i))
-    ∙ take-take (performedSize (w + got) (eqb got 0)) (w + got) l (size-le (w + got) (eqb got 0))
+    ∙ take-take (performedSize (w + got) (eqb got 0)) (w + got) l (performed-le (w + got) (eqb got 0))
 
 pub cut-is : (number w got : ℕ) (l : List ℕ) (g : Image) → w + got ≤ length l
     → cut (at number w l g) (segment l w got)
@@ -66,4 +66,4 @@ pub cut-is : (number w got : ℕ) (l : List ℕ) (g : Image) → w + got ≤ len
 unfolding cut
 cut-is number w got l g h =
     (λ i. drop (performedSize (held-length number w got l g h i) (eqb (length-segment l w got h i) 0)) (held-is number w got l g i))
-    ∙ drop-taken l (performedSize (w + got) (eqb got 0)) (w + got) (size-le (w + got) (eqb got 0)) h
+    ∙ drop-taken l (performedSize (w + got) (eqb got 0)) (w + got) (performed-le (w + got) (eqb got 0)) h

@@ -14,11 +14,11 @@ use borrow.Rule.Slice.PartMut.{putMid}
 use Rattle.lists.proofs.Bools.{and-l, and-r, not-is, tf}
 use Rattle.cabinet_rules.specs.Images.{Image}
 use Rattle.command.specs.Commands.{commandSize}
-use Rattle.listing.specs.Listing.{InParts, commandCount, imageAfter}
+use Rattle.listing.specs.Listing.{InParts, commandCount, imageBehind}
 use Rattle.listing.proofs.Parts.{in-parts}
 use Rattle.console.specs.declared.Position.{Position}
 use Rattle.console.specs.declared.Step.{Step}
-use Rattle.console.specs.Readings.{Advanced, RanSome, ReadSome, Standing, cut, goesOn, isLast, numbersFit, performed}
+use Rattle.console.specs.Readings.{Advanced, RanSome, ReadSome, Standing, cut, goesOn, isEnd, numbersFit, performed}
 use Rattle.console.specs.Readings.{standing, standingAfter}
 use Rattle.console.proofs.AllListed.{whole-parts, whole-size}
 
@@ -53,14 +53,14 @@ read-stop {s} {s′} {r} {out} {left} {b} {step} {g} n w e a =
     })
 
 -- ---- the bytes read rise
-some-bytes : (s : Standing) (r : List ℕ) → goesOn s r ≡ true → isLast r ≡ false
-some-bytes s r h = not-is (isLast r) (and-l (not (isLast r)) (ltb (s .number + commandCount (performed s r)) (2 ^ 64)) h)
+some-bytes : (s : Standing) (r : List ℕ) → goesOn s r ≡ true → isEnd r ≡ false
+some-bytes s r h = not-is (isEnd r) (and-l (not (isEnd r)) (ltb (s .number + commandCount (performed s r)) (2 ^ 64)) h)
 
 pub rises : (s : Standing) (next : Position) (b : List ℕ) (g : Image) → ReadSome s next b g → next .more ≡ true
     → s .number * commandSize + length (s .waiting) < next .number * commandSize + next .waiting
 rises s next b g a h =
     let r : List ℕ = a .reading in
-    let some : isLast r ≡ false = some-bytes s r (a .goes h) in
+    let some : isEnd r ≡ false = some-bytes s r (a .goes h) in
     let n : next .number ≡ s .number + commandCount (performed s r) = ap (λ (x : Standing). x .number) (a .stands h) in
     let w : length (take (next .waiting) b) ≡ length (cut s r) = ap (λ (x : Standing). length (x .waiting)) (a .stands h) in
     let m : length (take (next .waiting) b) ≤ next .waiting = subst (λ (k : ℕ). k ≤ next .waiting) (sym (length-take (next .waiting) b)) (min-le-left (next .waiting) (length b)) in
@@ -74,21 +74,21 @@ pub below : (s : Standing) (next : Position) (b : List ℕ) (g : Image) → Read
 below s next b g a h =
     let n : ℕ = s .number + commandCount (performed s (a .reading)) in
     subst (λ (k : ℕ). k < 2 ^ 64) (sym (ap (λ (x : Standing). x .number) (a .stands h)))
-    (ltb-true n (2 ^ 64) (and-r (not (isLast (a .reading))) (ltb n (2 ^ 64)) (a .goes h)))
+    (ltb-true n (2 ^ 64) (and-r (not (isEnd (a .reading))) (ltb n (2 ^ 64)) (a .goes h)))
 
 -- how far the numbers can still rise
-abbrev room : Position → ℕ
-room at = 2 ^ 64 * commandSize - (at .number * commandSize + at .waiting) + 1
+abbrev bytesLeft : Position → ℕ
+bytesLeft at = 2 ^ 64 * commandSize - (at .number * commandSize + at .waiting) + 1
 
-abbrev pub left : Position → ℕ
-left at = cond (at .more) (room at) 0
+abbrev pub turnsLeft : Position → ℕ
+turnsLeft at = cond (at .more) (bytesLeft at) 0
 
 pub falls : (at next : Position) → at .more ≡ true → next .waiting < commandSize
     → (next .more ≡ true → at .number * commandSize + at .waiting < next .number * commandSize + next .waiting)
-    → (next .more ≡ true → next .number < 2 ^ 64) → left next < left at
-falls at next h w f n = subst (λ (k : ℕ). left next < k) (sym (ap (λ (t : Bool). cond t (room at) 0) h)) (go (next .more) refl)
+    → (next .more ≡ true → next .number < 2 ^ 64) → turnsLeft next < turnsLeft at
+falls at next h w f n = subst (λ (k : ℕ). turnsLeft next < k) (sym (ap (λ (t : Bool). cond t (bytesLeft at) 0) h)) (go (next .more) refl)
   where
-    go : (t : Bool) → next .more ≡ t → cond t (room next) 0 < room at
+    go : (t : Bool) → next .more ≡ t → cond t (bytesLeft next) 0 < bytesLeft at
     go true e = omega (arith, f e, w, n e)
     go false e = omega arith
 
@@ -96,11 +96,11 @@ falls at next h w f n = subst (λ (k : ℕ). left next < k) (sym (ap (λ (t : Bo
 -- the image is the one after an input's commands, which are whole while the program goes on
 pub record Performed (first now : Image) (more : Bool) : Type 0 where
   pub input : List ℕ
-  pub leaves : now ≡ imageAfter input first (commandCount input)
+  pub leaves : now ≡ imageBehind input first (commandCount input)
   pub whole : more ≡ true → length input ≡ commandCount input * commandSize
 
 pub none-performed : (g : Image) → Performed g g true
-unfolding imageAfter
+unfolding imageBehind
 none-performed g = record { input = []; leaves = refl; whole = λ h. refl }
 
 pub more-performed : (g : Image) (s : Standing) (next : Position) (b : List ℕ) (h : Image) → Performed g (s .image) true → ReadSome s next b h
@@ -128,8 +128,8 @@ more-performed g s next b h p a = go (numbersFit s (a .reading)) refl
         record {
           input = l ++ x;
           leaves = a .leaves ∙ ap (λ (t : Bool). cond t (standingAfter s r .image) (s .image)) e
-              ∙ ap (λ (m : Image). imageAfter x m (commandCount x)) (p .leaves)
-              ∙ sym (parts .leaves (commandCount x)) ∙ ap (imageAfter (l ++ x) g) (sym c);
+              ∙ ap (λ (m : Image). imageBehind x m (commandCount x)) (p .leaves)
+              ∙ sym (parts .leaves (commandCount x)) ∙ ap (imageBehind (l ++ x) g) (sym c);
           whole = λ m. omega (arith, n, c, k, size m);
         }
     go false e =
@@ -137,7 +137,7 @@ more-performed g s next b h p a = go (numbersFit s (a .reading)) refl
           input = l;
           leaves = a .leaves ∙ ap (λ (t : Bool). cond t (standingAfter s r .image) (s .image)) e ∙ p .leaves;
           whole = λ m.
-              let below : s .number + commandCount x < 2 ^ 64 = ltb-true (s .number + commandCount x) (2 ^ 64) (and-r (not (isLast r)) (ltb (s .number + commandCount x) (2 ^ 64)) (a .goes m)) in
+              let below : s .number + commandCount x < 2 ^ 64 = ltb-true (s .number + commandCount x) (2 ^ 64) (and-r (not (isEnd r)) (ltb (s .number + commandCount x) (2 ^ 64)) (a .goes m)) in
               absurd (omega (arith, below, leb-false (s .number + commandCount x) (2 ^ 64) e));
         }
 

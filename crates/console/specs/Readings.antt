@@ -9,7 +9,7 @@ use mathlib.Core.Path.{_≡_}
 use Rattle.cabinet_rules.specs.Images.{Image}
 use Rattle.command.specs.Commands.{commandSize}
 use Rattle.lines.specs.Text.{Puts}
-use Rattle.listing.specs.Listing.{commandCount, imageAfter, listing}
+use Rattle.listing.specs.Listing.{commandCount, imageBehind, listing}
 use Rattle.console.specs.declared.Position.{Position}
 use Rattle.console.specs.declared.Step.{Step}
 
@@ -25,8 +25,8 @@ abbrev pub atFirst : Image → Standing
 atFirst g = record { number = 1; waiting = []; image = g }
 
 -- A reading that gives no byte is the end of the input.
-abbrev pub isLast : List ℕ → Bool
-isLast reading = eqb (length reading) 0
+abbrev pub isEnd : List ℕ → Bool
+isEnd reading = eqb (length reading) 0
 
 -- Of so many bytes those of whole commands; at the end of the input all, as its last command may be short.
 abbrev pub performedSize : ℕ → Bool → ℕ
@@ -38,10 +38,10 @@ abbrev pub heldBytes : Standing → List ℕ → List ℕ
 heldBytes s reading = s .waiting ++ reading
 
 unfoldable pub performed : Standing → List ℕ → List ℕ
-performed s reading = take (performedSize (length (heldBytes s reading)) (isLast reading)) (heldBytes s reading)
+performed s reading = take (performedSize (length (heldBytes s reading)) (isEnd reading)) (heldBytes s reading)
 
 unfoldable pub cut : Standing → List ℕ → List ℕ
-cut s reading = drop (performedSize (length (heldBytes s reading)) (isLast reading)) (heldBytes s reading)
+cut s reading = drop (performedSize (length (heldBytes s reading)) (isEnd reading)) (heldBytes s reading)
 
 -- The lines that a reading adds to the listing, and where the program stands after it.
 abbrev pub linesOf : Standing → List ℕ → List ℕ
@@ -51,7 +51,7 @@ abbrev pub standingAfter : Standing → List ℕ → Standing
 standingAfter s reading = record {
   number = s .number + commandCount (performed s reading);
   waiting = cut s reading;
-  image = imageAfter (performed s reading) (s .image) (commandCount (performed s reading));
+  image = imageBehind (performed s reading) (s .image) (commandCount (performed s reading));
 }
 
 -- All lines of an input that comes in these readings, and the image behind it. Behind the last reading the input ends.
@@ -64,19 +64,19 @@ imageOver s [] = standingAfter s [] .image
 imageOver s (reading ∷ rest) = imageOver (standingAfter s reading) rest
 
 -- The bytes of the readings, one behind the other.
-unfoldable pub joined : List (List ℕ) → List ℕ
-joined [] = []
-joined (reading ∷ rest) = reading ++ joined rest
+unfoldable pub allBytes : List (List ℕ) → List ℕ
+allBytes [] = []
+allBytes (reading ∷ rest) = reading ++ allBytes rest
 
 -- However an input is cut into readings, each of a byte at least, the lines are the listing of everything read, from 1 on,
 -- and the image is the one that all its commands leave.
 unfoldable pub noneEmpty : List (List ℕ) → Bool
 noneEmpty [] = true
-noneEmpty (reading ∷ rest) = not (isLast reading) && noneEmpty rest
+noneEmpty (reading ∷ rest) = not (isEnd reading) && noneEmpty rest
 
 pub record ListsAll (g : Image) (readings : List (List ℕ)) : Type 0 where
-  pub prints : linesOver (atFirst g) readings ≡ listing 1 (joined readings) g (commandCount (joined readings))
-  pub leaves : imageOver (atFirst g) readings ≡ imageAfter (joined readings) g (commandCount (joined readings))
+  pub prints : linesOver (atFirst g) readings ≡ listing 1 (allBytes readings) g (commandCount (allBytes readings))
+  pub leaves : imageOver (atFirst g) readings ≡ imageBehind (allBytes readings) g (commandCount (allBytes readings))
 
 abbrev pub AllListed : Type 0
 AllListed = (g : Image) (readings : List (List ℕ)) → noneEmpty readings ≡ true → ListsAll g readings
@@ -87,7 +87,7 @@ abbrev pub numbersFit : Standing → List ℕ → Bool
 numbersFit s reading = leb (s .number + commandCount (performed s reading)) (2 ^ 64)
 
 abbrev pub goesOn : Standing → List ℕ → Bool
-goesOn s reading = not (isLast reading) && ltb (s .number + commandCount (performed s reading)) (2 ^ 64)
+goesOn s reading = not (isEnd reading) && ltb (s .number + commandCount (performed s reading)) (2 ^ 64)
 
 -- The program's position before the first reading, and behind so many commands, where so many bytes wait.
 abbrev pub firstPosition : Position
@@ -120,4 +120,4 @@ pub record ReadSome (s : Standing) (next : Position) (buffer : List ℕ) (behind
 -- The image behind is the one that all commands of an input leave, an input of the operating system's choice.
 pub record RanSome (before behind : Image) : Type 0 where
   pub input : List ℕ
-  pub leaves : behind ≡ imageAfter input before (commandCount input)
+  pub leaves : behind ≡ imageBehind input before (commandCount input)

@@ -26,11 +26,11 @@ words (loaded n) = text "load " ++ decimal n
 words (refused n) = text "refused " ++ decimal n
 
 -- "Each line: command number from 1, its hex digits, the answer". A newline ends it.
-abbrev pub head : ℕ → List ℕ → List ℕ
-head n command = decimal n ++ text " " ++ hexBytes command ++ text " "
+abbrev pub lineHead : ℕ → List ℕ → List ℕ
+lineHead n command = decimal n ++ text " " ++ hexBytes command ++ text " "
 
 unfoldable pub line : ℕ → List ℕ → Answer cabinet → List ℕ
-line n command a = head n command ++ words a ++ text "\n"
+line n command a = lineHead n command ++ words a ++ text "\n"
 
 -- The longest answer has 11 letters. The words of an answer in a buffer: none where that one has no room.
 abbrev pub longestAnswer : ℕ
@@ -46,3 +46,7 @@ longestLine bytes = 20 + 1 + 2 * bytes + 1 + longestAnswer + 1
 -- A buffer has room for any line of this command.
 unfoldable pub hasRoom : List ℕ → List ℕ → Bool
 hasRoom out command = leb (longestLine (length command)) (length out)
+
+-- The line of a command in a buffer: none where it has no room for any line of this command.
+unfoldable pub lineIn : List ℕ → ℕ → List ℕ → Answer cabinet → List ℕ
+lineIn out n command a = cond (hasRoom out command) (line n command a) []

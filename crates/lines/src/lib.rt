@@ -7,7 +7,7 @@ ghost use mathlib.Core.Path.{_≡_};
 ghost use lib.ListN.{length};
 ghost use Rattle.promise.specs.Promise.{shown};
 ghost use Rattle.lines.specs.Text.{Puts, decimal, hexByte, text};
-ghost use Rattle.lines.specs.Lines.{hasRoom, head, line, longestAnswer, longestLine, words, wordsIn};
+ghost use Rattle.lines.specs.Lines.{hasRoom, line, lineHead, lineIn, longestAnswer, longestLine, words, wordsIn};
 use crate::text::put_byte;
 use crate::text::put_decimal;
 use crate::text::put_hex;
@@ -88,7 +88,7 @@ pub fn put_words(out: &mut [u8], answer: Answer) -> usize
 // The number and the digits of a line, with a space behind each.
 fn put_head(out: &mut [u8], number: u64, command: &[u8]) -> usize
     requires { ⌜ longestLine (length (now command)) ≤ length (now out) ⌝ }
-    ensures { λ r. ⌜ Puts (head number (now (command .entry))) (now (out .entry)) 0 r (now (out .exit)) ⌝ }
+    ensures { λ r. ⌜ Puts (lineHead number (now (command .entry))) (now (out .entry)) 0 r (now (out .exit)) ⌝ }
 {
     let behind_number = put_decimal(out, 0, number);
     let at = put_byte(out, behind_number, b' ');
@@ -97,7 +97,7 @@ fn put_head(out: &mut [u8], number: u64, command: &[u8]) -> usize
 }
 
 // A line at the start of the buffer, which has room for it.
-pub fn put_line(out: &mut [u8], number: u64, command: &[u8], answer: Answer) -> usize
+fn put_whole_line(out: &mut [u8], number: u64, command: &[u8], answer: Answer) -> usize
     requires { ⌜ longestLine (length (now command)) ≤ length (now out) ⌝ }
     ensures { λ r. ⌜ Puts (line number (now (command .entry)) (shown answer)) (now (out .entry)) 0 r (now (out .exit))
         × (r ≤ longestLine (length (now (command .entry)))) ⌝ }
@@ -105,4 +105,17 @@ pub fn put_line(out: &mut [u8], number: u64, command: &[u8], answer: Answer) -> 
     let at = put_head(out, number, command);
     let behind_answer = put_answer(out, at, answer);
     put_byte(out, behind_answer, b'\n')
+}
+
+// Puts a line at the start of the buffer: the number of bytes put. Where there is no room for the longest line of this
+// command nothing is put, and the answer is 0.
+pub fn put_line(out: &mut [u8], number: u64, command: &[u8], answer: Answer) -> usize
+    ensures { λ r. ⌜ Puts (lineIn (now (out .entry)) number (now (command .entry)) (shown answer)) (now (out .entry)) 0 r
+        (now (out .exit))
+        × (r ≤ longestLine (length (now (command .entry)))) ⌝ }
+{
+    if !has_room(out, command) {
+        return 0;
+    }
+    put_whole_line(out, number, command, answer)
 }

@@ -19,16 +19,13 @@ use Rattle.promise.specs.Promise.{shown}
 use Rattle.promise.specs.declared.Answer.{Answer}
 use Rattle.command.specs.Commands.{commandSize}
 use Rattle.command.specs.Meaning.{Obeyed, commandNext}
-use Rattle.lines.specs.Lines.{hasRoom, line, longestLine}
-use Rattle.listing.specs.Listing.{Ran, Stepped, commandBytes, commandCount, fits, imageAfter, lineOn, listing}
+use Rattle.lines.specs.Lines.{hasRoom, line, lineIn, longestLine}
+use Rattle.listing.specs.Listing.{Listed, Stepped, commandBytes, commandCount, hasRoomForAll, imageBehind, lineOn, listing}
 use Rattle.lines.specs.Text.{Puts}
+use Rattle.lines.proofs.Lines.{line-there}
 use Rattle.lines.proofs.Puts.{puts-next, puts-none, puts-part, puts-same}
 
 -- ---- one command
-pub room-is : (out command : List ℕ) → hasRoom out command ≡ true → longestLine (length command) ≤ length out
-unfolding hasRoom
-room-is out command h = leb-true (longestLine (length command)) (length out) h
-
 -- what is chosen by a test that is known
 abbrev Chosen : ℕ → List ℕ → List ℕ → Image → ℕ → List ℕ → Image → Bool → Type 0
 Chosen n command out g end o g′ t =
@@ -44,9 +41,9 @@ pub no-step : (n : ℕ) (command out : List ℕ) (g : Image) → false ≡ hasRo
 no-step n command out g h = chosen n command out g 0 out g false h (puts-none out 0 zero-le, refl)
 
 pub one-step : (n : ℕ) (command out : List ℕ) (g : Image) (a : Answer) (end : ℕ) (o : List ℕ) (g′ : Image) → true ≡ hasRoom out command
-    → Obeyed command g a g′ → Puts (line n command (shown a)) out 0 end o → Stepped n command out g end o g′
+    → Obeyed command g a g′ → Puts (lineIn out n command (shown a)) out 0 end o → Stepped n command out g end o g′
 one-step n command out g a end o g′ h d p =
-    chosen n command out g end o g′ true h (puts-same (ap (line n command) (d .answers)) p, d .leaves)
+    chosen n command out g end o g′ true h (puts-same (sym (line-there out command n (shown a) (sym h)) ∙ ap (line n command) (d .answers)) p, d .leaves)
 
 -- with room, a step is the line and the image after the command
 pub stepped : {n : ℕ} {command out : List ℕ} {g : Image} {end : ℕ} {o : List ℕ} {g′ : Image} → hasRoom out command ≡ true → Stepped n command out g end o g′
@@ -85,54 +82,54 @@ turned n at end k start stop i input out part g g′ e f h r s m =
 
 -- ---- a run
 -- one line more, and the image after one command more
-pub listing-more : (n i at end : ℕ) (input out o o′ : List ℕ) (g h : Image) → h ≡ imageAfter input g i → Puts (listing n input g i) out 0 at o
+pub listing-more : (n i at end : ℕ) (input out o o′ : List ℕ) (g h : Image) → h ≡ imageBehind input g i → Puts (listing n input g i) out 0 at o
     → Puts (lineOn (n + i) (commandBytes input i) h) o at end o′ → end ≤ length out → Puts (listing n input g (i + 1)) out 0 end o′
 unfolding listing
 listing-more n i at end input out o o′ g h e p q m =
     puts-same (ap (λ (k : Image). listing n input g i ++ lineOn (n + i) (commandBytes input i) k) e ∙ ap (listing n input g) (sym (add-one i))) (puts-next p q m)
 
-pub image-more : (i : ℕ) (input : List ℕ) (g h h′ : Image) → h ≡ imageAfter input g i → h′ ≡ commandNext (commandBytes input i) h → h′ ≡ imageAfter input g (i + 1)
-unfolding imageAfter
-image-more i input g h h′ e f = f ∙ ap (commandNext (commandBytes input i)) e ∙ ap (imageAfter input g) (sym (add-one i))
+pub image-more : (i : ℕ) (input : List ℕ) (g h h′ : Image) → h ≡ imageBehind input g i → h′ ≡ commandNext (commandBytes input i) h → h′ ≡ imageBehind input g (i + 1)
+unfolding imageBehind
+image-more i input g h h′ e f = f ∙ ap (commandNext (commandBytes input i)) e ∙ ap (imageBehind input g) (sym (add-one i))
 
 -- what is chosen by a test that is known
-abbrev RanBy : ℕ → List ℕ → List ℕ → Image → ℕ → List ℕ → Image → Bool → Type 0
-RanBy n input out g end o g′ t =
+abbrev ListedBy : ℕ → List ℕ → List ℕ → Image → ℕ → List ℕ → Image → Bool → Type 0
+ListedBy n input out g end o g′ t =
     Puts (cond t (listing n input g (commandCount input)) []) out 0 end o
-    × (g′ ≡ cond t (imageAfter input g (commandCount input)) g)
+    × (g′ ≡ cond t (imageBehind input g (commandCount input)) g)
 
-ran-by : (n : ℕ) (input out : List ℕ) (g : Image) (end : ℕ) (o : List ℕ) (g′ : Image) (t : Bool) → t ≡ fits n input out
-    → RanBy n input out g end o g′ t → Ran n input out g end o g′
-ran-by n input out g end o g′ t e p =
-    let q = subst (RanBy n input out g end o g′) e p in
+listed-by : (n : ℕ) (input out : List ℕ) (g : Image) (end : ℕ) (o : List ℕ) (g′ : Image) (t : Bool) → t ≡ hasRoomForAll n input out
+    → ListedBy n input out g end o g′ t → Listed n input out g end o g′
+listed-by n input out g end o g′ t e p =
+    let q = subst (ListedBy n input out g end o g′) e p in
     record { prints = q .0; leaves = q .1 }
 
-pub no-run : (n : ℕ) (input out : List ℕ) (g : Image) → false ≡ fits n input out → Ran n input out g 0 out g
-no-run n input out g h = ran-by n input out g 0 out g false h (puts-none out 0 zero-le, refl)
+pub no-run : (n : ℕ) (input out : List ℕ) (g : Image) → false ≡ hasRoomForAll n input out → Listed n input out g 0 out g
+no-run n input out g h = listed-by n input out g 0 out g false h (puts-none out 0 zero-le, refl)
 
-pub whole-run : (n i end : ℕ) (input out o : List ℕ) (g g′ : Image) → true ≡ fits n input out → i ≡ commandCount input
-    → Puts (listing n input g i) out 0 end o → g′ ≡ imageAfter input g i → Ran n input out g end o g′
+pub whole-run : (n i end : ℕ) (input out o : List ℕ) (g g′ : Image) → true ≡ hasRoomForAll n input out → i ≡ commandCount input
+    → Puts (listing n input g i) out 0 end o → g′ ≡ imageBehind input g i → Listed n input out g end o g′
 whole-run n i end input out o g g′ h e p q =
-    ran-by n input out g end o g′ true h (puts-same (ap (listing n input g) e) p, q ∙ ap (imageAfter input g) e)
+    listed-by n input out g end o g′ true h (puts-same (ap (listing n input g) e) p, q ∙ ap (imageBehind input g) e)
 
--- ---- what fits
-pub fits-out : (n : ℕ) (input out : List ℕ) → fits n input out ≡ true
+-- ---- room for all
+pub room-out : (n : ℕ) (input out : List ℕ) → hasRoomForAll n input out ≡ true
     → (commandCount input * longestLine commandSize ≤ length out) × (n + commandCount input ≤ 2 ^ 64)
-unfolding fits
-fits-out n input out h = (
+unfolding hasRoomForAll
+room-out n input out h = (
   leb-true (commandCount input * longestLine commandSize) (length out) (and-l (leb (commandCount input * longestLine commandSize) (length out)) _ h),
   leb-true (n + commandCount input) (2 ^ 64) (and-r (leb (commandCount input * longestLine commandSize) (length out)) _ h),
 )
 
-pub fits-not : (n : ℕ) (input out : List ℕ) → length out / longestLine commandSize < commandCount input → false ≡ fits n input out
-unfolding fits
-fits-not n input out h =
+pub room-not : (n : ℕ) (input out : List ℕ) → length out / longestLine commandSize < commandCount input → false ≡ hasRoomForAll n input out
+unfolding hasRoomForAll
+room-not n input out h =
     sym (ap (λ (t : Bool). t && leb (n + commandCount input) (2 ^ 64)) (lt-leb (commandCount input * longestLine commandSize) (length out) (omega arith)))
 
-pub fits-by : (n : ℕ) (input out : List ℕ) (t : Bool) → commandCount input ≤ length out / longestLine commandSize → t ≡ leb (n + commandCount input) (2 ^ 64)
-    → t ≡ fits n input out
-unfolding fits
-fits-by n input out t h e =
+pub room-by : (n : ℕ) (input out : List ℕ) (t : Bool) → commandCount input ≤ length out / longestLine commandSize → t ≡ leb (n + commandCount input) (2 ^ 64)
+    → t ≡ hasRoomForAll n input out
+unfolding hasRoomForAll
+room-by n input out t h e =
     e ∙ sym (ap (λ (u : Bool). u && leb (n + commandCount input) (2 ^ 64)) (le-leb (commandCount input * longestLine commandSize) (length out) (omega arith)))
 
 pub numbers-fit : (n k : ℕ) → n < 2 ^ 64 → 1 ≤ k → leb (k - 1) (18446744073709551615 - n) ≡ leb (n + k) (2 ^ 64)

@@ -30,29 +30,29 @@ abbrev pub commandBytes : List ℕ → ℕ → List ℕ
 commandBytes input i = segment input (i * commandSize) commandSize
 
 -- The image after the first i commands.
-unfoldable pub imageAfter : List ℕ → Image → ℕ → Image
-imageAfter input g zero = g
-imageAfter input g (suc i) = commandNext (commandBytes input i) (imageAfter input g i)
+unfoldable pub imageBehind : List ℕ → Image → ℕ → Image
+imageBehind input g zero = g
+imageBehind input g (suc i) = commandNext (commandBytes input i) (imageBehind input g i)
 
 -- The lines of the first i commands, the first of them with number n.
 unfoldable pub listing : ℕ → List ℕ → Image → ℕ → List ℕ
 listing n input g zero = []
-listing n input g (suc i) = listing n input g i ++ lineOn (n + i) (commandBytes input i) (imageAfter input g i)
+listing n input g (suc i) = listing n input g i ++ lineOn (n + i) (commandBytes input i) (imageBehind input g i)
 
 -- A buffer has room for the longest lines of all commands, and their numbers have 64 bits.
-unfoldable pub fits : ℕ → List ℕ → List ℕ → Bool
-fits n input out =
+unfoldable pub hasRoomForAll : ℕ → List ℕ → List ℕ → Bool
+hasRoomForAll n input out =
     leb (commandCount input * longestLine commandSize) (length out) && leb (n + commandCount input) (2 ^ 64)
 
 -- All commands of an input were performed and their lines put at the start of a buffer; where they do not fit, none.
-pub record Ran (n : ℕ) (input out : List ℕ) (g : Image) (end : ℕ) (left : List ℕ) (after : Image) : Type 0 where
-  pub prints : Puts (cond (fits n input out) (listing n input g (commandCount input)) []) out 0 end left
-  pub leaves : after ≡ cond (fits n input out) (imageAfter input g (commandCount input)) g
+pub record Listed (n : ℕ) (input out : List ℕ) (g : Image) (end : ℕ) (left : List ℕ) (after : Image) : Type 0 where
+  pub prints : Puts (cond (hasRoomForAll n input out) (listing n input g (commandCount input)) []) out 0 end left
+  pub leaves : after ≡ cond (hasRoomForAll n input out) (imageBehind input g (commandCount input)) g
 
 -- An input may be read in parts, if each but the last has whole commands: its listing is the parts' listings, one after
 -- the other, each on the image that the part before it left.
 pub record InParts (n k : ℕ) (first rest : List ℕ) (g : Image) : Type 0 where
   pub counts : commandCount (first ++ rest) ≡ k + commandCount rest
   pub prints : (j : ℕ) → listing n (first ++ rest) g (k + j)
-      ≡ listing n first g k ++ listing (n + k) rest (imageAfter first g k) j
-  pub leaves : (j : ℕ) → imageAfter (first ++ rest) g (k + j) ≡ imageAfter rest (imageAfter first g k) j
+      ≡ listing n first g k ++ listing (n + k) rest (imageBehind first g k) j
+  pub leaves : (j : ℕ) → imageBehind (first ++ rest) g (k + j) ≡ imageBehind rest (imageBehind first g k) j

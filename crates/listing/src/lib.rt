@@ -6,7 +6,7 @@ ghost use Rattle.lists.specs.Segments.{segment};
 ghost use Rattle.command.specs.Commands.{commandSize};
 ghost use Rattle.command.specs.Meaning.{commandNext};
 ghost use Rattle.lines.specs.Lines.{longestLine};
-ghost use Rattle.listing.specs.Listing.{Ran, Stepped, commandBytes, commandCount, fits as Listing·fits, lineOn};
+ghost use Rattle.listing.specs.Listing.{Listed, Stepped, commandBytes, commandCount, hasRoomForAll, lineOn};
 ghost use Rattle.lines.specs.Text.{Puts};
 
 // The longest line of a command of five bytes.
@@ -40,8 +40,8 @@ fn count(input: &[u8]) -> usize
 }
 
 // Whether the longest lines of all commands have room, and their numbers 64 bits.
-fn fits(number: u64, input: &[u8], out: &[u8]) -> bool
-    ensures { λ r. ⌜ r ≡ Listing·fits number (now (input .entry)) (now (out .entry)) ⌝ }
+fn has_room_for_all(number: u64, input: &[u8], out: &[u8]) -> bool
+    ensures { λ r. ⌜ r ≡ hasRoomForAll number (now (input .entry)) (now (out .entry)) ⌝ }
 {
     let commands = count(input);
     if commands > out.len() / LONGEST_LINE {
@@ -84,11 +84,11 @@ fn turn(image: &mut [u8], number: u64, input: &[u8], i: usize, out: &mut [u8], a
 // number of bytes put. Where the longest lines have no room, or the numbers would pass 64 bits, nothing is done and the
 // answer is 0.
 pub fn run(image: &mut [u8], number: u64, input: &[u8], out: &mut [u8]) -> usize
-    ensures { λ r. ⌜ Ran number (now (input .entry)) (now (out .entry)) (now (image .entry)) r (now (out .exit))
+    ensures { λ r. ⌜ Listed number (now (input .entry)) (now (out .entry)) (now (image .entry)) r (now (out .exit))
         (now (image .exit))
         × (r ≤ length (now (out .entry))) ⌝ }
 {
-    if !fits(number, input, out) {
+    if !has_room_for_all(number, input, out) {
         return 0;
     }
     let commands = count(input);

@@ -5,7 +5,7 @@ use mir.Syntax.{w8}
 use mir.Val.{Fits}
 use Rattle.promise.specs.Promise.{shown}
 use Rattle.promise.specs.declared.Answer.{Answer}
-use Rattle.abi.specs.Codes.{codeOf, kindOf, numberOf}
+use Rattle.abi.specs.Codes.{codeOf, kindOf, answerNumber}
 use Rattle.abi.proofs.Codes.{placed-code}
 use borrow.Author.Needs.{needs}
 use Rattle.abi.proofs.code.Statement.{statement}
@@ -99,53 +99,53 @@ pair-requires-12 : tie.Need-pair-requires-12
 pair-requires-12 c κs = search needs
 
 returns : tie.Need-returns
-unfolding kindOf numberOf
+unfolding kindOf answerNumber
 returns c = c .pair .ensures ∙ sym (ap told (c .before .enum-told .given .1))
 
 returns-2 : tie.Need-returns-2
-unfolding kindOf numberOf
+unfolding kindOf answerNumber
 returns-2 c = c .pair2 .ensures ∙ sym (ap told (c .before .before .answer .given .1))
 
 returns-3 : tie.Need-returns-3
-unfolding kindOf numberOf
+unfolding kindOf answerNumber
 returns-3 c = c .pair3 .ensures ∙ sym (ap told (c .before .enum-told2 .given .1))
 
 returns-4 : tie.Need-returns-4
-unfolding kindOf numberOf
+unfolding kindOf answerNumber
 returns-4 c =
     let f : Fits w8 (c .before .before .answer2 .given .0 .0) = search needs in
     c .pair4 .ensures ∙ placed-code _ (f .fits) ∙ sym (ap told (c .before .before .answer2 .given .1))
 
 returns-5 : tie.Need-returns-5
-unfolding kindOf numberOf
+unfolding kindOf answerNumber
 returns-5 c = c .pair5 .ensures ∙ sym (ap told (c .before .enum-told3 .given .1))
 
 returns-6 : tie.Need-returns-6
-unfolding kindOf numberOf
+unfolding kindOf answerNumber
 returns-6 c = c .pair6 .ensures ∙ sym (ap told (c .before .enum-told4 .given .1))
 
 returns-7 : tie.Need-returns-7
-unfolding kindOf numberOf
+unfolding kindOf answerNumber
 returns-7 c = c .pair7 .ensures ∙ sym (ap told (c .before .before .answer3 .given .1))
 
 returns-8 : tie.Need-returns-8
-unfolding kindOf numberOf
+unfolding kindOf answerNumber
 returns-8 c = c .pair8 .ensures ∙ sym (ap told (c .before .before .answer4 .given .1))
 
 returns-9 : tie.Need-returns-9
-unfolding kindOf numberOf
+unfolding kindOf answerNumber
 returns-9 c = c .pair9 .ensures ∙ sym (ap told (c .before .enum-told5 .given .1))
 
 returns-10 : tie.Need-returns-10
-unfolding kindOf numberOf
+unfolding kindOf answerNumber
 returns-10 c = c .pair10 .ensures ∙ sym (ap told (c .before .enum-told6 .given .1))
 
 returns-11 : tie.Need-returns-11
-unfolding kindOf numberOf
+unfolding kindOf answerNumber
 returns-11 c = c .pair11 .ensures ∙ sym (ap told (c .before .before .answer5 .given .1))
 
 returns-12 : tie.Need-returns-12
-unfolding kindOf numberOf
+unfolding kindOf answerNumber
 returns-12 c = c .pair12 .ensures ∙ sym (ap told (c .before .before .answer6 .given .1))
 
 pub code-spec : {M : Type 1} → statement M

@@ -10,14 +10,14 @@ use Rattle.command.specs.Commands.{commandSize}
 use Rattle.console.specs.Readings.{performedSize}
 use Rattle.console.specs.declared.Position.{Position}
 use Rattle.console.proofs.Advances.{advanced, behind-waiting}
-use Rattle.console.proofs.Buffers.{rest-short, size-le}
+use Rattle.console.proofs.Buffers.{rest-short, performed-le}
 use borrow.Author.Needs.{needs}
 use Rattle.console.proofs.advance.Statement.{statement}
 use Rattle.console.proofs.advance.Tie as tie
 
 -- as many bytes as are performed are held
 within-held : (e w got : ℕ) → e ≡ performedSize (w + got) (eqb got 0) → e ≤ w + got
-within-held e w got d = subst (λ (n : ℕ). n ≤ w + got) (sym d) (size-le (w + got) (eqb got 0))
+within-held e w got d = subst (λ (n : ℕ). n ≤ w + got) (sym d) (performed-le (w + got) (eqb got 0))
 
 add-held : tie.Need-add-held
 add-held c = search needs

@@ -9,7 +9,7 @@ use lib.Seq.{length-take-le}
 use denote.Ref.{now}
 use Rattle.command.specs.Commands.{commandSize}
 use Rattle.console.specs.declared.Position.{Position}
-use Rattle.console.proofs.Loop.{Performed, below, falls, left, more-performed, none-performed, ran-some, rises}
+use Rattle.console.proofs.Loop.{Performed, below, falls, more-performed, none-performed, ran-some, rises, turnsLeft}
 use borrow.Author.Needs.{needs}
 use Rattle.console.proofs.read_all.Statement.{statement}
 use Rattle.console.proofs.read_all.Tie as tie
@@ -20,7 +20,7 @@ Inv-loop image₀ input₀ out₀ at₀ image input out at =
     × Performed image₀ image (at .more)
 
 abbrev μ-loop : tie.MeasureT-loop
-μ-loop image₀ input₀ out₀ at₀ image input out at = left at
+μ-loop image₀ input₀ out₀ at₀ image input out at = turnsLeft at
 
 first-position-requires : tie.Need-first-position-requires Inv-loop μ-loop
 first-position-requires c κs = search needs

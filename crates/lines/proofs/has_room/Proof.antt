@@ -1,5 +1,5 @@
--- `has_room` meets its contract: the subtraction and the division undo the sum and the product. Assumes nothing.
-use Rattle.lines.proofs.Lines.{no-room, room}
+-- The subtraction and the division undo the sum and the product of the longest line. Assumes nothing.
+use Rattle.lines.proofs.Lines.{no-room, room-test}
 use borrow.Author.Needs.{needs}
 use Rattle.lines.proofs.has_room.Statement.{statement}
 use Rattle.lines.proofs.has_room.Tie as tie
@@ -11,7 +11,7 @@ sub-result : tie.Need-sub-result
 sub-result c = search needs
 
 returns-2 : tie.Need-returns-2
-returns-2 c = room _ _ (c .if1 .left)
+returns-2 c = room-test _ _ (c .if1 .left)
 
 pub has-room-spec : {M : Type 1} → statement M
 has-room-spec = tie.close (tie.spec returns sub-result returns-2)

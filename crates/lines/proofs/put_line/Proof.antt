@@ -1,54 +1,43 @@
--- `put_line` meets its contract: three pieces, one behind the other. Assumes nothing.
-use Prim.Native.Nat.{_*_, _+_, _≤_}
-use native.Mathlib.Omega.{arith}
+-- The room decides, by the test that the definition makes. Assumes nothing.
+use mathlib.Core.Path.{_∙_, sym}
+use Prim.Native.Nat.{zero-le}
 use denote.Ref.{now}
-use mir.Syntax.{w64}
-use mir.Val.{Fits}
-use lib.ListN.{length}
-use Rattle.lines.specs.Lines.{head, line}
-use Rattle.lines.proofs.Lines.{head-length}
-use Rattle.lines.proofs.Puts.{puts-next}
+use Rattle.lists.proofs.Bools.{not-is, not-not-is}
+use Rattle.promise.specs.Promise.{shown}
+use Rattle.lines.proofs.Lines.{line-there, no-line, room-is}
+use Rattle.lines.proofs.Puts.{puts-none, puts-same}
 use borrow.Author.Needs.{needs}
 use Rattle.lines.proofs.put_line.Statement.{statement}
 use Rattle.lines.proofs.put_line.Tie as tie
 
-put-head-requires : tie.Need-put-head-requires
-put-head-requires c κs = search needs
-
-put-answer-requires : tie.Need-put-answer-requires
-put-answer-requires c κs =
-    let a = c .before .before .before .before .before .before .before .args in
-    let f : Fits w64 (a .number) = search needs in
-    let h : length (head (a .number) (now (a .command))) ≤ 22 + 2 * length (now (a .command)) = head-length _ _ (f .fits) in
-    let p = c .before .before .before .put-head in
-    omega (arith, c .before .before .before .before .before .before .before .pre, p .ensures .ends, p .kept .0)
-
-put-byte-requires : tie.Need-put-byte-requires
-put-byte-requires c κs =
-    let a = c .before .before .before .before .before .before .before .before .before .before .before .args in
-    let f : Fits w64 (a .number) = search needs in
-    let h : length (head (a .number) (now (a .command))) ≤ 22 + 2 * length (now (a .command)) = head-length _ _ (f .fits) in
-    let p = c .before .before .before .before .before .before .before .put-head in
-    let q = c .before .before .before .put-answer in
-    omega (arith, c .before .before .before .before .before .before .before .before .before .before .before .pre, p .ensures .ends, p .kept .0, q .ensures .1, q .kept .0)
+has-room-requires : tie.Need-has-room-requires
+has-room-requires c κs = search needs
 
 same-length : tie.Need-same-length
 same-length c = search needs
 
 returns : tie.Need-returns
-unfolding line
 returns c =
-    let a = c .before .before .before .before .before .before .before .before .before .before .before .before .before .before .args in
-    let f : Fits w64 (a .number) = search needs in
-    let h : length (head (a .number) (now (a .command))) ≤ 22 + 2 * length (now (a .command)) = head-length _ _ (f .fits) in
-    let p = c .before .before .before .before .before .before .before .before .before .before .put-head in
-    let q = c .before .before .before .before .before .before .put-answer in
-    let r = c .before .before .put-byte in
-    let u : q .result ≤ length (now (a .out)) = omega (arith, c .before .before .before .before .before .before .before .before .before .before .before .before .before .before .pre, p .ensures .ends, q .ensures .1) in
-    let v : r .result ≤ length (now (a .out)) = omega (arith, c .before .before .before .before .before .before .before .before .before .before .before .before .before .before .pre, p .ensures .ends, q .ensures .1, r .ensures .ends) in
-    (puts-next (puts-next (p .ensures) (q .ensures .0) u) (r .ensures) v, omega (arith, p .ensures .ends, q .ensures .1, r .ensures .ends))
+    let a = c .before .before .before .before .before .args in
+    let h = sym (c .before .has-room .ensures) ∙ not-is _ (c .if1 .taken) in
+    (puts-same (no-line (now (a .out)) (now (a .command)) (a .number) (shown (a .answer)) h) (puts-none _ 0 zero-le), zero-le)
+
+put-whole-line-requires : tie.Need-put-whole-line-requires
+put-whole-line-requires c κs =
+    let a = c .before .before .before .before .before .before .args in
+    room-is (now (a .out)) (now (a .command)) (sym (c .before .before .has-room .ensures) ∙ not-not-is _ (c .before .if1 .left))
+
+same-length-2 : tie.Need-same-length-2
+same-length-2 c = search needs
+
+returns-2 : tie.Need-returns-2
+returns-2 c =
+    let a = c .before .before .before .before .before .before .before .before .before .args in
+    let h = sym (c .before .before .before .before .before .has-room .ensures) ∙ not-not-is _ (c .before .before .before .before .if1 .left) in
+    let p = c .before .before .put-whole-line .ensures in
+    (puts-same (line-there (now (a .out)) (now (a .command)) (a .number) (shown (a .answer)) h) (p .0), p .1)
 
 pub put-line-spec : {M : Type 1} → statement M
 put-line-spec =
     tie.close
-    (tie.spec put-head-requires put-answer-requires put-byte-requires same-length returns)
+    (tie.spec has-room-requires same-length returns put-whole-line-requires same-length-2 returns-2)

@@ -8,42 +8,45 @@ use borrow.Author.Needs.{needs}
 use Rattle.lists.proofs.Bools.{not-is, not-not-is}
 use Rattle.command.specs.Commands.{commandSize}
 use Rattle.lines.specs.Lines.{longestLine}
-use Rattle.listing.specs.Listing.{commandCount, imageAfter, listing}
+use Rattle.listing.specs.Listing.{commandCount, imageBehind, listing}
 use Rattle.lines.specs.Text.{Puts}
 use Rattle.lines.proofs.Puts.{puts-none}
-use Rattle.listing.proofs.Steps.{fits-out, image-more, listing-more, no-run, whole-run}
+use Rattle.listing.proofs.Steps.{room-out, image-more, listing-more, no-run, whole-run}
 use Rattle.listing.proofs.run.Statement.{statement}
 use Rattle.listing.proofs.run.Tie as tie
 
 abbrev Inv-loop : tie.InvT-loop
 Inv-loop image₀ number input out₀ commands i₀ at₀ image out i at =
     (i ≤ commands) × (length image ≡ length image₀) × (length out ≡ length out₀) × (at ≤ i * longestLine commandSize)
-    × (image ≡ imageAfter input image₀ i) × Puts (listing number input image₀ i) out₀ 0 at out
+    × (image ≡ imageBehind input image₀ i) × Puts (listing number input image₀ i) out₀ 0 at out
 
 abbrev μ-loop : tie.MeasureT-loop
 μ-loop image₀ number input out₀ commands i₀ at₀ image out i at = commands - i
 
-fits-requires : tie.Need-fits-requires Inv-loop μ-loop
-fits-requires c κs = search needs
+has-room-for-all-requires : tie.Need-has-room-for-all-requires Inv-loop μ-loop
+has-room-for-all-requires c κs = search needs
 
 same-length : tie.Need-same-length Inv-loop μ-loop
 same-length c = search needs
 
 returns : tie.Need-returns Inv-loop μ-loop
-returns c = (no-run _ _ _ _ (sym (not-is _ (c .if1 .taken)) ∙ c .before .fits2 .ensures), zero-le)
+returns c = (no-run _ _ _ _ (sym (not-is _ (c .if1 .taken)) ∙ c .before .has-room-for-all .ensures), zero-le)
 
 count-requires : tie.Need-count-requires Inv-loop μ-loop
 count-requires c κs = search needs
 
 loop-holds : tie.Need-loop-holds Inv-loop μ-loop
-unfolding imageAfter listing
+unfolding imageBehind listing
 loop-holds c = (zero-le, refl, refl, zero-le, refl, puts-none _ 0 zero-le)
 
 add-turn : tie.Need-add-turn Inv-loop μ-loop
 add-turn c =
     let a = c .before .before .before .before .before .before .before .before .before .before .args in
-    let k = fits-out (a .number) (now (a .input)) (now (a .out)) (sym (c .before .before .before .before .before .fits2 .ensures) ∙ not-not-is _ (c .before .before .before .before .if1 .left)) in
-    let m : c .before .before .before .count .result ≡ commandCount (now (a .input)) = c .before .before .before .count .ensures in
+    let room = c .before .before .before .before .before .has-room-for-all .ensures in
+    let yes = not-not-is _ (c .before .before .before .before .if1 .left) in
+    let k = room-out (a .number) (now (a .input)) (now (a .out)) (sym room ∙ yes) in
+    let count = c .before .before .before .count in
+    let m : count .result ≡ commandCount (now (a .input)) = count .ensures in
     let w : commandCount (now (a .input)) * longestLine commandSize ≤ length (now (a .out)) = k .0 in
     let v : a .number + commandCount (now (a .input)) ≤ 2 ^ 64 = k .1 in
     let l = c .before .before .loop in
@@ -52,8 +55,11 @@ add-turn c =
 turn-requires : tie.Need-turn-requires Inv-loop μ-loop
 turn-requires c κs =
     let a = c .before .before .before .before .before .before .before .before .before .before .before .args in
-    let k = fits-out (a .number) (now (a .input)) (now (a .out)) (sym (c .before .before .before .before .before .before .fits2 .ensures) ∙ not-not-is _ (c .before .before .before .before .before .if1 .left)) in
-    let m : c .before .before .before .before .count .result ≡ commandCount (now (a .input)) = c .before .before .before .before .count .ensures in
+    let room = c .before .before .before .before .before .before .has-room-for-all .ensures in
+    let yes = not-not-is _ (c .before .before .before .before .before .if1 .left) in
+    let k = room-out (a .number) (now (a .input)) (now (a .out)) (sym room ∙ yes) in
+    let count = c .before .before .before .before .count in
+    let m : count .result ≡ commandCount (now (a .input)) = count .ensures in
     let w : commandCount (now (a .input)) * longestLine commandSize ≤ length (now (a .out)) = k .0 in
     let v : a .number + commandCount (now (a .input)) ≤ 2 ^ 64 = k .1 in
     let l = c .before .before .before .loop in
@@ -69,8 +75,11 @@ loop-less c = search needs
 loop-again : tie.Need-loop-again Inv-loop μ-loop
 loop-again c =
     let a = c .before .before .before .before .before .before .before .before .before .before .before .before .before .before .before .before .args in
-    let k = fits-out (a .number) (now (a .input)) (now (a .out)) (sym (c .before .before .before .before .before .before .before .before .before .before .before .fits2 .ensures) ∙ not-not-is _ (c .before .before .before .before .before .before .before .before .before .before .if1 .left)) in
-    let m : c .before .before .before .before .before .before .before .before .before .count .result ≡ commandCount (now (a .input)) = c .before .before .before .before .before .before .before .before .before .count .ensures in
+    let room = c .before .before .before .before .before .before .before .before .before .before .before .has-room-for-all .ensures in
+    let yes = not-not-is _ (c .before .before .before .before .before .before .before .before .before .before .if1 .left) in
+    let k = room-out (a .number) (now (a .input)) (now (a .out)) (sym room ∙ yes) in
+    let count = c .before .before .before .before .before .before .before .before .before .count in
+    let m : count .result ≡ commandCount (now (a .input)) = count .ensures in
     let w : commandCount (now (a .input)) * longestLine commandSize ≤ length (now (a .out)) = k .0 in
     let l = c .before .before .before .before .before .before .before .before .loop in
     let t = c .before .before .before .before .before .before .before .loop-test .taken in
@@ -93,12 +102,15 @@ same-length-3 c = search needs
 returns-2 : tie.Need-returns-2 Inv-loop μ-loop
 returns-2 c =
     let a = c .before .before .before .before .before .before .before .before .before .args in
-    let k = fits-out (a .number) (now (a .input)) (now (a .out)) (sym (c .before .before .before .before .fits2 .ensures) ∙ not-not-is _ (c .before .before .before .if1 .left)) in
-    let m : c .before .before .count .result ≡ commandCount (now (a .input)) = c .before .before .count .ensures in
+    let room = c .before .before .before .before .has-room-for-all .ensures in
+    let yes = not-not-is _ (c .before .before .before .if1 .left) in
+    let k = room-out (a .number) (now (a .input)) (now (a .out)) (sym room ∙ yes) in
+    let count = c .before .before .count in
+    let m : count .result ≡ commandCount (now (a .input)) = count .ensures in
     let w : commandCount (now (a .input)) * longestLine commandSize ≤ length (now (a .out)) = k .0 in
     let l = c .before .loop in (
       whole-run (a .number) (l .i) (l .at) (now (a .input)) (now (a .out)) (l .out) (now (a .image)) (l .image)
-          (sym (not-not-is _ (c .before .before .before .if1 .left)) ∙ c .before .before .before .before .fits2 .ensures) (omega (arith, l .inv .0, c .loop-test .left)) (l .inv .5) (l .inv .4),
+          (sym yes ∙ room) (omega (arith, l .inv .0, c .loop-test .left)) (l .inv .5) (l .inv .4),
       omega (arith, l .inv .0, l .inv .3),
     )
 
@@ -108,7 +120,7 @@ run-spec =
     (tie.spec
     Inv-loop
     μ-loop
-    fits-requires
+    has-room-for-all-requires
     same-length
     returns
     count-requires
