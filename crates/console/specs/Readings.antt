@@ -28,7 +28,8 @@ atFirst g = record { number = 1; waiting = []; image = g }
 abbrev pub isEnd : List ℕ → Bool
 isEnd reading = eqb (length reading) 0
 
--- Of so many bytes those of whole commands; at the end of the input all, as its last command may be short.
+-- How many of the bytes held are performed: those of whole commands; at the end of the input all, as its last command may
+-- be short.
 abbrev pub performedSize : ℕ → Bool → ℕ
 performedSize held last = cond last held (held - held % commandSize)
 
@@ -68,12 +69,13 @@ unfoldable pub allBytes : List (List ℕ) → List ℕ
 allBytes [] = []
 allBytes (reading ∷ rest) = reading ++ allBytes rest
 
--- However an input is cut into readings, each of a byte at least, the lines are the listing of everything read, from 1 on,
--- and the image is the one that all its commands leave.
+-- No reading before the end of the input is empty.
 unfoldable pub noneEmpty : List (List ℕ) → Bool
 noneEmpty [] = true
 noneEmpty (reading ∷ rest) = not (isEnd reading) && noneEmpty rest
 
+-- However an input is cut into readings, the lines are the listing of everything read, from 1 on, and the image is the one
+-- that all its commands leave.
 pub record ListsAll (g : Image) (readings : List (List ℕ)) : Type 0 where
   pub prints : linesOver (atFirst g) readings ≡ listing 1 (allBytes readings) g (commandCount (allBytes readings))
   pub leaves : imageOver (atFirst g) readings ≡ imageBehind (allBytes readings) g (commandCount (allBytes readings))
