@@ -99,8 +99,8 @@ module _ (k : Part) (f : Form cabinet k) (u : ControlInv cabinet lawful k) where
   unfolding partOk areApart isWithin isWithinEither membersOk homeOk
   running-ok =
       and-in _ _ (all-below cardCount _ (λ c h. nand (hasCard (k .working) c) (hasCard (k .failed) c) (f .base .apart c)))
-      (and-in _ _ (all-in (λ p. membersOk (k .working) (k .failed) (p .mask)) (active k) (λ p m. and-in _ _ (le-leb copyCount (size (p .mask)) (f .base .sound p m))
-      (all-below cardCount _ (λ c h. imp (hasCard (p .mask) c) _ (known p c m)))))
+      (and-in _ _ (all-in (λ p. membersOk (k .working) (k .failed) (p .mask)) (active k)
+      (λ p m. and-in _ _ (le-leb copyCount (size (p .mask)) (f .base .sound p m)) (all-below cardCount _ (λ c h. imp (hasCard (p .mask) c) _ (known p c m)))))
       (and-in _ _ (room-ok (k .failed) (k .newest) (u .room .steps) (k .older) (u .room .chain) (u .room .few))
       (and-in _ _ (or-r (k .stopped) _ (all-below cardCount _ (λ c h. imp (hasCard (k .newest .mask) c) (hasCard (k .working) c) (f .newWorks c))))
       (and-in _ _ (or-r (k .stopped) _ (all-in (λ p. isSafe (k .working) (k .failed) (p .mask)) (active k)
@@ -127,8 +127,8 @@ module _ (k : Part) (r : Rests cabinet lawful k) where
   unfolding partOk areApart isWithinEither membersOk homeOk
   resting-ok =
       and-in _ _ (all-below cardCount _ (λ x h. nand (hasCard (k .working) x) (hasCard (k .failed) x) (r .apart x)))
-      (and-in _ _ (all-in (λ p. membersOk (k .working) (k .failed) (p .mask)) (active k) (λ p m. and-in _ _ (le-leb copyCount (size (p .mask)) (r .sound p m))
-      (all-below cardCount _ (λ x h. imp (hasCard (p .mask) x) _ (known-resting p x m)))))
+      (and-in _ _ (all-in (λ p. membersOk (k .working) (k .failed) (p .mask)) (active k)
+      (λ p m. and-in _ _ (le-leb copyCount (size (p .mask)) (r .sound p m)) (all-below cardCount _ (λ x h. imp (hasCard (p .mask) x) _ (known-resting p x m)))))
       (and-in _ _ (room-ok (k .failed) (k .newest) (r .room .steps) (k .older) (r .room .chain) (r .room .few))
       (and-in _ _ (or-l (k .stopped) _ (r .stays))
       (and-in _ _ (or-l (k .stopped) _ (r .stays))

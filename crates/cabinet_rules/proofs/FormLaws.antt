@@ -43,8 +43,8 @@ one-more d newest third e =
     let x : ℕ = t .0 in
     let r : (not (hasCard (newest .mask) x) && eqb (third .mask .0) (withCard (newest .mask) x .0)) ≡ true = and-r (hasCard d x) _ (t .2) in
     let same : third .mask ≡ withCard (newest .mask) x =
-    byte-path (third .mask) (withCard (newest .mask) x) (eqb-true (third .mask .0) (withCard (newest .mask) x .0)
-    (and-r (not (hasCard (newest .mask) x)) (eqb (third .mask .0) (withCard (newest .mask) x .0)) r)) in
+    byte-path (third .mask) (withCard (newest .mask) x)
+    (eqb-true (third .mask .0) (withCard (newest .mask) x .0) (and-r (not (hasCard (newest .mask) x)) (eqb (third .mask .0) (withCard (newest .mask) x .0)) r)) in
     record {
       extra = x;
       extra-failed = and-l (hasCard d x) _ (t .2);
@@ -94,8 +94,8 @@ module _ (g : Image) (form : controlForm g ≡ true) where
   -- a card that works has not failed
   pub works-not-failed : (c : ℕ) → hasCard (controlIn g .working) c ≡ true → hasCard (controlIn g .failed) c ≡ false
   unfolding areApart
-  works-not-failed c on = go (hasCard (controlIn g .failed) c) (below-all cardCount (λ x. not (hasCard (controlIn g .working) x && hasCard (controlIn g .failed) x)) c
-      (clauses .apart) (has-card (controlIn g .working) c on))
+  works-not-failed c on = go (hasCard (controlIn g .failed) c)
+      (below-all cardCount (λ x. not (hasCard (controlIn g .working) x && hasCard (controlIn g .failed) x)) c (clauses .apart) (has-card (controlIn g .working) c on))
     where
       go : (d : Bool) → not (hasCard (controlIn g .working) c && d) ≡ true → d ≡ false
       go true e = tf (not (hasCard (controlIn g .working) c && true)) e (rw on)
@@ -117,8 +117,8 @@ module _ (g : Image) (form : controlForm g ≡ true) where
   newest-member-works : controlIn g .stopped ≡ false → (c : ℕ) → hasCard (controlIn g .newest .mask) c ≡ true → hasCard (controlIn g .working) c ≡ true
   unfolding isWithin
   newest-member-works running c h = imp-out (hasCard (controlIn g .newest .mask) c) (hasCard (controlIn g .working) c)
-      (below-all cardCount (λ x. not (hasCard (controlIn g .newest .mask) x) || hasCard (controlIn g .working) x) c (rw running at (clauses .newest-works))
-      (has-card (controlIn g .newest .mask) c h)) h
+      (below-all cardCount (λ x. not (hasCard (controlIn g .newest .mask) x) || hasCard (controlIn g .working) x) c
+      (rw running at (clauses .newest-works)) (has-card (controlIn g .newest .mask) c h)) h
 
   -- and so every site of it
   pub newest-site-works : controlIn g .stopped ≡ false → (b c : ℕ) → b < blockCount → elem c (sitesOf (controlIn g .newest) b) ≡ true → hasCard (controlIn g .working) c ≡ true

@@ -69,7 +69,7 @@ module _ (k : Part) where
       )
 
 -- ---- what is read
--- The masks one after the other; one more.
+-- The first n placements and one more.
 pub placements-more : (f : ℕ → Placement) (n : ℕ) → placementsIn f n ++ (f n ∷ []) ≡ placementsIn f (suc n)
 placements-more f zero = refl
 placements-more f (suc n) = ap (λ (l : List Placement). f 0 ∷ l) (placements-more (λ i. f (suc i)) n)

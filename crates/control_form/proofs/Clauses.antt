@@ -236,7 +236,8 @@ module _ (l : List ℕ) (ok : countOk (λ n. getD l n 0) ≡ true) (bytes : (n :
   unfolding formOk
   form-by = ap (λ (t : Bool). t && (zeroFieldsOk (λ n. getD l n 0) && partOk (controlOf (λ n. getD l n 0)))) ok
       ∙ ap₂ _&&_ zeros-as part-as
-      ∙ order (otherZeros l) (allFrom homesAt homesEnd (isHomeAt l)) (areApart (byte (getD l workingAt 0)) (byte (getD l failedAt 0))) (allBelow (countIn (getD l 0 0)) (maskTest membersOk l)) (chainIn l) (newestIn l)
+      ∙ order (otherZeros l) (allFrom homesAt homesEnd (isHomeAt l)) (areApart (byte (getD l workingAt 0)) (byte (getD l failedAt 0)))
+      (allBelow (countIn (getD l 0 0)) (maskTest membersOk l)) (chainIn l) (newestIn l)
       (stoppedIn (getD l 0 0) || allBelow (countIn (getD l 0 0)) (maskTest isSafe l)) homesOpen
       ∙ ap₂ (λ (p h : Bool). otherZeros l && (areApart (byte (getD l workingAt 0)) (byte (getD l failedAt 0)) && (p && (chainIn l && (newestIn l && h))))) placements-as homes-as
       ∙ sixteen (λ h. areApart (byte (getD l workingAt 0)) (byte (getD l failedAt 0))

@@ -116,8 +116,10 @@ module _ (f : ℕ → ℕ) (small : AreBytes f) (formed : (i : ℕ) → i < word
       ap (λ (n : ℕ). eqb (bitAnd (n + nibbles) carries) carries) differ-by
       ∙ ap₂ (λ (m n : ℕ). eqb (bitAnd (ofBytes (λ i. bitXor (f i / field) (1 * (fieldBound + c))) wordSize + m) n) n) (sym nibbles-are) (sym carries-are)
       ∙ ap (λ (n : ℕ). eqb (bitAnd n (ofBytes (λ i. field) wordSize)) (ofBytes (λ i. field) wordSize)) (bytes-add (λ i. bitXor (f i / field) (1 * (fieldBound + c))) (λ i. nibble) wordSize)
-      ∙ ap (λ (n : ℕ). eqb n (ofBytes (λ i. field) wordSize)) (bytes-and (λ i. bitXor (f i / field) (1 * (fieldBound + c)) + nibble) (λ i. field) (λ i. omega (arith, low i)) (λ i. omega arith) wordSize)
-      ∙ bytes-test (λ i. bitAnd (bitXor (f i / field) (1 * (fieldBound + c)) + nibble) field) (λ i. field) (λ i. omega (arith, and-le-r (bitXor (f i / field) (1 * (fieldBound + c)) + nibble) field)) (λ i. omega arith) wordSize
+      ∙ ap (λ (n : ℕ). eqb n (ofBytes (λ i. field) wordSize))
+      (bytes-and (λ i. bitXor (f i / field) (1 * (fieldBound + c)) + nibble) (λ i. field) (λ i. omega (arith, low i)) (λ i. omega arith) wordSize)
+      ∙ bytes-test (λ i. bitAnd (bitXor (f i / field) (1 * (fieldBound + c)) + nibble) field) (λ i. field)
+      (λ i. omega (arith, and-le-r (bitXor (f i / field) (1 * (fieldBound + c)) + nibble) field)) (λ i. omega arith) wordSize
       ∙ below-ext wordSize (λ i. eqb (bitAnd (bitXor (f i / field) (1 * (fieldBound + c)) + nibble) field) field) (λ i. not (isCard (homeIn (f i)) c)) (λ i h. same-bool _ _
       (at-pair (λ b c. Bool·beq (eqb (bitAnd (bitXor (b / field) (1 * (fieldBound + c)) + nibble) field) field) (not (isCard (homeIn b) c))) 256 cardCount test-lack (f i) (small i) c hc))
     where

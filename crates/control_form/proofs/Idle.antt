@@ -125,5 +125,6 @@ module _ (l : List ℕ) where
   -- none is left
   pub all-work : (left : ℕ) → left ≡ 0 → Tried l left → true ≡ allFrom homesAt wordsEnd (homeOkAt false l)
   all-work left z h = sym (all-from homesAt (homeOkAt false l) wordsEnd (λ n p q. unfold homeOkAt in
-      (not-works (byte (getD l workingAt 0)) (getD l n 0) (getD l n 0 / field % fieldBound) (leb openBit (getD l n 0)) (λ d. from-all homesAt (λ n'. not (isCard (homeIn (getD l n' 0)) (getD l n 0 / field % fieldBound))) wordsEnd n
+      (not-works (byte (getD l workingAt 0)) (getD l n 0) (getD l n 0 / field % fieldBound) (leb openBit (getD l n 0))
+      (λ d. from-all homesAt (λ n'. not (isCard (homeIn (getD l n' 0)) (getD l n 0 / field % fieldBound))) wordsEnd n
       (h (getD l n 0 / field % fieldBound) (omega arith) d (ap (λ (m : ℕ). hasCard (byte m) (getD l n 0 / field % fieldBound)) z ∙ has-none (getD l n 0 / field % fieldBound))) p q))))

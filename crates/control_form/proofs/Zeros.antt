@@ -44,7 +44,8 @@ module _ (l : List ℕ) (small : (n : ℕ) → getD l n 0 < 256) where
       ap (λ (m : ℕ). eqb (m / 2 ^ (count * 8)) 0) e
       ∙ ap (λ (m : ℕ). eqb m 0) (bytes-behind (λ i. getD l (masksAt + i) 0) (λ i. small (masksAt + i)) count lo hi)
       ∙ zero-test (λ i. getD l (masksAt + (count + i)) 0) (λ i. small (masksAt + (count + i))) (mostActive - count)
-      ∙ below-ext (mostActive - count) (λ i. eqb (getD l (masksAt + (count + i)) 0) 0) (λ i. isZeroAt l (masksAt + count + i)) (λ i h. ap (λ (m : ℕ). eqb (getD l m 0) 0) (sym (add-assoc masksAt count i)))
+      ∙ below-ext (mostActive - count) (λ i. eqb (getD l (masksAt + (count + i)) 0) 0) (λ i. isZeroAt l (masksAt + count + i))
+      (λ i h. ap (λ (m : ℕ). eqb (getD l m 0) 0) (sym (add-assoc masksAt count i)))
       ∙ from-below (masksAt + count) (isZeroAt l) (mostActive - count) workingAt (omega arith)
 
   pub tail-by : (w : ℕ) → isZeroAt l homesEnd ≡ true → w ≡ ofBytes (λ i. getD l (homesEnd + 1 + i) 0) wordSize → eqb w 0 ≡ allFrom homesEnd controlSize (isZeroAt l)

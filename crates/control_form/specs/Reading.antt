@@ -1,6 +1,7 @@
 -- What the reader finds in an image, and what it looks at byte by byte. Assumes nothing.
 use mathlib.Core.Path.{_≡_}
 use mathlib.Core.Bool.{Bool, _&&_, _||_}
+use mathlib.Core.Logic.{_≢_}
 use mathlib.Core.List.{List, [], _∷_}
 use Prim.Native.Nat.{ℕ, zero, suc, _%_, _+_, _-_}
 use lib.Bits.{bitAnd}
@@ -8,8 +9,10 @@ use lib.Dec.{eqb, ltb}
 use lib.ListN.{getD}
 use Rattle.lists.specs.Tests.{allBelow}
 use Rattle.image.specs.Layout.{controlSize, mostPlaced}
-use Rattle.mask.specs.Masks.{Byte, byte, isWithin}
-use Rattle.control.specs.ControlBytes.{controlOf, countIn, failedAt, field, homeByte, homeIn, homesAt, homesEnd}
+use Rattle.mask.specs.Masks.{Byte, byte, isWithin, noCards}
+use Rattle.mask.specs.Placements.{fromMask}
+use Rattle.method.specs.ControlPart.{started}
+use Rattle.control.specs.ControlBytes.{Part, controlOf, countIn, failedAt, field, homeByte, homeIn, homesAt, homesEnd}
 use Rattle.control.specs.ControlBytes.{lastMaskAt, marksAt, masksAt, stoppedIn, workingAt}
 use Rattle.control.specs.Meaning.{Is, bitsFrom}
 use Rattle.control_form.specs.ControlForm.{chainOk, formRefusal, homeOk, isSafe, membersOk}
@@ -82,7 +85,13 @@ chainIn l =
 unfoldable pub newestIn : List ℕ → Bool
 newestIn l = stoppedIn (getD l 0 0) || isWithin (byte (getD l (lastMaskAt (countIn (getD l 0 0))) 0)) (byte (getD l workingAt 0))
 
--- What reading an image finds: row 1 or 2 of the refusal table, or else 0 and the control part that the bytes show.
+-- No control part: that of a start with no cards, which stands where none can be read.
+abbrev pub noPart : Part
+noPart = started (fromMask noCards) noCards noCards tt tt
+
+-- What reading an image finds: row 1 or 2 of the refusal table and no control part, or else 0 and the control part that
+-- the bytes show.
 pub record Reads (image : List ℕ) (r : Found) : Type 0 where
   pub refusal-is : r .refusal ≡ formRefusal image
   pub good : r .refusal ≡ 0 → Is (r .control) (controlOf (λ n. getD image n 0))
+  pub bad : r .refusal ≢ 0 → Is (r .control) noPart

@@ -8,7 +8,7 @@ ghost use Rattle.image.specs.Layout.{controlSize, mostActive};
 ghost use Rattle.mask.specs.Masks.{byte};
 ghost use Rattle.control.specs.ControlBytes.{countIn, homesAt, homesEnd, masksAt, stoppedIn, workingAt};
 ghost use Rattle.control_form.specs.ControlForm.{allSafe, controlForm, countOk, isSafe, membersOk};
-ghost use Rattle.control.specs.Meaning.{meaning, Counted};
+ghost use Rattle.control.specs.Meaning.{meaning, Counted, Is};
 ghost use Rattle.control_form.specs.Reading.{
   Reads,
   allFrom,
@@ -19,6 +19,7 @@ ghost use Rattle.control_form.specs.Reading.{
   isZeroAt,
   maskTest,
   newestIn,
+  noPart,
   otherZeros,
   placementOk,
   wordsEnd,
@@ -286,7 +287,7 @@ fn form_ok(s: &[u8]) -> bool
 
 // No control part, and why.
 fn unread(refusal: u8) -> Found
-    ensures { λ r. ⌜ r .refusal ≡ refusal ⌝ }
+    ensures { λ r. ⌜ (r .refusal ≡ refusal) × Is (r .control) noPart ⌝ }
 {
     let none = Control::started(mask::Placement::from_mask(0));
     Found {

@@ -18,7 +18,8 @@ use Rattle.image.specs.Layout.{blockSize, slotCount, slotSize, slotStart, tranB
 use Rattle.image.proofs.Zeros.{length-zeros, zeros-at}
 use Rattle.slot.specs.declared.Slot.{Slot}
 use Rattle.slot.specs.Words.{slotOf, wordOf, InRange, entryOf, lockedSlot, freedSlot}
-use Rattle.slot.specs.Blocks.{BlockBytes, byteIn, blockOfBytes, emptyBlock, ofList, freshBlock, isHeld, numberOf, byteOf, wordAt, slotAt, putSlot, lockSlot, endedByte, endSlots, anyPicked, isPicked}
+use Rattle.slot.specs.Blocks.{BlockBytes, byteIn, blockOfBytes, emptyBlock, ofList, freshBlock, isHeld, numberOf, byteOf, wordAt, slotAt}
+use Rattle.slot.specs.Blocks.{putSlot, lockSlot, endedByte, endSlots, anyPicked, isPicked}
 use Rattle.slot.proofs.Words.{word-lt, slot-of-word, slot-in-range, locked-in-range, freed-in-range}
 
 -- Blocks are equal where their lists are, and where their bytes are.

@@ -72,5 +72,5 @@ unfolding NoShorterMoves NoShorterList
 no-shorter-moves g lent filled n d entries m t =
     let clear = listed-clear g (length lent) n (sym (d .answers)) .0 in
     let least = no-shorter-list g (length lent) n (sym (d .answers)) (given (runCalls (t .moves))) (map entryOf entries) (given-moves g clear entries (Retired m) t) (t .noise) m
-        (sym (settle-given g clear entries (Retired m) t)) in
+    (sym (settle-given g clear entries (Retired m) t)) in
     omega (arith, least, length-map entries entryOf)

@@ -22,7 +22,11 @@ cast-bytes : tie.Need-cast-bytes
 cast-bytes c = search needs
 
 add-bytes-2 : tie.Need-add-bytes-2
-add-bytes-2 c = omega (arith, (formed-wide (c .before .before .before .before .args .f) (c .before .before .before .before .pre .1)) .card-fits, (formed-wide (c .before .before .before .before .args .f) (c .before .before .before .before .pre .1)) .number-fits)
+add-bytes-2 c = omega (
+  arith,
+  (formed-wide (c .before .before .before .before .args .f) (c .before .before .before .before .pre .1)) .card-fits,
+  (formed-wide (c .before .before .before .before .args .f) (c .before .before .before .before .pre .1)) .number-fits,
+)
 
 slice-write-bytes-2 : tie.Need-slice-write-bytes-2
 slice-write-bytes-2 c = search needs

@@ -61,7 +61,8 @@ is-within-requires-8 : tie.Need-is-within-requires-8
 is-within-requires-8 c κs = search needs
 
 returns-8 : tie.Need-returns-8
-returns-8 c = c .is-within8 .ensures ∙ form-of-two (c .before .before .before .before .args .f) 7 8 (one-or-next 7 (c .before .before .before .before .args .f .operation) (c .before .before .if1 .left) (c .before .if2 .taken)) refl
+returns-8 c = c .is-within8 .ensures ∙ form-of-two (c .before .before .before .before .args .f) 7 8
+    (one-or-next 7 (c .before .before .before .before .args .f .operation) (c .before .before .if1 .left) (c .before .if2 .taken)) refl
 
 is-within-requires-9 : tie.Need-is-within-requires-9
 is-within-requires-9 c κs = search needs

@@ -41,7 +41,8 @@ unfolding fieldsIn
 returns-2 c =
     let l = now (c .before .before .before .before .before .before .before .before .before .before .before .args .bytes) in
     let e : c .before .before .before .decode .result ≡ fieldsIn l = c .before .before .before .decode .ensures in
-    ap Asks (c .command-at .ensures ∙ ap commandAt e) ∙ read-form l true (c .before .before .before .before .before .before .before .before .before .if1 .left) (sym (ap formed e) ∙ (sym (c .before .before .is-formed .ensures) ∙ c .before .if2 .taken))
+    ap Asks (c .command-at .ensures ∙ ap commandAt e) ∙ read-form l true (c .before .before .before .before .before .before .before .before .before .if1 .left)
+    (sym (ap formed e) ∙ (sym (c .before .before .is-formed .ensures) ∙ c .before .if2 .taken))
 
 returns-3 : tie.Need-returns-3
 unfolding fieldsIn

@@ -44,7 +44,8 @@ formed c =
     all-homes (e .before .before .before .args .s .now) (passed-is (e .before .are-homes .ensures) (e .if1 .left)) (passed-is (c .before .are-homes2 .ensures) (c .if2 .left))
 
 left : (c : tie.Else2) (stopped : Bool) → stoppedIn (getD (c .before .before .before .before .before .args .s .now) 0 0) ≡ stopped
-    → allFrom homesAt wordsEnd (homeFitsAt (c .before .before .before .before .before .args .s .now)) ≡ allFrom homesAt wordsEnd (homeOkAt stopped (c .before .before .before .before .before .args .s .now))
+    → allFrom homesAt wordsEnd (homeFitsAt (c .before .before .before .before .before .args .s .now))
+    ≡ allFrom homesAt wordsEnd (homeOkAt stopped (c .before .before .before .before .before .args .s .now))
 left c stopped s =
     let e = c .before .before in
     let g = e .before .before .before .args .s .now in

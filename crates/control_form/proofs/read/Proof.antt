@@ -1,5 +1,5 @@
--- The proof of `read`: the length, then the form, then the struct that the bytes show. Assumes nothing.
-use mathlib.Core.Path.{_∙_}
+-- The length, then the form, then the struct that the bytes show. Assumes nothing.
+use mathlib.Core.Path.{_∙_, refl}
 use native.Mathlib.Omega.{arith}
 use borrow.Author.Tests.{eq-eqb, ne-eqb}
 use Rattle.control_form.specs.ControlForm.{formRefusal}
@@ -20,7 +20,7 @@ returns : tie.Need-returns
 unfolding formRefusal
 returns c =
     let e = c .unread .ensures in
-    record { refusal-is = e ∙ rw (ne-eqb _ _ (c .before .if1 .taken)); good = λ z. absurd (omega arith) }
+    record { refusal-is = e .0 ∙ rw (ne-eqb _ _ (c .before .if1 .taken)); good = λ z. absurd (omega (arith, e .0)); bad = λ z. e .1 }
 
 form-ok-requires : tie.Need-form-ok-requires
 form-ok-requires c κs = search needs
@@ -34,8 +34,9 @@ returns-2 c =
     let f = c .before .before in
     let e = c .unread2 .ensures in
     record {
-      refusal-is = e ∙ rw (eq-eqb _ _ (f .before .if1 .left), failed-is (f .form-ok .ensures) (c .before .if2 .taken));
-      good = λ z. absurd (omega arith);
+      refusal-is = e .0 ∙ rw (eq-eqb _ _ (f .before .if1 .left), failed-is (f .form-ok .ensures) (c .before .if2 .taken));
+      good = λ z. absurd (omega (arith, e .0));
+      bad = λ z. e .1;
     }
 
 decode-requires : tie.Need-decode-requires
@@ -51,6 +52,7 @@ returns-3 c =
     record {
       refusal-is = rw (eq-eqb _ _ (f .before .if1 .left), t);
       good = λ e. form-reads (s .args .image .now) (d .result) (d .ensures) t;
+      bad = λ z. absurd (z refl);
     }
 
 pub read-spec : {M : Type 1} → statement M

@@ -152,7 +152,11 @@ same-length c = search needs
 
 returns : tie.Need-returns
 unfolding words
-returns c = (puts-same (sym (ap said (c .before .before .before .before .before .enum-told .given .1))) (c .before .before .put-word .ensures), omega (arith, c .before .before .put-word .ensures .ends))
+returns c = (
+  puts-same (sym (ap said (c .before .before .before .before .before .enum-told .given .1))) (c .before .before .put-word .ensures),
+  omega
+      (arith, c .before .before .put-word .ensures .ends),
+)
 
 same-length-2 : tie.Need-same-length-2
 same-length-2 c = search needs
@@ -161,15 +165,22 @@ returns-2 : tie.Need-returns-2
 unfolding words
 returns-2 c =
     let n : ℕ = c .before .before .before .before .before .before .answer .given .0 .0 in
-    let f : Fits w16 n = search needs in
-    (puts-same (sym (ap said (c .before .before .before .before .before .before .answer .given .1))) (c .before .before .put-count .ensures), omega (arith, c .before .before .put-count .ensures .ends, length-16 n (f .fits)))
+    let f : Fits w16 n = search needs in (
+      puts-same (sym (ap said (c .before .before .before .before .before .before .answer .given .1))) (c .before .before .put-count .ensures),
+      omega
+          (arith, c .before .before .put-count .ensures .ends, length-16 n (f .fits)),
+    )
 
 same-length-3 : tie.Need-same-length-3
 same-length-3 c = search needs
 
 returns-3 : tie.Need-returns-3
 unfolding words
-returns-3 c = (puts-same (sym (ap said (c .before .before .before .before .before .enum-told2 .given .1))) (c .before .before .put-word2 .ensures), omega (arith, c .before .before .put-word2 .ensures .ends))
+returns-3 c = (
+  puts-same (sym (ap said (c .before .before .before .before .before .enum-told2 .given .1))) (c .before .before .put-word2 .ensures),
+  omega
+      (arith, c .before .before .put-word2 .ensures .ends),
+)
 
 same-length-4 : tie.Need-same-length-4
 same-length-4 c = search needs
@@ -177,22 +188,33 @@ same-length-4 c = search needs
 returns-4 : tie.Need-returns-4
 unfolding words
 returns-4 c =
-    let f : Fits w8 (c .before .before .before .before .before .answer2 .given .0 .0) = search needs in
-    (puts-same (placed-words _ (f .fits) ∙ sym (ap said (c .before .before .before .before .before .answer2 .given .1))) (c .before .before .put-mask .ensures), omega (arith, c .before .before .put-mask .ensures .ends))
+    let f : Fits w8 (c .before .before .before .before .before .answer2 .given .0 .0) = search needs in (
+      puts-same (placed-words _ (f .fits) ∙ sym (ap said (c .before .before .before .before .before .answer2 .given .1))) (c .before .before .put-mask .ensures),
+      omega
+          (arith, c .before .before .put-mask .ensures .ends),
+    )
 
 same-length-5 : tie.Need-same-length-5
 same-length-5 c = search needs
 
 returns-5 : tie.Need-returns-5
 unfolding words
-returns-5 c = (puts-same (sym (ap said (c .before .before .before .before .before .enum-told3 .given .1))) (c .before .before .put-word3 .ensures), omega (arith, c .before .before .put-word3 .ensures .ends))
+returns-5 c = (
+  puts-same (sym (ap said (c .before .before .before .before .before .enum-told3 .given .1))) (c .before .before .put-word3 .ensures),
+  omega
+      (arith, c .before .before .put-word3 .ensures .ends),
+)
 
 same-length-6 : tie.Need-same-length-6
 same-length-6 c = search needs
 
 returns-6 : tie.Need-returns-6
 unfolding words
-returns-6 c = (puts-same (sym (ap said (c .before .before .before .before .before .enum-told4 .given .1))) (c .before .before .put-word4 .ensures), omega (arith, c .before .before .put-word4 .ensures .ends))
+returns-6 c = (
+  puts-same (sym (ap said (c .before .before .before .before .before .enum-told4 .given .1))) (c .before .before .put-word4 .ensures),
+  omega
+      (arith, c .before .before .put-word4 .ensures .ends),
+)
 
 same-length-7 : tie.Need-same-length-7
 same-length-7 c = search needs
@@ -201,8 +223,11 @@ returns-7 : tie.Need-returns-7
 unfolding words
 returns-7 c =
     let n : ℕ = c .before .before .before .before .before .before .answer3 .given .0 .0 in
-    let f : Fits w8 n = search needs in
-    (puts-same (sym (ap said (c .before .before .before .before .before .before .answer3 .given .1))) (c .before .before .put-count2 .ensures), omega (arith, c .before .before .put-count2 .ensures .ends, length-8 n (f .fits)))
+    let f : Fits w8 n = search needs in (
+      puts-same (sym (ap said (c .before .before .before .before .before .before .answer3 .given .1))) (c .before .before .put-count2 .ensures),
+      omega
+          (arith, c .before .before .put-count2 .ensures .ends, length-8 n (f .fits)),
+    )
 
 same-length-8 : tie.Need-same-length-8
 same-length-8 c = search needs
@@ -211,22 +236,33 @@ returns-8 : tie.Need-returns-8
 unfolding words
 returns-8 c =
     let n : ℕ = c .before .before .before .before .before .before .answer4 .given .0 .0 in
-    let f : Fits w8 n = search needs in
-    (puts-same (sym (ap said (c .before .before .before .before .before .before .answer4 .given .1))) (c .before .before .put-count3 .ensures), omega (arith, c .before .before .put-count3 .ensures .ends, length-8 n (f .fits)))
+    let f : Fits w8 n = search needs in (
+      puts-same (sym (ap said (c .before .before .before .before .before .before .answer4 .given .1))) (c .before .before .put-count3 .ensures),
+      omega
+          (arith, c .before .before .put-count3 .ensures .ends, length-8 n (f .fits)),
+    )
 
 same-length-9 : tie.Need-same-length-9
 same-length-9 c = search needs
 
 returns-9 : tie.Need-returns-9
 unfolding words
-returns-9 c = (puts-same (sym (ap said (c .before .before .before .before .before .enum-told5 .given .1))) (c .before .before .put-word5 .ensures), omega (arith, c .before .before .put-word5 .ensures .ends))
+returns-9 c = (
+  puts-same (sym (ap said (c .before .before .before .before .before .enum-told5 .given .1))) (c .before .before .put-word5 .ensures),
+  omega
+      (arith, c .before .before .put-word5 .ensures .ends),
+)
 
 same-length-10 : tie.Need-same-length-10
 same-length-10 c = search needs
 
 returns-10 : tie.Need-returns-10
 unfolding words
-returns-10 c = (puts-same (sym (ap said (c .before .before .before .before .before .enum-told6 .given .1))) (c .before .before .put-word6 .ensures), omega (arith, c .before .before .put-word6 .ensures .ends))
+returns-10 c = (
+  puts-same (sym (ap said (c .before .before .before .before .before .enum-told6 .given .1))) (c .before .before .put-word6 .ensures),
+  omega
+      (arith, c .before .before .put-word6 .ensures .ends),
+)
 
 same-length-11 : tie.Need-same-length-11
 same-length-11 c = search needs
@@ -235,8 +271,11 @@ returns-11 : tie.Need-returns-11
 unfolding words
 returns-11 c =
     let n : ℕ = c .before .before .before .before .before .before .answer5 .given .0 .0 in
-    let f : Fits w16 n = search needs in
-    (puts-same (sym (ap said (c .before .before .before .before .before .before .answer5 .given .1))) (c .before .before .put-count4 .ensures), omega (arith, c .before .before .put-count4 .ensures .ends, length-16 n (f .fits)))
+    let f : Fits w16 n = search needs in (
+      puts-same (sym (ap said (c .before .before .before .before .before .before .answer5 .given .1))) (c .before .before .put-count4 .ensures),
+      omega
+          (arith, c .before .before .put-count4 .ensures .ends, length-16 n (f .fits)),
+    )
 
 same-length-12 : tie.Need-same-length-12
 same-length-12 c = search needs
@@ -245,8 +284,11 @@ returns-12 : tie.Need-returns-12
 unfolding words
 returns-12 c =
     let n : ℕ = c .before .before .before .before .before .before .answer6 .given .0 .0 in
-    let f : Fits w8 n = search needs in
-    (puts-same (sym (ap said (c .before .before .before .before .before .before .answer6 .given .1))) (c .before .before .put-count5 .ensures), omega (arith, c .before .before .put-count5 .ensures .ends, length-8 n (f .fits)))
+    let f : Fits w8 n = search needs in (
+      puts-same (sym (ap said (c .before .before .before .before .before .before .answer6 .given .1))) (c .before .before .put-count5 .ensures),
+      omega
+          (arith, c .before .before .put-count5 .ensures .ends, length-8 n (f .fits)),
+    )
 
 pub put-answer-spec : {M : Type 1} → statement M
 put-answer-spec =

@@ -14,7 +14,8 @@ same-length : tie.Need-same-length
 same-length c = search needs
 
 returns : tie.Need-returns
-returns c = puts-then (c .before .before .before .before .before .before .put-word .ensures) (c .before .before .put-decimal .ensures) (c .before .before .before .before .before .before .before .before .before .before .pre)
+returns c = puts-then (c .before .before .before .before .before .before .put-word .ensures) (c .before .before .put-decimal .ensures)
+    (c .before .before .before .before .before .before .before .before .before .before .pre)
 
 pub put-count-spec : {M : Type 1} → statement M
 put-count-spec = tie.close (tie.spec put-word-requires put-decimal-requires same-length returns)

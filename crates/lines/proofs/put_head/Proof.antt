@@ -28,14 +28,30 @@ put-hexes-requires : tie.Need-put-hexes-requires
 put-hexes-requires c κs =
     let f : Fits w64 (c .before .before .before .before .before .before .before .before .before .before .before .args .number) = search needs in
     let d : length (decimal (c .before .before .before .before .before .before .before .before .before .before .before .args .number)) ≤ 20 = length-64 _ (f .fits) in
-    omega (arith, c .before .before .before .before .before .before .before .before .before .before .before .pre, c .before .before .before .before .before .before .before .put-decimal .ensures .ends, c .before .before .before .before .before .before .before .put-decimal .kept .0, c .before .before .before .put-byte .ensures .ends, c .before .before .before .put-byte .kept .0)
+    omega (
+      arith,
+      c .before .before .before .before .before .before .before .before .before .before .before .pre,
+      c .before .before .before .before .before .before .before .put-decimal .ensures .ends,
+      c .before .before .before .before .before .before .before .put-decimal .kept .0,
+      c .before .before .before .put-byte .ensures .ends,
+      c .before .before .before .put-byte .kept .0,
+    )
 
 put-byte-requires-2 : tie.Need-put-byte-requires-2
 put-byte-requires-2 c κs =
     let f : Fits w64 (c .before .before .before .before .before .before .before .before .before .before .before .before .before .before .before .args .number) = search needs in
     let d : length (decimal (c .before .before .before .before .before .before .before .before .before .before .before .before .before .before .before .args .number)) ≤ 20 = length-64 _ (f .fits) in
     let h = hex-length (now (c .before .before .before .before .before .before .before .before .before .before .before .before .before .before .before .args .command)) in
-    omega (arith, c .before .before .before .before .before .before .before .before .before .before .before .before .before .before .before .pre, c .before .before .before .before .before .before .before .before .before .before .before .put-decimal .ensures .ends, c .before .before .before .before .before .before .before .before .before .before .before .put-decimal .kept .0, c .before .before .before .before .before .before .before .put-byte .ensures .ends, c .before .before .before .before .before .before .before .put-byte .kept .0, c .before .before .before .put-hexes .ensures .ends, c .before .before .before .put-hexes .kept .0)
+    omega (
+      arith,
+      c .before .before .before .before .before .before .before .before .before .before .before .before .before .before .before .pre,
+      c .before .before .before .before .before .before .before .before .before .before .before .put-decimal .ensures .ends,
+      c .before .before .before .before .before .before .before .before .before .before .before .put-decimal .kept .0,
+      c .before .before .before .before .before .before .before .put-byte .ensures .ends,
+      c .before .before .before .before .before .before .before .put-byte .kept .0,
+      c .before .before .before .put-hexes .ensures .ends,
+      c .before .before .before .put-hexes .kept .0,
+    )
 
 same-length : tie.Need-same-length
 same-length c = search needs

@@ -48,8 +48,10 @@ add-result c =
     let s = c .before .before .before .before .step in
     let g : Fits w64 (length (now (a .out))) = search needs in
     let short : length (segment (now (a .input)) (a .i * commandSize) commandSize) ≤ commandSize = command-short (now (a .input)) (a .i * commandSize) in
-    let e : length (segment (now (a .input)) (a .i * commandSize) (c .before .before .before .before .before .before .before .before .command-end .result - a .i * commandSize)) ≡ length (segment (now (a .input)) (a .i * commandSize) commandSize) = ap length (c .before .before .before .before .before .before .before .before .command-end .ensures .2) in
-    let m : s .result ≤ longestLine (length (segment (now (a .input)) (a .i * commandSize) (c .before .before .before .before .before .before .before .before .command-end .result - a .i * commandSize))) = s .ensures .1 in
+    let e : length (segment (now (a .input)) (a .i * commandSize) (c .before .before .before .before .before .before .before .before .command-end .result - a .i * commandSize))
+    ≡ length (segment (now (a .input)) (a .i * commandSize) commandSize) = ap length (c .before .before .before .before .before .before .before .before .command-end .ensures .2) in
+    let m : s .result ≤ longestLine (length (segment (now (a .input)) (a .i * commandSize)
+    (c .before .before .before .before .before .before .before .before .command-end .result - a .i * commandSize))) = s .ensures .1 in
     record { fits = omega (arith, c .before .before .before .before .before .before .before .before .before .before .before .before .pre .1, g .fits) }
 
 same-length : tie.Need-same-length
@@ -63,7 +65,9 @@ unfolding segment
 returns c =
     let a = c .before .before .before .before .before .before .before .before .before .before .before .before .args in
     let s = c .before .before .before .before .step in
-    turned (a .number) (a .at) (s .result) _ _ (c .before .before .before .before .before .before .before .before .command-end .result) (a .i) (now (a .input)) (now (a .out)) _ _ _ refl (c .before .before .before .before .before .before .before .before .command-end .ensures .2) refl (c .before .before .before .before .before .before .before .before .before .before .before .before .pre .1) (s .ensures .0) (s .ensures .1)
+    turned (a .number) (a .at) (s .result) _ _ (c .before .before .before .before .before .before .before .before .command-end .result) (a .i) (now (a .input))
+    (now (a .out)) _ _ _ refl (c .before .before .before .before .before .before .before .before .command-end .ensures .2) refl
+    (c .before .before .before .before .before .before .before .before .before .before .before .before .pre .1) (s .ensures .0) (s .ensures .1)
 
 pub turn-spec : {M : Type 1} → statement M
 turn-spec =

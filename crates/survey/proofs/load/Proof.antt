@@ -1,4 +1,4 @@
--- Refused by the form or by a row; else nothing changes, and the answer is the load of the card's table. Assumes nothing.
+-- By the rows that refuse, and else by the sum over the blocks. Assumes nothing.
 use mathlib.Core.Path.{_∙_, _≡_, ap, refl, sym}
 use Rattle.method.specs.Rules.{load}
 use Rattle.control.specs.ControlBytes.{Part}

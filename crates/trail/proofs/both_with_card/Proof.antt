@@ -1,4 +1,4 @@
--- A working card is added to each block's cards where it holds the block; an idle one holds nothing. Assumes nothing.
+-- The card is taken where it works and holds the block, for each of two blocks. Assumes nothing.
 use Prim.Native.Nat.{_+_}
 use borrow.Author.Needs.{needs}
 use mathlib.Core.Path.{_∙_, subst, sym}
@@ -36,10 +36,10 @@ returns c =
     let a = h .before .before .args in
     let g = a .image .now in
     let works = sym (h .has .ensures) ∙ t .if1 .taken in (
-      subst (WithCard (a .held .first) (f .with-if .result) (a .card .0)) (works-holds g (byte (a .working)) (a .block .0) (a .card .0) (i .is-held .result) works (i .is-held .ensures))
-          (f .with-if .ensures),
-      subst (WithCard (a .held .second) (c .with-if2 .result) (a .card .0)) (works-holds g (byte (a .working)) (a .block .0 + 1) (a .card .0) (j .is-held2 .result) works (j .is-held2 .ensures))
-          (c .with-if2 .ensures),
+      subst (WithCard (a .held .first) (f .with-if .result) (a .card .0))
+          (works-holds g (byte (a .working)) (a .block .0) (a .card .0) (i .is-held .result) works (i .is-held .ensures)) (f .with-if .ensures),
+      subst (WithCard (a .held .second) (c .with-if2 .result) (a .card .0))
+          (works-holds g (byte (a .working)) (a .block .0 + 1) (a .card .0) (j .is-held2 .result) works (j .is-held2 .ensures)) (c .with-if2 .ensures),
     )
 
 returns-2 : tie.Need-returns-2

@@ -1,4 +1,4 @@
--- The proof of `codec::mask_byte`. Assumes nothing.
+-- By whether the mask counts. Assumes nothing.
 use borrow.Author.Tests.{lt-ltb, le-ltb}
 use Rattle.control.proofs.codec.mask_byte.Statement.{statement}
 use Rattle.control.proofs.codec.mask_byte.Tie as tie

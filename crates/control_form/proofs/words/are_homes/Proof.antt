@@ -1,4 +1,4 @@
--- The proof of `words::are_homes`: the test of the number is one of its bytes. Assumes nothing.
+-- The test of the number is one of its bytes. Assumes nothing.
 use native.Mathlib.Omega.{arith}
 use lib.Bits.{and-le-r}
 use Rattle.control_form.proofs.Homes.{homes-at, opens}

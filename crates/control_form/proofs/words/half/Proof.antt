@@ -1,4 +1,4 @@
--- The proof of `words::half`: each byte with its weight. Assumes nothing.
+-- Each byte with its weight. Assumes nothing.
 use native.Mathlib.Omega.{arith}
 use Rattle.lists.proofs.Bytes.{four-bytes}
 use borrow.Author.Needs.{needs}
@@ -8,75 +8,57 @@ use Rattle.control_form.proofs.words.half.Reads as reads
 use Rattle.control_form.proofs.words.half.Lts as lts
 use Rattle.image.proofs.wide.Reads as wide-reads
 
--- src/words.rt:45:10
 shared-slice-read-wide : tie.Need-shared-slice-read-wide
 shared-slice-read-wide c = search needs
 
--- src/words.rt:45:5
 wide-requires : tie.Need-wide-requires
 wide-requires c κs = search needs
 
--- src/words.rt:45:26
 add-wide : tie.Need-add-wide
 add-wide c = search needs
 
--- src/words.rt:45:24
 shared-slice-read-wide-2 : tie.Need-shared-slice-read-wide-2
 shared-slice-read-wide-2 c = search needs
 
--- src/words.rt:45:19
 wide-requires-2 : tie.Need-wide-requires-2
 wide-requires-2 c κs = search needs
 
--- src/words.rt:45:19
 mul-result : tie.Need-mul-result
 mul-result c = search needs
 
--- src/words.rt:45:5
 add-result : tie.Need-add-result
 add-result c = search needs
 
--- src/words.rt:45:52
 add-wide-2 : tie.Need-add-wide-2
 add-wide-2 c = search needs
 
--- src/words.rt:45:50
 shared-slice-read-wide-3 : tie.Need-shared-slice-read-wide-3
 shared-slice-read-wide-3 c = search needs
 
--- src/words.rt:45:45
 wide-requires-3 : tie.Need-wide-requires-3
 wide-requires-3 c κs = search needs
 
--- src/words.rt:45:45
 mul-result-2 : tie.Need-mul-result-2
 mul-result-2 c = search needs
 
--- src/words.rt:45:5
 add-result-2 : tie.Need-add-result-2
 add-result-2 c = search needs
 
--- src/words.rt:45:81
 add-wide-3 : tie.Need-add-wide-3
 add-wide-3 c = search needs
 
--- src/words.rt:45:79
 shared-slice-read-wide-4 : tie.Need-shared-slice-read-wide-4
 shared-slice-read-wide-4 c = search needs
 
--- src/words.rt:45:74
 wide-requires-4 : tie.Need-wide-requires-4
 wide-requires-4 c κs = search needs
 
--- src/words.rt:45:74
 mul-result-3 : tie.Need-mul-result-3
 mul-result-3 c = search needs
 
--- src/words.rt:45:5
 add-result-3 : tie.Need-add-result-3
 add-result-3 c = search needs
 
--- src/words.rt:41:1
 returns : tie.Need-returns
 returns c =
     let c3 = c .before .before in

@@ -1,4 +1,4 @@
--- The proof of `words::lack_home`: the test of the number is one of its bytes. Assumes nothing.
+-- The test of the number is one of its bytes. Assumes nothing.
 use mathlib.Core.Path.{_∙_, ap}
 use Prim.Native.Nat.{ℕ, _+_, _*_, _/_}
 use native.Mathlib.Omega.{arith}

@@ -1,4 +1,4 @@
--- The proof of `words::word`: two halves. Assumes nothing.
+-- Two halves. Assumes nothing.
 use Rattle.lists.proofs.Bytes.{eight-bytes}
 use borrow.Author.Needs.{needs}
 use Rattle.control_form.proofs.words.word.Statement.{statement}
@@ -7,27 +7,21 @@ use Rattle.control_form.proofs.words.word.Reads as reads
 use Rattle.control_form.proofs.words.word.Lts as lts
 use Rattle.control_form.proofs.words.half.Reads as half-reads
 
--- src/words.rt:53:5
 half-requires : tie.Need-half-requires
 half-requires c κs = search needs
 
--- src/words.rt:53:27
 add-half : tie.Need-add-half
 add-half c = search needs
 
--- src/words.rt:53:19
 half-requires-2 : tie.Need-half-requires-2
 half-requires-2 c κs = search needs
 
--- src/words.rt:53:19
 mul-result : tie.Need-mul-result
 mul-result c = search needs
 
--- src/words.rt:53:5
 add-result : tie.Need-add-result
 add-result c = search needs
 
--- src/words.rt:49:1
 returns : tie.Need-returns
 returns c =
     let a = c .before .before .before .args in

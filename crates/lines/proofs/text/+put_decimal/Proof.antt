@@ -81,7 +81,8 @@ put-decimal-returns : (t : ℕ) → put-decimal-lts.Need-returns (
 ) (put-decimal-at t) put-decimal.Post
 put-decimal-returns t c =
     let a = c .before .before .before .before .before .before .before .args in
-    puts-same (ap (λ (x : ℕ). x ∷ []) (c .before .before .before .glyph .ensures) ∙ sym (decimal-small (a .n) (c .before .before .before .before .before .if1 .taken))) (c .before .before .put-byte .ensures)
+    puts-same (ap (λ (x : ℕ). x ∷ []) (c .before .before .before .glyph .ensures) ∙ sym (decimal-small (a .n) (c .before .before .before .before .before .if1 .taken)))
+    (c .before .before .put-byte .ensures)
 
 put-decimal-put-decimal-requires : (t : ℕ) → put-decimal-lts.Need-put-decimal-requires (
   glyph-reads.Asked,
@@ -151,8 +152,10 @@ put-decimal-returns-2 : (t : ℕ) → put-decimal-lts.Need-returns-2 (
 put-decimal-returns-2 t c =
     let a = c .before .before .before .before .before .before .before .before .before .before .before .args in
     let e : length (decimal (a .n)) ≡ length (decimal (a .n / 10)) + 1 = length-more (a .n) (c .before .before .before .before .before .before .before .before .before .if1 .left) in
-    puts-same (ap (λ (x : ℕ). decimal (a .n / 10) ++ (x ∷ [])) (c .before .before .before .glyph2 .ensures) ∙ sym (decimal-more (a .n) (c .before .before .before .before .before .before .before .before .before .if1 .left)))
-    (puts-then (c .before .before .before .before .before .before .before .put-decimal .ensures) (c .before .before .put-byte2 .ensures) (omega (arith, c .before .before .before .before .before .before .before .before .before .before .before .pre .1)))
+    puts-same (ap (λ (x : ℕ). decimal (a .n / 10) ++ (x ∷ [])) (c .before .before .before .glyph2 .ensures)
+    ∙ sym (decimal-more (a .n) (c .before .before .before .before .before .before .before .before .before .if1 .left)))
+    (puts-then (c .before .before .before .before .before .before .before .put-decimal .ensures) (c .before .before .put-byte2 .ensures)
+    (omega (arith, c .before .before .before .before .before .before .before .before .before .before .before .pre .1)))
 
 pub +put-decimal-spec : {M : Type 1} → statement M
 +put-decimal-spec = close μ-put-decimal λ t. put-decimal-lts.spec (

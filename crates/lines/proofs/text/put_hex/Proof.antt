@@ -20,7 +20,9 @@ same-length : tie.Need-same-length
 same-length c = search needs
 
 returns : tie.Need-returns
-returns c = puts-pair (c .before .before .before .before .before .before .before .before .glyph .ensures) (c .before .before .before .glyph2 .ensures) (c .before .before .before .before .before .before .before .put-byte .ensures) (c .before .before .put-byte2 .ensures) (c .before .before .before .before .before .before .before .before .before .before .before .pre)
+returns c = puts-pair (c .before .before .before .before .before .before .before .before .glyph .ensures) (c .before .before .before .glyph2 .ensures)
+    (c .before .before .before .before .before .before .before .put-byte .ensures) (c .before .before .put-byte2 .ensures)
+    (c .before .before .before .before .before .before .before .before .before .before .before .pre)
 
 pub put-hex-spec : {M : Type 1} → statement M
 put-hex-spec =

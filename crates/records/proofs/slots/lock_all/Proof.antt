@@ -1,4 +1,5 @@
--- Where the slot is locked on each member that is left, it is locked on each member of the mask. Assumes nothing.
+-- Where the slot is locked on each member that is left, it is locked on each member of the
+-- mask. Assumes nothing.
 use mathlib.Core.Path.{_∙_, _≡_, refl, sym}
 use Prim.Native.Nat.{_/_, _<_}
 use lib.ListN.{length}

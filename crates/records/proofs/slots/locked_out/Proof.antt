@@ -1,4 +1,5 @@
--- The members that are taken off have no such slot, so some member of the mask has one exactly where one that is left has. Assumes nothing.
+-- The members that are taken off have no such slot, so some member of the mask has one
+-- exactly where one that is left has. Assumes nothing.
 use mathlib.Core.Path.{_∙_, _≡_, ap, refl, sym}
 use Prim.Native.Nat.{_<_}
 use lib.ListN.{length}
