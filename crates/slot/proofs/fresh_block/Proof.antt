@@ -4,8 +4,6 @@ use borrow.Author.Needs.{needs}
 use Rattle.lists.specs.Tabulate.{tabulate}
 use Rattle.slot.proofs.fresh_block.Statement.{statement}
 use Rattle.slot.proofs.fresh_block.Tie as tie
-use Rattle.slot.proofs.fresh_block.Reads as reads
-use Rattle.slot.proofs.fresh_block.Lts as lts
 
 array-write-block : tie.Need-array-write-block
 array-write-block c = search needs

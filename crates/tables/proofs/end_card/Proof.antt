@@ -11,10 +11,6 @@ use Rattle.tables.proofs.Ends.{card-off, card-on, keeps-table}
 use borrow.Author.Needs.{needs}
 use Rattle.tables.proofs.end_card.Statement.{statement}
 use Rattle.tables.proofs.end_card.Tie as tie
-use Rattle.tables.proofs.end_card.Reads as reads
-use Rattle.tables.proofs.end_card.Lts as lts
-use Rattle.image.proofs.block_address.Reads as block-address-reads
-use Rattle.tables.proofs.end_table.Reads as end-table-reads
 
 block-address-requires : tie.Need-block-address-requires
 block-address-requires c κs = search needs

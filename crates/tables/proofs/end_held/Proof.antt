@@ -15,10 +15,6 @@ use Rattle.tables.specs.Tables.{endedOn}
 use Rattle.tables.proofs.Ends.{all-ended, cardWise, none-ended, upTo}
 use Rattle.tables.proofs.end_held.Statement.{statement}
 use Rattle.tables.proofs.end_held.Tie as tie
-use Rattle.tables.proofs.end_held.Reads as reads
-use Rattle.tables.proofs.end_held.Lts as lts
-use Rattle.mask.proofs.has.Reads as has-reads
-use Rattle.tables.proofs.end_card.Reads as end-card-reads
 
 abbrev Inv-loop : tie.InvT-loop
 Inv-loop image₀ working take set c₀ image c = (c ≤ cardCount) × (length image ≡ length image₀)

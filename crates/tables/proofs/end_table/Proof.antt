@@ -15,9 +15,6 @@ use Rattle.tables.specs.Tables.{endedTable}
 use Rattle.tables.proofs.Ends.{blockWise}
 use Rattle.tables.proofs.end_table.Statement.{statement}
 use Rattle.tables.proofs.end_table.Tie as tie
-use Rattle.tables.proofs.end_table.Reads as reads
-use Rattle.tables.proofs.end_table.Lts as lts
-use Rattle.slot.proofs.block.end_held.Reads as end-held-reads
 
 abbrev Inv-loop : tie.InvT-loop
 Inv-loop table₀ take set b₀ table b = (b ≤ blockCount) × (length table ≡ length table₀) × (table ≡ each (blockWise take (inSet set)) 0 blockSize b table₀)

@@ -8,11 +8,6 @@ use Rattle.promise.proofs.Laid.{of-part}
 use borrow.Author.Needs.{needs}
 use Rattle.move_list.proofs.origins.locked_at.Statement.{statement}
 use Rattle.move_list.proofs.origins.locked_at.Tie as tie
-use Rattle.move_list.proofs.origins.locked_at.Reads as reads
-use Rattle.move_list.proofs.origins.locked_at.Lts as lts
-use Rattle.image.proofs.block_address.Reads as block-address-reads
-use Rattle.mask.proofs.has.Reads as has-reads
-use Rattle.slot.proofs.block.any_locked.Reads as any-locked-reads
 
 has-requires : tie.Need-has-requires
 has-requires c κs = search needs

@@ -8,12 +8,6 @@ use Rattle.records.proofs.Reading.{slot-by}
 use borrow.Author.Needs.{needs}
 use Rattle.records.proofs.slots.slot_on.Statement.{statement}
 use Rattle.records.proofs.slots.slot_on.Tie as tie
-use Rattle.records.proofs.slots.slot_on.Reads as reads
-use Rattle.records.proofs.slots.slot_on.Lts as lts
-use Rattle.image.proofs.block_address.Reads as block-address-reads
-use Rattle.records.proofs.slots.block_of.Reads as block-of-reads
-use Rattle.records.proofs.slots.place_of.Reads as place-of-reads
-use Rattle.slot.proofs.block.slot_at.Reads as slot-at-reads
 
 block-of-requires : tie.Need-block-of-requires
 block-of-requires c κs = search needs

@@ -17,12 +17,6 @@ use Rattle.reorganise.proofs.MoveRows.{copy-card, copy-end, copy-rows, 
 use borrow.Author.Needs.{needs}
 use Rattle.reorganise.proofs.moving.refusal.Statement.{statement}
 use Rattle.reorganise.proofs.moving.refusal.Tie as tie
-use Rattle.reorganise.proofs.moving.refusal.Reads as reads
-use Rattle.reorganise.proofs.moving.refusal.Lts as lts
-use Rattle.image.proofs.block_address.Reads as block-address-reads
-use Rattle.promise.proofs.rows.card_refusal.Reads as card-refusal-reads
-use Rattle.slot.proofs.block.any_locked.Reads as any-locked-reads
-use Rattle.slot.proofs.block.is_held.Reads as is-held-reads
 
 cast-if1 : tie.Need-cast-if1
 cast-if1 c = search needs

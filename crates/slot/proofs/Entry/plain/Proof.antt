@@ -4,9 +4,6 @@ use borrow.Author.Needs.{needs}
 use Rattle.slot.proofs.Words.{plain-some}
 use Rattle.slot.proofs.Entry.plain.Statement.{statement}
 use Rattle.slot.proofs.Entry.plain.Tie as tie
-use Rattle.slot.proofs.Entry.plain.Reads as reads
-use Rattle.slot.proofs.Entry.plain.Lts as lts
-use Rattle.slot.proofs.Entry.absent.Reads as absent-reads
 
 returns : tie.Need-returns
 returns c = sym (plain-some _ (c .if1 .taken))

@@ -2,9 +2,6 @@
 use borrow.Author.Needs.{needs}
 use Rattle.slot.proofs.Slot.drop.Statement.{statement}
 use Rattle.slot.proofs.Slot.drop.Tie as tie
-use Rattle.slot.proofs.Slot.drop.Reads as reads
-use Rattle.slot.proofs.Slot.drop.Lts as lts
-use Rattle.slot.proofs.Entry.absent.Reads as absent-reads
 
 absent-requires : tie.Need-absent-requires
 absent-requires c κs = search needs

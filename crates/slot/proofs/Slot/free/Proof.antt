@@ -2,10 +2,6 @@
 use borrow.Author.Needs.{needs}
 use Rattle.slot.proofs.Slot.free.Statement.{statement}
 use Rattle.slot.proofs.Slot.free.Tie as tie
-use Rattle.slot.proofs.Slot.free.Reads as reads
-use Rattle.slot.proofs.Slot.free.Lts as lts
-use Rattle.slot.proofs.Slot.drop.Reads as drop-reads
-use Rattle.slot.proofs.Slot.take.Reads as take-reads
 
 take-requires : tie.Need-take-requires
 take-requires c κs = search needs

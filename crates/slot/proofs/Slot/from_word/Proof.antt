@@ -3,8 +3,6 @@ use borrow.Author.Needs.{needs}
 use Rattle.slot.specs.Words.{slotOf}
 use Rattle.slot.proofs.Slot.from_word.Statement.{statement}
 use Rattle.slot.proofs.Slot.from_word.Tie as tie
-use Rattle.slot.proofs.Slot.from_word.Reads as reads
-use Rattle.slot.proofs.Slot.from_word.Lts as lts
 
 cast-t7 : tie.Need-cast-t7
 cast-t7 c = search needs

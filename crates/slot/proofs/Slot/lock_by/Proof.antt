@@ -2,9 +2,6 @@
 use borrow.Author.Needs.{needs}
 use Rattle.slot.proofs.Slot.lock_by.Statement.{statement}
 use Rattle.slot.proofs.Slot.lock_by.Tie as tie
-use Rattle.slot.proofs.Slot.lock_by.Reads as reads
-use Rattle.slot.proofs.Slot.lock_by.Lts as lts
-use Rattle.slot.proofs.Entry.plain.Reads as plain-reads
 
 plain-requires : tie.Need-plain-requires
 plain-requires c κs = search needs

@@ -2,10 +2,6 @@
 use borrow.Author.Needs.{needs}
 use Rattle.slot.proofs.Slot.take.Statement.{statement}
 use Rattle.slot.proofs.Slot.take.Tie as tie
-use Rattle.slot.proofs.Slot.take.Reads as reads
-use Rattle.slot.proofs.Slot.take.Lts as lts
-use Rattle.slot.proofs.Entry.absent.Reads as absent-reads
-use Rattle.slot.proofs.Entry.plain.Reads as plain-reads
 
 plain-requires : tie.Need-plain-requires
 plain-requires c κs = search needs

@@ -4,9 +4,6 @@ use borrow.Author.Needs.{needs}
 use Rattle.slot.specs.Words.{wordOf}
 use Rattle.slot.proofs.Slot.to_word.Statement.{statement}
 use Rattle.slot.proofs.Slot.to_word.Tie as tie
-use Rattle.slot.proofs.Slot.to_word.Reads as reads
-use Rattle.slot.proofs.Slot.to_word.Lts as lts
-use Rattle.slot.proofs.bit.Reads as bit-reads
 
 bit-requires : tie.Need-bit-requires
 bit-requires c κs = search needs

@@ -8,9 +8,6 @@ use Rattle.slot.proofs.Locks.{locked-joined}
 use borrow.Author.Needs.{needs}
 use Rattle.slot.proofs.block.any_locked.Statement.{statement}
 use Rattle.slot.proofs.block.any_locked.Tie as tie
-use Rattle.slot.proofs.block.any_locked.Reads as reads
-use Rattle.slot.proofs.block.any_locked.Lts as lts
-use Rattle.slot.proofs.block.joined_locks.Reads as joined-locks-reads
 
 joined-locks-requires : tie.Need-joined-locks-requires
 joined-locks-requires c κs = search needs

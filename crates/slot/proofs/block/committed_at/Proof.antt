@@ -7,8 +7,6 @@ use Rattle.slot.proofs.Steps.{committed-of-list}
 use borrow.Author.Needs.{needs}
 use Rattle.slot.proofs.block.committed_at.Statement.{statement}
 use Rattle.slot.proofs.block.committed_at.Tie as tie
-use Rattle.slot.proofs.block.committed_at.Reads as reads
-use Rattle.slot.proofs.block.committed_at.Lts as lts
 
 mul-result : tie.Need-mul-result
 mul-result c = search needs

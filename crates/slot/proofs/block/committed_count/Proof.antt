@@ -9,9 +9,6 @@ use Rattle.image.specs.Layout.{slotCount}
 use Rattle.slot.specs.Blocks.{committedCount, isCommitted, ofList}
 use Rattle.slot.proofs.block.committed_count.Statement.{statement}
 use Rattle.slot.proofs.block.committed_count.Tie as tie
-use Rattle.slot.proofs.block.committed_count.Reads as reads
-use Rattle.slot.proofs.block.committed_count.Lts as lts
-use Rattle.slot.proofs.block.committed_at.Reads as committed-at-reads
 
 abbrev Inv-loop : tie.InvT-loop
 Inv-loop block n₀ i₀ n i = (i ≤ slotCount) × (n ≤ i) × (n ≡ count i (isCommitted (ofList block)))

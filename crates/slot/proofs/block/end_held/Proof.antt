@@ -5,11 +5,6 @@ use Rattle.slot.proofs.Ends.{ended-bare, ended-held, ended-idle}
 use borrow.Author.Needs.{needs}
 use Rattle.slot.proofs.block.end_held.Statement.{statement}
 use Rattle.slot.proofs.block.end_held.Tie as tie
-use Rattle.slot.proofs.block.end_held.Reads as reads
-use Rattle.slot.proofs.block.end_held.Lts as lts
-use Rattle.slot.proofs.block.may_pick.Reads as may-pick-reads
-use Rattle.slot.proofs.block.end_slots.Reads as end-slots-reads
-use Rattle.slot.proofs.block.is_held.Reads as is-held-reads
 
 is-held-requires : tie.Need-is-held-requires
 is-held-requires c κs = search needs

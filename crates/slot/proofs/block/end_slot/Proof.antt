@@ -8,11 +8,6 @@ use Rattle.slot.proofs.Words.{freed-in-range, slot-in-range}
 use borrow.Author.Needs.{needs}
 use Rattle.slot.proofs.block.end_slot.Statement.{statement}
 use Rattle.slot.proofs.block.end_slot.Tie as tie
-use Rattle.slot.proofs.block.end_slot.Reads as reads
-use Rattle.slot.proofs.block.end_slot.Lts as lts
-use Rattle.slot.proofs.Slot.free.Reads as free-reads
-use Rattle.slot.proofs.block.put_slot.Reads as put-slot-reads
-use Rattle.slot.proofs.block.slot_at.Reads as slot-at-reads
 
 is-picked-requires : tie.Need-is-picked-requires
 is-picked-requires c κs = search needs

@@ -9,9 +9,6 @@ use Rattle.slot.specs.Blocks.{inSet, ofList, BlockBytes}
 use Rattle.slot.proofs.Ends.{upTo, start, all-done, turn}
 use Rattle.slot.proofs.block.end_slots.Statement.{statement}
 use Rattle.slot.proofs.block.end_slots.Tie as tie
-use Rattle.slot.proofs.block.end_slots.Reads as reads
-use Rattle.slot.proofs.block.end_slots.Lts as lts
-use Rattle.slot.proofs.block.end_slot.Reads as end-slot-reads
 
 abbrev Inv-loop : tie.InvT-loop
 Inv-loop block₀ take set i₀ block i = (i ≤ slotCount) × (length block ≡ length block₀) × (block ≡ upTo take (inSet set) (ofList block₀) i .0)

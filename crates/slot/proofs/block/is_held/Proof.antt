@@ -4,8 +4,6 @@ use Rattle.slot.proofs.Steps.{held-of-list}
 use borrow.Author.Needs.{needs}
 use Rattle.slot.proofs.block.is_held.Statement.{statement}
 use Rattle.slot.proofs.block.is_held.Tie as tie
-use Rattle.slot.proofs.block.is_held.Reads as reads
-use Rattle.slot.proofs.block.is_held.Lts as lts
 
 shared-slice-read-result : tie.Need-shared-slice-read-result
 shared-slice-read-result c = search needs

@@ -6,8 +6,6 @@ use Rattle.slot.proofs.Locks.{picked-of-list}
 use borrow.Author.Needs.{needs}
 use Rattle.slot.proofs.block.is_picked.Statement.{statement}
 use Rattle.slot.proofs.block.is_picked.Tie as tie
-use Rattle.slot.proofs.block.is_picked.Reads as reads
-use Rattle.slot.proofs.block.is_picked.Lts as lts
 
 mul-n : tie.Need-mul-n
 mul-n c = search needs

@@ -9,8 +9,6 @@ use Rattle.slot.proofs.Steps.{lock-of-list}
 use borrow.Author.Needs.{needs}
 use Rattle.slot.proofs.block.joined_locks.Statement.{statement}
 use Rattle.slot.proofs.block.joined_locks.Tie as tie
-use Rattle.slot.proofs.block.joined_locks.Reads as reads
-use Rattle.slot.proofs.block.joined_locks.Lts as lts
 
 shared-slice-read-a : tie.Need-shared-slice-read-a
 shared-slice-read-a c = search needs

@@ -9,11 +9,6 @@ use Rattle.slot.proofs.Words.{locked-in-range, slot-in-range, taken-lt}
 use borrow.Author.Needs.{needs}
 use Rattle.slot.proofs.block.lock_slot.Statement.{statement}
 use Rattle.slot.proofs.block.lock_slot.Tie as tie
-use Rattle.slot.proofs.block.lock_slot.Reads as reads
-use Rattle.slot.proofs.block.lock_slot.Lts as lts
-use Rattle.slot.proofs.Slot.lock_by.Reads as lock-by-reads
-use Rattle.slot.proofs.block.put_slot.Reads as put-slot-reads
-use Rattle.slot.proofs.block.slot_at.Reads as slot-at-reads
 
 slot-at-requires : tie.Need-slot-at-requires
 slot-at-requires c κs = search needs

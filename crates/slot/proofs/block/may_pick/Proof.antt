@@ -8,10 +8,6 @@ use Rattle.slot.proofs.Locks.{bits-missing, no-lock, none-picked}
 use borrow.Author.Needs.{needs}
 use Rattle.slot.proofs.block.may_pick.Statement.{statement}
 use Rattle.slot.proofs.block.may_pick.Tie as tie
-use Rattle.slot.proofs.block.may_pick.Reads as reads
-use Rattle.slot.proofs.block.may_pick.Lts as lts
-use Rattle.slot.proofs.block.joined_locks.Reads as joined-locks-reads
-use Rattle.slot.proofs.block.shared_bits.Reads as shared-bits-reads
 
 returns : tie.Need-returns
 returns c = λ e. tf true refl e

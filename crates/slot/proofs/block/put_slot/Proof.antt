@@ -5,9 +5,6 @@ use Rattle.slot.proofs.Steps.{stores-slot}
 use borrow.Author.Needs.{needs}
 use Rattle.slot.proofs.block.put_slot.Statement.{statement}
 use Rattle.slot.proofs.block.put_slot.Tie as tie
-use Rattle.slot.proofs.block.put_slot.Reads as reads
-use Rattle.slot.proofs.block.put_slot.Lts as lts
-use Rattle.slot.proofs.Slot.to_word.Reads as to-word-reads
 
 mul-at : tie.Need-mul-at
 mul-at c = search needs

@@ -3,9 +3,6 @@ use Rattle.slot.proofs.Locks.{shared-sum}
 use borrow.Author.Needs.{needs}
 use Rattle.slot.proofs.block.shared_bits.Statement.{statement}
 use Rattle.slot.proofs.block.shared_bits.Tie as tie
-use Rattle.slot.proofs.block.shared_bits.Reads as reads
-use Rattle.slot.proofs.block.shared_bits.Lts as lts
-use Rattle.slot.proofs.block.bit_if.Reads as bit-if-reads
 
 bit-if-requires : tie.Need-bit-if-requires
 bit-if-requires c κs = search needs

@@ -2,10 +2,6 @@
 use borrow.Author.Needs.{needs}
 use Rattle.slot.proofs.block.slot_at.Statement.{statement}
 use Rattle.slot.proofs.block.slot_at.Tie as tie
-use Rattle.slot.proofs.block.slot_at.Reads as reads
-use Rattle.slot.proofs.block.slot_at.Lts as lts
-use Rattle.slot.proofs.Slot.from_word.Reads as from-word-reads
-use Rattle.slot.proofs.block.word_at.Reads as word-at-reads
 
 word-at-requires : tie.Need-word-at-requires
 word-at-requires c κs = search needs

@@ -6,9 +6,6 @@ use Rattle.slot.proofs.Steps.{word-of-list}
 use borrow.Author.Needs.{needs}
 use Rattle.slot.proofs.block.word_at.Statement.{statement}
 use Rattle.slot.proofs.block.word_at.Tie as tie
-use Rattle.slot.proofs.block.word_at.Reads as reads
-use Rattle.slot.proofs.block.word_at.Lts as lts
-use Rattle.image.proofs.wide.Reads as wide-reads
 
 mul-at : tie.Need-mul-at
 mul-at c = search needs

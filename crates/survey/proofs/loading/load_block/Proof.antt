@@ -11,11 +11,6 @@ use Rattle.survey.proofs.Loads.{load-bare, load-held}
 use borrow.Author.Needs.{needs}
 use Rattle.survey.proofs.loading.load_block.Statement.{statement}
 use Rattle.survey.proofs.loading.load_block.Tie as tie
-use Rattle.survey.proofs.loading.load_block.Reads as reads
-use Rattle.survey.proofs.loading.load_block.Lts as lts
-use Rattle.image.proofs.block_address.Reads as block-address-reads
-use Rattle.slot.proofs.block.committed_count.Reads as committed-count-reads
-use Rattle.slot.proofs.block.is_held.Reads as is-held-reads
 
 block-address-requires : tie.Need-block-address-requires
 block-address-requires c κs = search needs
