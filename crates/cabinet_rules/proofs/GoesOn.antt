@@ -15,7 +15,7 @@ use Rattle.method.specs.Growth.{Growth, grownControl, grownPlain, grownState}
 use Rattle.method.specs.Parameters.{Parameters}
 use Rattle.method.specs.PlainList.{PlainList}
 use Rattle.method.specs.Rules.{State}
-use Rattle.method.proofs.Growth.{Keeps, legal-grown, ready-grown}
+use Rattle.method.proofs.Growth.{GrowthLaws, legal-grown, ready-grown}
 use Rattle.method.proofs.Laws.{Laws}
 use Rattle.method.proofs.Legal.{Legal}
 use Rattle.method.proofs.Run.{Ready}
@@ -84,7 +84,7 @@ module _ (E D : Delivery) (S : Succession E D) where
     pub outside : (g : Image) (c : ℕ) → ltb c cardCount ≡ false → stampNow g c ≡ D .memory .noStamp
 
 module _ (E D : Delivery) (S : Succession E D) (F : Follows E D S) where
-  pub keeps : Keeps (rulesOf E) (growthOf E D S)
+  pub keeps : GrowthLaws (rulesOf E) (growthOf E D S)
   keeps = record {
     same-mask = F .same-mask;
     same-sites = λ σ p b. F .same-sites p b;

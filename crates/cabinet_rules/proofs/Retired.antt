@@ -20,7 +20,7 @@ use Rattle.method.proofs.Laws.{Laws}
 use Rattle.method.proofs.Stopped.{Rests}
 use Rattle.cabinet_rules.specs.Cabinet.{rulesOf}
 use Rattle.cabinet_rules.specs.Delivery.{Delivery, PartOf}
-use Rattle.cabinet_rules.specs.Retired.{Retirement, filledBytes, partBy, retiredBytes, retiredForm, retiredPart}
+use Rattle.cabinet_rules.specs.Retired.{Retirement, shownBytes, partBy, retiredBytes, retiredForm, retiredPart}
 use Rattle.cabinet_rules.specs.GoesOn.{Succession, growthOf}
 use Rattle.cabinet_rules.proofs.GoesOn.{Follows, keeps, partNow}
 use Rattle.cabinet_rules.proofs.Lawful.{ControlLaws, DeliveryLaws, RuleLaws, Wrote, lawfulBy}
@@ -120,7 +120,7 @@ module _ (E D : Delivery) (S : Succession E D) (R : Retirement (E .Placement) (E
 
     module _ (k : PartOf E) (g t : ℕ → ℕ) (w : Wrote E g t k) where
       -- what D is shown is what it writes
-      filled-is : (n : ℕ) → n < controlSize → filledBytes (D .memory) R g n ≡ D .memory .bytes (old k) n
+      filled-is : (n : ℕ) → n < controlSize → shownBytes (D .memory) R g n ≡ D .memory .bytes (old k) n
       filled-is n h = go (R .added n) refl
         where
           go : (a : Bool) → R .added n ≡ a → cond a (R .filled n) (g n) ≡ D .memory .bytes (old k) n
@@ -133,9 +133,9 @@ module _ (E D : Delivery) (S : Succession E D) (R : Retirement (E .Placement) (E
           eq-eqb (g n) (retiredBytes (D .memory) R (retiredPart (D .memory) R g) n)
           (w .front n h ∙ O .bytes-are k n ∙ ap (λ (x : PartOf E). retiredBytes (D .memory) R x n) (sym e ∙ O .part-is g t)))
 
-      formed-again : E .memory .part g t ≡ k → D .memory .form (filledBytes (D .memory) R g) (λ n. 0) ≡ true → retiredForm (D .memory) R g ≡ true
+      formed-again : E .memory .part g t ≡ k → D .memory .form (shownBytes (D .memory) R g) (λ n. 0) ≡ true → retiredForm (D .memory) R g ≡ true
       unfolding retiredForm
-      formed-again e f = and-in (D .memory .form (filledBytes (D .memory) R g) (λ n. 0))
+      formed-again e f = and-in (D .memory .form (shownBytes (D .memory) R g) (λ n. 0))
           (allBelow controlSize (λ n. eqb (g n) (retiredBytes (D .memory) R (retiredPart (D .memory) R g) n))) f (own e)
 
     pub retired-over : Retired E D S
@@ -143,7 +143,7 @@ module _ (E D : Delivery) (S : Succession E D) (R : Retirement (E .Placement) (E
       follows = O .follows;
       back = partBy (R .back) (R .backSerial);
       back-older = λ k. ap (partBy (R .back) (R .backSerial)) (sym (O .told k)) ∙ back-is k;
-      front = filledBytes (D .memory) R;
+      front = shownBytes (D .memory) R;
       behind = λ t n. 0;
       wrote = λ k g t w. record {
         front = λ n h. filled-is k g t w n h ∙ ap (λ (x : PartOf D). D .memory .bytes x n) (O .told k);

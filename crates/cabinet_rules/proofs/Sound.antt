@@ -55,12 +55,12 @@ module _ (D : Delivery) (W : DeliveryLaws D) where
   answer-sound c g z q s = answer-legible D W c g (s .seen)
 
   -- one call, on an image that is sound: it shows what the plain list shows, and where it does not stop the store the image stays sound
-  pub record Steps (g : Image) (z : State P) (q : PlainList P) (c : Call P) : Type 0 where
+  pub record ImageStep (g : Image) (z : State P) (q : PlainList P) (c : Call P) : Type 0 where
     pub shows : observe P c (answerBy D c g) ≡ plainObserve P c q
     pub goes-on : isLast P (plainObserve P c q) ≡ false
         → Sound (nextBy D c g) (nextState P c z) (plainNext P (settleAccepted P z) c q)
 
-  pub step-sound : (g : Image) (z : State P) (q : PlainList P) → Sound g z q → (c : Call P) → Steps g z q c
+  pub step-sound : (g : Image) (z : State P) (q : PlainList P) → Sound g z q → (c : Call P) → ImageStep g z q c
   step-sound g z q s c =
       let h = ready-step P L (stateBy D g) z q (s .ready) c in
       record {

@@ -35,16 +35,16 @@ module _ {A S B T : Type 0} (M : Memory B T) (R : Retirement A S B T) where
   retiredBytes k n = cond (R .added n) 0 (M .bytes (partBy (R .older) (R .olderSerial) k) n)
 
   -- What M is shown in their place, with nothing behind the tables; the control part that this shows.
-  abbrev pub filledBytes : (ℕ → ℕ) → ℕ → ℕ
-  filledBytes g n = cond (R .added n) (R .filled n) (g n)
+  abbrev pub shownBytes : (ℕ → ℕ) → ℕ → ℕ
+  shownBytes g n = cond (R .added n) (R .filled n) (g n)
 
   abbrev pub retiredPart : (ℕ → ℕ) → ControlPart Byte A Setting S
-  retiredPart g = partBy (R .back) (R .backSerial) (M .part (filledBytes g) (λ n. 0))
+  retiredPart g = partBy (R .back) (R .backSerial) (M .part (shownBytes g) (λ n. 0))
 
   -- It has M's form, and the bytes are those that were written of that control part.
   unfoldable pub retiredForm : (ℕ → ℕ) → Bool
   retiredForm g =
-      M .form (filledBytes g) (λ n. 0) && allBelow controlSize (λ n. eqb (g n) (retiredBytes (retiredPart g) n))
+      M .form (shownBytes g) (λ n. 0) && allBelow controlSize (λ n. eqb (g n) (retiredBytes (retiredPart g) n))
 
   -- It has no stamps, and nothing behind the blocks or the tables.
   abbrev pub retired : Memory A S

@@ -28,7 +28,7 @@ use Rattle.method.proofs.Reached.{Reached, ready-reached}
 use Rattle.method.proofs.Run.{Beside, Ready, run-same}
 
 -- What is asked of a later paper: an older placement keeps its cards and its sites.
-pub record Keeps (P : Parameters) (G : Growth P) : Type 0 where
+pub record GrowthLaws (P : Parameters) (G : Growth P) : Type 0 where
   pub same-mask : (p : Parameters.Placement P) → G .mask (G .older p) ≡ Parameters.mask P p
   pub same-sites : (σ : Parameters.Setting P) (p : Parameters.Placement P) (b : ℕ) → G .sites (G .olderSetting σ) (G .older p) b ≡ Parameters.sites P σ p b
   pub still-usable : (σ : Parameters.Setting P) (p : Parameters.Placement P) → Parameters.usable P σ p → G .usable (G .olderSetting σ) (G .older p)
@@ -38,9 +38,9 @@ pub record Keeps (P : Parameters) (G : Growth P) : Type 0 where
       → G .numbered (grownControl P G k)
   pub enough-room : (σ : Parameters.Setting P) → Parameters.placeLimit P σ ≤ G .placeLimit (G .olderSetting σ)
 
-module _ (P : Parameters) (L : Laws P) (G : Growth P) (E : Keeps P G) (M : Laws (grown P G)) where
+module _ (P : Parameters) (L : Laws P) (G : Growth P) (E : GrowthLaws P G) (M : Laws (grown P G)) where
   open Parameters P using (Mask, Placement, has, sites, empty)
-  open Keeps E using (same-mask, same-sites, still-usable, same-copies, same-blocks, still-numbered, enough-room)
+  open GrowthLaws E using (same-mask, same-sites, still-usable, same-copies, same-blocks, still-numbered, enough-room)
 
   -- ---- the control part
   module _ (k : Control P) where

@@ -60,7 +60,7 @@ module _ (P : Parameters) (L : Laws P) where
     pub store-beside : Beside s (q .control) sees
     pub rules-beside : Beside z (q .control) sees
 
-  pub record Steps (s z : State P) (q : PlainList P) (c : Call P) : Type 0 where
+  pub record RulesStep (s z : State P) (q : PlainList P) (c : Call P) : Type 0 where
     pub shows : observe P c (answerOf P c s) ≡ plainObserve P c q
     pub goes-on : isLast P (plainObserve P c q) ≡ false → Ready (nextState P c s) (nextState P c z) (plainNext P (settleAccepted P z) c q)
 
@@ -74,7 +74,7 @@ module _ (P : Parameters) (L : Laws P) where
     rules-beside = r .rules-beside;
   }
 
-  pub ready-step : (s z : State P) (q : PlainList P) → Ready s z q → (c : Call P) → Steps s z q c
+  pub ready-step : (s z : State P) (q : PlainList P) → Ready s z q → (c : Call P) → RulesStep s z q c
   unfolding settleAccepted
   ready-step s z q r c = record { shows = shown; goes-on = λ e. rw agreed (go e) }
     where
@@ -116,7 +116,7 @@ module _ (P : Parameters) (L : Laws P) where
   run-same [] s z q r = refl
   run-same (e ∷ l) s z q r = go (ready-step (disturb P (e .0) s) z q (ready-noise (e .0) s z q r) (e .1)) (run-same l)
     where
-      go : Steps (disturb P (e .0) s) z q (e .1) → ((s z : State P) (q : PlainList P) → Ready s z q → runStore P l s ≡ runPlain P (callsOf P l) z q)
+      go : RulesStep (disturb P (e .0) s) z q (e .1) → ((s z : State P) (q : PlainList P) → Ready s z q → runStore P l s ≡ runPlain P (callsOf P l) z q)
           → runStore P (e ∷ l) s ≡ runPlain P (callsOf P (e ∷ l)) z q
       go h ih = rw (h .shows) (last (isLast P (plainObserve P (e .1) q)) refl)
         where

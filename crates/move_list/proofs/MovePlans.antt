@@ -28,7 +28,7 @@ use Rattle.cabinet_rules.specs.MoveLists.{listAnswerOn, listRefusal, movesOn, u
 use Rattle.promise.specs.Given.{Given, viewOf}
 use Rattle.promise.proofs.Finish.{form-row, refusal-rules}
 use Rattle.promise.proofs.SharedRows.{state-rows}
-use Rattle.move_list.specs.Plans.{Finds, Plans, answerBy, filledOf, firstMoves, moveAt, moveFor, movesAt, movesIn, refusedPlan, storedBy}
+use Rattle.move_list.specs.Plans.{Finds, Plans, planAnswer, filledOf, firstMoves, moveAt, moveFor, movesAt, movesIn, refusedPlan, storedBy}
 use Rattle.move_list.specs.Promise.{ListDone, filledBy, listAfter, shownList}
 use Rattle.move_list.specs.declared.Listed.{Listed}
 use Rattle.move_list.specs.declared.Listed.the-variants.{Moves, None, Refused}
@@ -117,7 +117,7 @@ first-all l n e = first-taken l n (omega (arith, e)) ∙ ap (λ (k : ℕ). map m
 
 -- no more entries are filled than there is room for
 pub stored-le : (p : Plan) (room : ℕ) → storedBy p room ≤ room
-unfolding answerBy
+unfolding planAnswer
 stored-le p room = go (not (eqb (p .refusal) 0)) (p .locked) (split (ltb room (p .count)))
   where
     go : (a b : Bool) → (ltb room (p .count) ≡ true) ⊎ (ltb room (p .count) ≡ false)
@@ -139,16 +139,16 @@ module _ (p : Plan) (g : Image) (plans : Plans p g) (lent : List Move) where
   leftBy = firstMoves moves (storedBy p room) ++ drop (storedBy p room) lent
 
   -- from what the code answers, where the rules answer the same
-  done-by : (x : Listed) → answerBy p room ≡ x → listAnswerOn room g ≡ shownList x
-      → firstMoves moves (filledOf x) ++ drop (filledOf x) lent ≡ filledBy (shownList x) (map moveFor (movesOn g)) lent → ListDone g lent (answerBy p room) leftBy
+  done-by : (x : Listed) → planAnswer p room ≡ x → listAnswerOn room g ≡ shownList x
+      → firstMoves moves (filledOf x) ++ drop (filledOf x) lent ≡ filledBy (shownList x) (map moveFor (movesOn g)) lent → ListDone g lent (planAnswer p room) leftBy
   unfolding listAfter
   done-by x a l f = record {
     answers = ap shownList a ∙ sym l;
     fills = ap (λ (z : Listed). firstMoves moves (filledOf z) ++ drop (filledOf z) lent) a ∙ f ∙ sym (ap (λ (z : ListAnswer). filledBy z (map moveFor (movesOn g)) lent) l);
   }
 
-  refused-done : p .refusal ≢ 0 → ListDone g lent (answerBy p room) leftBy
-  unfolding answerBy listAnswerOn
+  refused-done : p .refusal ≢ 0 → ListDone g lent (planAnswer p room) leftBy
+  unfolding planAnswer listAnswerOn
   refused-done d = done-by (Refused (p .refusal)) (rw (ne-eqb (p .refusal) 0 d))
       (ap (λ (n : ℕ). unlessRefusedList n (listAnswer cabinet (controlIn g) (viewOf g) room)) (sym (plans .refusal-is)) ∙ go (p .refusal) d) refl
     where
@@ -165,28 +165,28 @@ module _ (p : Plan) (g : Image) (plans : Plans p g) (lent : List Move) where
     by-rules = rw (sym (plans .refusal-is) ∙ clear)
         (ap (λ (t : Bool). cond t noList (cond (ltb room (length (movesOn g))) (notListed 16) (listed (length (movesOn g))))) (sym (f .locked-is)))
 
-    locked-done : p .locked ≡ true → ListDone g lent (answerBy p room) leftBy
-    unfolding answerBy
+    locked-done : p .locked ≡ true → ListDone g lent (planAnswer p room) leftBy
+    unfolding planAnswer
     locked-done e = done-by None (rw (eq-eqb (p .refusal) 0 clear, e)) (by-rules ∙ rw e) refl
 
     module _ (free : p .locked ≡ false) where
       by-count : listAnswerOn room g ≡ cond (ltb room (p .count)) (notListed 16) (listed (p .count))
       by-count = by-rules ∙ rw free (ap (λ (n : ℕ). cond (ltb room n) (notListed 16) (listed n)) (sym (f .count-is free)))
 
-      short-done : ltb room (p .count) ≡ true → ListDone g lent (answerBy p room) leftBy
-      unfolding answerBy
+      short-done : ltb room (p .count) ≡ true → ListDone g lent (planAnswer p room) leftBy
+      unfolding planAnswer
       short-done e = done-by (Refused 16) (rw (eq-eqb (p .refusal) 0 clear, free, e)) (by-count ∙ rw e) refl
 
-      filled-done : ltb room (p .count) ≡ false → ListDone g lent (answerBy p room) leftBy
-      unfolding answerBy
+      filled-done : ltb room (p .count) ≡ false → ListDone g lent (planAnswer p room) leftBy
+      unfolding planAnswer
       filled-done e = done-by (Moves (p .count)) (rw (eq-eqb (p .refusal) 0 clear, free, e)) (by-count ∙ rw e)
           (ap (λ (l : List Move). l ++ drop (p .count) lent) (first-all moves (p .count) (f .count-is free ∙ ap length (sym (f .moves-are free))) ∙ ap (map moveFor) (f .moves-are free)))
 
   -- The promise of the call.
-  pub list-done : ListDone g lent (answerBy p room) leftBy
-  list-done = by-eq (ListDone g lent (answerBy p room) leftBy) (p .refusal) 0 (λ e. accepted e (split (p .locked)) (split (ltb room (p .count)))) refused-done
+  pub list-done : ListDone g lent (planAnswer p room) leftBy
+  list-done = by-eq (ListDone g lent (planAnswer p room) leftBy) (p .refusal) 0 (λ e. accepted e (split (p .locked)) (split (ltb room (p .count)))) refused-done
     where
-      accepted : p .refusal ≡ 0 → (p .locked ≡ true) ⊎ (p .locked ≡ false) → (ltb room (p .count) ≡ true) ⊎ (ltb room (p .count) ≡ false) → ListDone g lent (answerBy p room) leftBy
+      accepted : p .refusal ≡ 0 → (p .locked ≡ true) ⊎ (p .locked ≡ false) → (ltb room (p .count) ≡ true) ⊎ (ltb room (p .count) ≡ false) → ListDone g lent (planAnswer p room) leftBy
       accepted e (inl l) c = locked-done e l
       accepted e (inr l) (inl c) = short-done e l c
       accepted e (inr l) (inr c) = filled-done e l c

@@ -55,8 +55,8 @@ abbrev pub refusedPlan : ℕ → Plan
 refusedPlan n = record { refusal = n; locked = false; count = 0; origins = replicate blockCount 0 }
 
 -- What is answered to a lent list with so much room, and how many of its entries are filled.
-unfoldable pub answerBy : Plan → ℕ → Listed
-answerBy p room =
+unfoldable pub planAnswer : Plan → ℕ → Listed
+planAnswer p room =
     cond (not (eqb (p .refusal) 0)) (Refused (p .refusal)) (
     cond (p .locked) None (
     cond (ltb room (p .count)) (Refused 16) (Moves (p .count))))
@@ -67,4 +67,4 @@ filledOf None = 0
 filledOf (Refused n) = 0
 
 abbrev pub storedBy : Plan → ℕ → ℕ
-storedBy p room = filledOf (answerBy p room)
+storedBy p room = filledOf (planAnswer p room)

@@ -1,7 +1,7 @@
 // The moves that let settle succeed, for the service tablet (document 02, A.3): what is found of them in one pass over
 // the card tables, the n-th of them, and their number.
 ghost use mathlib.Core.Path.{_≡_};
-ghost use Rattle.move_list.specs.Plans.{Plans, answerBy, moveAt, movesIn, storedBy};
+ghost use Rattle.move_list.specs.Plans.{Plans, planAnswer, moveAt, movesIn, storedBy};
 ghost use Rattle.move_list.specs.Promise.{blankList};
 
 mod finding;
@@ -98,7 +98,7 @@ impl Plan {
 
     // What is answered to a lent list with this room.
     pub fn answer(self, room: usize) -> Listed
-        ensures { λ r. ⌜ r ≡ answerBy self room ⌝ }
+        ensures { λ r. ⌜ r ≡ planAnswer self room ⌝ }
     {
         if self.refusal != 0 {
             return Listed::Refused(self.refusal);

@@ -30,11 +30,11 @@ use Rattle.store.proofs.MoveRuns.{calls-given, given, moves-show, settl
 
 -- ---- moves and then a settle, as the rules are given them
 -- An entry of the rules for one of the code's.
-pub entryOf : Move → Entry
-entryOf m = entryAt (m .1 .0) (m .0 .0)
+pub ruleEntry : Move → Entry
+ruleEntry m = entryAt (m .1 .0) (m .0 .0)
 
-entries-move : (l : List Move) → map moveOf l ≡ map (asMove cabinet) (map entryOf l)
-unfolding entryOf
+entries-move : (l : List Move) → map moveOf l ≡ map (asMove cabinet) (map ruleEntry l)
+unfolding ruleEntry
 entries-move [] = refl
 entries-move (m ∷ l) = ap (λ (t : List (Call cabinet)). moveOf m ∷ t) (entries-move l)
 
@@ -43,13 +43,13 @@ moves-back [] = refl
 moves-back (e ∷ l) = ap (λ (t : List (Call cabinet)). asMove cabinet e ∷ t) (moves-back l)
 
 module _ (g : Image) (clear : listRefusal g ≡ 0) (entries : List Move) (said : AnswerValue) (t : MovesThenSettle g entries said) where
-  pub given-moves : AreMoves (given (runCalls (t .moves))) (map entryOf entries)
+  pub given-moves : AreMoves (given (runCalls (t .moves))) (map ruleEntry entries)
   given-moves = calls-given (runCalls (t .moves)) ∙ t .are-moves ∙ entries-move entries
 
   pub settle-given : shown said ≡ answer settle (noisy (t .noise) (imageAfter (given (runCalls (t .moves))) g))
   settle-given =
       let s = running-shows g (running-image g clear) in
-      let h = moves-show (controlIn g) (t .moves) (map entryOf entries) (t .are-moves ∙ entries-move entries) g g (look cabinet (stateIn g)) s s (t .ran) in
+      let h = moves-show (controlIn g) (t .moves) (map ruleEntry entries) (t .are-moves ∙ entries-move entries) g g (look cabinet (stateIn g)) s s (t .ran) in
       t .settles .answers ∙ settle-same (controlIn g) (t .noise) (memoryAfter (t .moves) g) (imageAfter (given (runCalls (t .moves))) g) (h .0) (h .1) (h .2)
 
 -- The first entries of the list as filled are the moves.
@@ -71,6 +71,6 @@ pub no-shorter-moves : NoShorterMoves
 unfolding NoShorterMoves NoShorterList
 no-shorter-moves g lent filled n d entries m t =
     let clear = listed-clear g (length lent) n (sym (d .answers)) .0 in
-    let least = no-shorter-list g (length lent) n (sym (d .answers)) (given (runCalls (t .moves))) (map entryOf entries) (given-moves g clear entries (Retired m) t) (t .noise) m
+    let least = no-shorter-list g (length lent) n (sym (d .answers)) (given (runCalls (t .moves))) (map ruleEntry entries) (given-moves g clear entries (Retired m) t) (t .noise) m
     (sym (settle-given g clear entries (Retired m) t)) in
-    omega (arith, least, length-map entries entryOf)
+    omega (arith, least, length-map entries ruleEntry)

@@ -16,7 +16,7 @@ use Rattle.cabinet_rules.proofs.Lawful.{lawful}
 use Rattle.cabinet_rules.proofs.MoveLists.{move-shows}
 use Rattle.cabinet_rules.proofs.MoveLists.{settle-shown}
 use Rattle.cabinet_rules.proofs.Shows.{Shows, noise-shows}
-use Rattle.store.specs.Runs.{IsRun, RunCall, leftBy, meant, memoryAfter, runCalls, runSteps}
+use Rattle.store.specs.Runs.{IsRun, RunCall, memoryLeft, meantCalls, memoryAfter, runCalls, runSteps}
 use Rattle.store.proofs.OneRecordList.{Stepwise, kept-steps}
 
 -- Calls with no noise of their own.
@@ -56,9 +56,9 @@ module _ (k : PartOf current) where
   unfolding given IsRun memoryAfter imageAfterBy
   moves-show [] entries a g h v s t r = (v, s, t)
   moves-show (r ∷ l) entries a g h v s t e =
-      steps-show (memoryAfter (r ∷ l) g) (meant (r .made)) (runSteps l) entries a (noisy (r .noise) g) (leftBy (r .made) (noisy (r .noise) g)) h v
+      steps-show (memoryAfter (r ∷ l) g) (meantCalls (r .made)) (runSteps l) entries a (noisy (r .noise) g) (memoryLeft (r .made) (noisy (r .noise) g)) h v
       (noise-shows current currentLaws (r .noise) g k v s) t (kept-steps (r .made) (noisy (r .noise) g) (e .0))
-      (λ rest b j w f m. moves-show l rest b (leftBy (r .made) (noisy (r .noise) g)) j w f m (e .1))
+      (λ rest b j w f m. moves-show l rest b (memoryLeft (r .made) (noisy (r .noise) g)) j w f m (e .1))
 
   -- Where two images show the same, settle answers the same.
   pub settle-same : (noise : ℕ → ℕ) (g h : Image) (v : View cabinet) → Shows current currentLaws g k v → Shows current currentLaws h k v

@@ -27,10 +27,10 @@ use Rattle.cabinet_rules.proofs.MoveLists.{none-clear, none-is-final}
 use Rattle.cabinet_rules.proofs.MoveLists.{none-is-final-from-earlier}
 use Rattle.store.specs.MoveList.{NoneGoesOnOfCalls}
 use Rattle.store.specs.MoveList.{NoneIsFinalOfCalls, NoneIsFinalOn}
-use Rattle.store.specs.Runs.{IsRun, NeverStopped, NoneStops, RunCall, leftBy, meant, memoryAfter, runCalls, runSteps}
+use Rattle.store.specs.Runs.{IsRun, NeverStopped, NoneStops, RunCall, memoryLeft, meantCalls, memoryAfter, runCalls, runSteps}
 use Rattle.store.proofs.OneRecordList.{Stepwise, kept-steps}
 use Rattle.store.proofs.MoveRuns.{given}
-use Rattle.store.proofs.MoveList.{entryOf, given-moves, settle-given}
+use Rattle.store.proofs.MoveList.{ruleEntry, given-moves, settle-given}
 
 -- A call that lists moves leaves the memory as one that is refused: here a fit of a card that there is not.
 abbrev idle : Call cabinet
@@ -68,7 +68,7 @@ stepped (s ∷ ss) g l = (still g, s .0) ∷ stepped ss (next (s .0) g) l
 played : List RunCall → (ℕ → ℕ) → Image → List NoisyCall
 played [] noise g = (noise, idle) ∷ []
 played (r ∷ l) noise g =
-    (r .noise, idle) ∷ stepped (meant (r .made)) (noisy (r .noise) g) (played l noise (leftBy (r .made) (noisy (r .noise) g)))
+    (r .noise, idle) ∷ stepped (meantCalls (r .made)) (noisy (r .noise) g) (played l noise (memoryLeft (r .made) (noisy (r .noise) g)))
 
 -- A call whose answer is no stop ends no list of observations.
 goes-on : (c : Call cabinet) (x : Answer cabinet) → isStop cabinet x ≡ false → isLast cabinet (observe cabinet c x) ≡ false
@@ -131,20 +131,20 @@ module _ (noise : ℕ → ℕ) where
   played-leaves [] g e = idle-leaves (noisy noise g)
   played-leaves (r ∷ l) g e =
       let G : Image = noisy (r .noise) g in
-      let H : Image = leftBy (r .made) G in
-      ap (imageAfter (stepped (meant (r .made)) G (played l noise H))) (idle-leaves G)
-      ∙ stepped-leaves (meant (r .made)) G H (kept-steps (r .made) G (e .0)) (played l noise H) ∙ played-leaves l H (e .1)
+      let H : Image = memoryLeft (r .made) G in
+      ap (imageAfter (stepped (meantCalls (r .made)) G (played l noise H))) (idle-leaves G)
+      ∙ stepped-leaves (meantCalls (r .made)) G H (kept-steps (r .made) G (e .0)) (played l noise H) ∙ played-leaves l H (e .1)
 
   played-runs : (l : List RunCall) (g : Image) → IsRun l g → NeverStopped l → NoStopBy current (played l noise g) g
   unfolding played NoStopBy IsRun
   played-runs [] g e n = (refl, tt)
   played-runs (r ∷ l) g e n =
       let G : Image = noisy (r .noise) g in
-      let H : Image = leftBy (r .made) G in
-      let m = none-stop-first (meant (r .made)) (runSteps l) n in (
+      let H : Image = memoryLeft (r .made) G in
+      let m = none-stop-first (meantCalls (r .made)) (runSteps l) n in (
         refl,
-        subst (NoStopBy current (stepped (meant (r .made)) G (played l noise H))) (sym (idle-leaves G))
-            (stepped-runs (meant (r .made)) G H (kept-steps (r .made) G (e .0)) (m .0) (played l noise H) (played-runs l H (e .1) (m .1))),
+        subst (NoStopBy current (stepped (meantCalls (r .made)) G (played l noise H))) (sym (idle-leaves G))
+            (stepped-runs (meantCalls (r .made)) G H (kept-steps (r .made) G (e .0)) (m .0) (played l noise H) (played-runs l H (e .1) (m .1))),
       )
 
 -- Where 'none' is final after calls on an image, it is after a run.
@@ -153,7 +153,7 @@ none-final : (g : Image)
     → NoneIsFinalOn g
 unfolding NoneIsFinalOn NeverSettles
 none-final g final l r runs noise lent filled list entries said t =
-    settle-given here clear entries said t ∙ never (given (runCalls (t .moves))) (map entryOf entries) (given-moves here clear entries said t) (t .noise)
+    settle-given here clear entries said t ∙ never (given (runCalls (t .moves))) (map ruleEntry entries) (given-moves here clear entries said t) (t .noise)
   where
     here : Image
     here = noisy noise (memoryAfter l g)

@@ -13,8 +13,8 @@ use Rattle.cabinet_rules.specs.Delivery.{current}
 use Rattle.cabinet_rules.specs.Images.{Image, answer, next}
 use Rattle.cabinet_rules.proofs.Earlier.{earlier-sound}
 use Rattle.cabinet_rules.proofs.Form.{currentLaws}
-use Rattle.cabinet_rules.proofs.Sound.{Sound, Steps, noise-sound, start-sound, step-sound}
-use Rattle.store.specs.Runs.{GoesOnOfCalls, IsRun, Kept, Made, OneRecordListOfCalls, RunCall, leftBy, listCall, meant, observed, observedIn}
+use Rattle.cabinet_rules.proofs.Sound.{Sound, ImageStep, noise-sound, start-sound, step-sound}
+use Rattle.store.specs.Runs.{GoesOnOfCalls, IsRun, Kept, Made, OneRecordListOfCalls, RunCall, memoryLeft, listCall, meantCalls, observed, observedIn}
 use Rattle.store.specs.Runs.{runCalls, runSteps, storeCall}
 
 -- These calls were answered so, one after the other on g, and left h.
@@ -23,7 +23,7 @@ Stepwise [] g h = h ≡ g
 Stepwise (s ∷ l) g h = (s .1 ≡ answer (s .0) g) × Stepwise l (next (s .0) g) h
 
 -- A call that kept its promise did what it means to the rules.
-pub kept-steps : (m : Made) (g : Image) → Kept m g → Stepwise (meant m) g (leftBy m g)
+pub kept-steps : (m : Made) (g : Image) → Kept m g → Stepwise (meantCalls m) g (memoryLeft m g)
 unfolding Stepwise
 kept-steps (storeCall c a left) g d = (d .answers, d .leaves)
 kept-steps (listCall lent a filled) g d = refl
@@ -38,7 +38,7 @@ steps-observed [] l g h z q s e behind = behind z q (rw e s)
 steps-observed ((c, a) ∷ ss) l g h z q s e behind = rw (ap (observe cabinet c) (e .0) ∙ x .shows) (last (isLast cabinet (plainObserve cabinet c q)) refl
     (λ t. steps-observed ss l (next c g) h y p t (e .1) behind))
   where
-    x : Steps current currentLaws g z q c
+    x : ImageStep current currentLaws g z q c
     x = step-sound current currentLaws g z q s c
 
     y : State cabinet
@@ -60,9 +60,9 @@ run-observed : (l : List RunCall) (g : Image) (z : State cabinet) (q : PlainList
 unfolding IsRun observedIn runPlain
 run-observed [] g z q s e = refl
 run-observed (r ∷ l) g z q s e =
-    steps-observed (meant (r .made)) (runSteps l) (noisy (r .noise) g) (leftBy (r .made) (noisy (r .noise) g)) z q
+    steps-observed (meantCalls (r .made)) (runSteps l) (noisy (r .noise) g) (memoryLeft (r .made) (noisy (r .noise) g)) z q
     (noise-sound current currentLaws (r .noise) g z q s) (kept-steps (r .made) (noisy (r .noise) g) (e .0))
-    (λ y p t. run-observed l (leftBy (r .made) (noisy (r .noise) g)) y p t (e .1))
+    (λ y p t. run-observed l (memoryLeft (r .made) (noisy (r .noise) g)) y p t (e .1))
 
 -- DEMAND 3, going on from a store that earlier deliveries left
 pub goes-on-of-calls : GoesOnOfCalls

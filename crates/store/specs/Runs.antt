@@ -33,14 +33,14 @@ Kept (storeCall c a left) g = Done (asked c) g a left
 Kept (listCall lent a filled) g = ListDone g lent a filled
 
 -- The memory that it left. One that lists moves leaves it as it was given.
-abbrev pub leftBy : Made → Image → Image
-leftBy (storeCall c a left) g = left
-leftBy (listCall lent a filled) g = g
+abbrev pub memoryLeft : Made → Image → Image
+memoryLeft (storeCall c a left) g = left
+memoryLeft (listCall lent a filled) g = g
 
 -- What it means to the rules: calls of theirs with their answers. One that lists moves is none.
-abbrev pub meant : Made → List (Call cabinet × Answer cabinet)
-meant (storeCall c a left) = (asked c, shown a) ∷ []
-meant (listCall lent a filled) = []
+abbrev pub meantCalls : Made → List (Call cabinet × Answer cabinet)
+meantCalls (storeCall c a left) = (asked c, shown a) ∷ []
+meantCalls (listCall lent a filled) = []
 
 -- A call in a run: the noise in the tables of failed cards before it, and what was made.
 pub record RunCall : Type 0 where
@@ -51,16 +51,16 @@ pub record RunCall : Type 0 where
 -- they leave.
 unfoldable pub IsRun : List RunCall → Image → Type 0
 IsRun [] g = Unit
-IsRun (r ∷ l) g = Kept (r .made) (noisy (r .noise) g) × IsRun l (leftBy (r .made) (noisy (r .noise) g))
+IsRun (r ∷ l) g = Kept (r .made) (noisy (r .noise) g) × IsRun l (memoryLeft (r .made) (noisy (r .noise) g))
 
 unfoldable pub memoryAfter : List RunCall → Image → Image
 memoryAfter [] g = g
-memoryAfter (r ∷ l) g = memoryAfter l (leftBy (r .made) (noisy (r .noise) g))
+memoryAfter (r ∷ l) g = memoryAfter l (memoryLeft (r .made) (noisy (r .noise) g))
 
 -- What a run means to the rules, and the calls alone, as the plain record list is given them.
 abbrev pub runSteps : List RunCall → List (Call cabinet × Answer cabinet)
 runSteps [] = []
-runSteps (r ∷ l) = meant (r .made) ++ runSteps l
+runSteps (r ∷ l) = meantCalls (r .made) ++ runSteps l
 
 abbrev pub runCalls : List RunCall → List (Call cabinet)
 runCalls l = map (λ s. s .0) (runSteps l)

@@ -44,7 +44,7 @@ use types.Kit.{join, keep, later, move, pick, qed, raw, rewrite, runs, some, spl
 use types.Part.{agg, look-in, sub, whole}
 use types.Run.{addr, alloc0, alloc1, and-then, assigns, enter, fld, forget, free0, free1, from, hop, init, land, load, look, no-more, of-opd, params1, pass0, pass1, returns, stop}
 use Rattle.method.specs.MoveList.{Entry}
-use Rattle.move_list.specs.Plans.{Plans, answerBy, firstMoves, movesIn, storedBy}
+use Rattle.move_list.specs.Plans.{Plans, planAnswer, firstMoves, movesIn, storedBy}
 use Rattle.move_list.specs.Promise.{ListDone}
 use Rattle.move_list.specs.declared.Listed.{Listed}
 use Rattle.move_list.specs.declared.Move.{Move}
@@ -205,13 +205,13 @@ module _ {M : Type 1} (𝓤 : URA M) (H : Heap 𝓤) (A : Atoms 𝓤) (W : Given
     said-stored : (m : ℕ) → ent 𝓤 (ensured 𝓤 H A stored.ended (stored.clauses 𝓤 H A at-mem run) tt (p, (length ys, tt)) tt m) (fact 𝓤 (m ≡ storedBy p (length ys)))
     said-stored m = exE 𝓤 _ (λ ws. snd∗ 𝓤 (sem 𝓤 H A (lasts stored.ended tt (p, (length ys, tt)) ws)) (fact 𝓤 (m ≡ storedBy p (length ys))))
 
-    said-answer : (r : Listed) → ent 𝓤 (ensured 𝓤 H A answer.ended (answer.clauses 𝓤 H A at-mem run) tt (p, (length ys, tt)) tt r) (fact 𝓤 (r ≡ answerBy p (length ys)))
-    said-answer r = exE 𝓤 _ (λ ws. snd∗ 𝓤 (sem 𝓤 H A (lasts answer.ended tt (p, (length ys, tt)) ws)) (fact 𝓤 (r ≡ answerBy p (length ys))))
+    said-answer : (r : Listed) → ent 𝓤 (ensured 𝓤 H A answer.ended (answer.clauses 𝓤 H A at-mem run) tt (p, (length ys, tt)) tt r) (fact 𝓤 (r ≡ planAnswer p (length ys)))
+    said-answer r = exE 𝓤 _ (λ ws. snd∗ 𝓤 (sem 𝓤 H A (lasts answer.ended tt (p, (length ys, tt)) ws)) (fact 𝓤 (r ≡ planAnswer p (length ys))))
 
     -- what is answered and what is left are the call's promise
-    kept : (m : ℕ) (r : Listed) (zs : List Move) → m ≡ storedBy p (length ys) → r ≡ answerBy p (length ys) → zs ≡ firstMoves found m ++ drop-front m ys → ListDone (now s) ys r zs
+    kept : (m : ℕ) (r : Listed) (zs : List Move) → m ≡ storedBy p (length ys) → r ≡ planAnswer p (length ys) → zs ≡ firstMoves found m ++ drop-front m ys → ListDone (now s) ys r zs
     kept m r zs em er ez = subst (λ (t : Listed). ListDone (now s) ys t zs) (sym er)
-        (subst (λ (l : List Move). ListDone (now s) ys (answerBy p (length ys)) l) (sym (ez ∙ ap (λ (k : ℕ). firstMoves found k ++ drop-front k ys) em)) (list-done p (now s) plans ys))
+        (subst (λ (l : List Move). ListDone (now s) ys (planAnswer p (length ys)) l) (sym (ez ∙ ap (λ (k : ℕ). firstMoves found k ++ drop-front k ys) em)) (list-done p (now s) plans ys))
 
     module _ (C : Calls 𝓤 H) (Λ : Loops 𝓤 H) (fm : FmC 𝓤 H (W .laws) C) (known-stored : Triple 𝓤 (C #stored) (Stored 𝓤 H A at-mem run)) (known-fill : Triple 𝓤 (C #fill) (Fill 𝓤 H A at-mem run))
         (known-answer : Triple 𝓤 (C #answer) (Answer 𝓤 H A at-mem run)) (l₀ l₁ l₂ l₃ l₄ l₅ l₆ l₇ l₈ : ℕ) where
@@ -235,7 +235,7 @@ module _ {M : Type 1} (𝓤 : URA M) (H : Heap 𝓤) (A : Atoms 𝓤) (W : Given
           (λ y.
           use1 W (later (some (λ (r : Listed). (‵ ftrue ⊛ ‵ (L.the-row .own r (y ∷ []))) ⊛ raw (ensured 𝓤 H A answer.ended (answer.clauses 𝓤 H A at-mem run) tt (p, (length ys, tt)) tt r))))
           (id⊢ 𝓤 _) $ await ! tt $ pick ! (λ r.
-          split ! $ move ! (1 ∷ []) $ use1 W (raw (fact 𝓤 (r ≡ answerBy p (length ys)))) (said-answer r) $ heard ! (r ≡ answerBy p (length ys))
+          split ! $ move ! (1 ∷ []) $ use1 W (raw (fact 𝓤 (r ≡ planAnswer p (length ys)))) (said-answer r) $ heard ! (r ≡ planAnswer p (length ys))
           (λ er. split ! $ drop ! $ peeks ! L.the-row (Is L.the-row) (shows 𝓤 H A L.the-row) r (y ∷ []) (λ isᵣ.
           -- [the result; list's token; the last list; image's token; what image owns; _8; …; _0; …]
           land ! (from ! (stop !)) (init ! 21 refl (EL.lawful L.the-type L′.the-laws 𝓤 H A W tt .typed r _ isᵣ .0)) $
