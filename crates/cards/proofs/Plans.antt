@@ -19,7 +19,7 @@ use Rattle.promise.specs.Given.{Given, rowsOn, viewOf}
 use Rattle.promise.specs.Promise.{Done}
 use Rattle.promise.specs.declared.Answer.the-variants.{Ok, Refused}
 use Rattle.promise.proofs.Finish.{by-both, by-control, by-rules, given-whole}
-use Rattle.promise.proofs.Laid.{laid}
+use Rattle.promise.specs.Laid.{laid}
 use Rattle.cards.proofs.Rows.{fit-range, fit-rows, place-few, place-rows, rowsOf, withdraw-range, withdraw-rows}
 
 -- ---- the rules' plans

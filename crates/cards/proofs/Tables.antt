@@ -20,7 +20,8 @@ use Rattle.slot.proofs.Blocks.{zeros-empty}
 use Rattle.method.specs.Rules.{clearCard, updated}
 use Rattle.cabinet_rules.specs.Cabinet.{cabinet}
 use Rattle.cabinet_rules.specs.Images.{Image, Writes, blockIn}
-use Rattle.promise.proofs.Laid.{laid, laid-block, laid-control, laid-ext, laid-none, laid-same, whole-laid}
+use Rattle.promise.specs.Laid.{laid}
+use Rattle.promise.proofs.Laid.{laid-block, laid-control, laid-ext, laid-none, laid-same, whole-laid}
 use Rattle.cards.specs.Clearing.{cleared}
 
 -- card c's blocks are empty, the others as w has them

@@ -2,7 +2,7 @@
 use mathlib.Core.Option.{some}
 use Rattle.slot.specs.Blocks.{emptyBlock}
 use Rattle.cabinet_rules.specs.Images.{Image}
-use Rattle.promise.proofs.Laid.{laid}
+use Rattle.promise.specs.Laid.{laid}
 
 -- Every block of every card is empty; the control bytes stay.
 unfoldable pub cleared : Image → Image

@@ -11,7 +11,7 @@ ghost use Rattle.cabinet_rules.specs.Cabinet.{cabinet};
 ghost use Rattle.cabinet_rules.specs.Delivery.{againByRails};
 ghost use Rattle.promise.specs.Promise.{Done, asked};
 ghost use Rattle.promise.specs.declared.Call.{Call};
-ghost use Rattle.promise.proofs.Laid.{laid};
+ghost use Rattle.promise.specs.Laid.{laid};
 ghost use Rattle.cards.specs.Clearing.{cleared};
 use control::Control;
 use control::codec;

@@ -27,7 +27,8 @@ use Rattle.promise.specs.Given.{viewOf}
 use Rattle.promise.specs.Promise.{Done}
 use Rattle.promise.specs.declared.Answer.the-variants.{Placed, Unplaced}
 use Rattle.promise.proofs.Finish.{by-both, by-plan, form-good}
-use Rattle.promise.proofs.Laid.{laid, whole-laid, write-control}
+use Rattle.promise.specs.Laid.{laid}
+use Rattle.promise.proofs.Laid.{whole-laid, write-control}
 use Rattle.tables.specs.Tables.{endWrites, setOf}
 use Rattle.failure.specs.Failing.{Failing}
 use Rattle.failure.proofs.Room.{room-for}

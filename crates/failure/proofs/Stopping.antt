@@ -15,7 +15,7 @@ use Rattle.promise.specs.Given.{viewOf}
 use Rattle.promise.specs.Promise.{Done}
 use Rattle.promise.specs.declared.Answer.the-variants.{Stopped}
 use Rattle.promise.proofs.Finish.{by-both}
-use Rattle.promise.proofs.Laid.{laid}
+use Rattle.promise.specs.Laid.{laid}
 use Rattle.tables.specs.Tables.{endWrites, setOf}
 use Rattle.tables.proofs.Ends.{drops-set}
 use Rattle.failure.specs.Failing.{Failing, stoppedOn}

@@ -25,7 +25,8 @@ use Rattle.cabinet_rules.specs.Images.{Image, Writes, afterPlan, answer, answer
 use Rattle.cabinet_rules.specs.Images.{refusalBy, refusalOn, unlessRefusedImage}
 use Rattle.promise.specs.Given.{Given, rowsOn}
 use Rattle.promise.specs.Promise.{Done, shown}
-use Rattle.promise.proofs.Laid.{kept-control, laid, laid-none, write-control}
+use Rattle.promise.specs.Laid.{laid}
+use Rattle.promise.proofs.Laid.{kept-control, laid-none, write-control}
 use Rattle.promise.specs.declared.Answer.{Answer as AnswerValue}
 use Rattle.promise.specs.declared.Answer.the-variants.{Refused}
 

@@ -28,6 +28,7 @@ use Rattle.control_form.proofs.Put.{length-put, put-after, put-blocks, put-in}
 use Rattle.control_form.proofs.RoundTrip.{control-back}
 use Rattle.cabinet_rules.specs.Delivery.{current}
 use Rattle.cabinet_rules.specs.Images.{Ends, Image, Writes, after, blockIn, controlIn, endIn, tailIn}
+use Rattle.promise.specs.Laid.{laid}
 use Rattle.cabinet_rules.proofs.After.{after-block, after-control, after-end, after-ext, after-tail, length-after}
 
 -- ---- the blocks of an image as lists and as the rules have them
@@ -47,10 +48,7 @@ pub of-part : (g : Image) → Whole g → (c b : ℕ) → c < cardCount → b < 
     → ofList (midOf a k g) ≡ blockIn g c b
 of-part g w c b hc hb a k ea ek = ap ofList (part-block g c b a k ea ek) ∙ of-block g w c b hc hb
 
--- ---- the image with the blocks w, its control bytes and what lies behind blocks as found
-unfoldable pub laid : Writes → Image → Image
-laid w g = after (λ n. getD g n 0) (tailIn g) w (λ c. none) g
-
+-- ---- the image with the blocks w
 -- one block more
 abbrev pub putOne : Writes → ℕ → ℕ → BlockBytes → Writes
 putOne w c b x d e = cond (eqb d c && eqb e b) (some x) (w d e)

@@ -1,3 +1,4 @@
 pub mod Given
 pub mod Promise
 pub mod Rows
+pub mod Laid

@@ -22,7 +22,7 @@ use Rattle.promise.specs.Promise.{Done, shown}
 use Rattle.promise.specs.declared.Answer.{Answer as AnswerValue}
 use Rattle.promise.specs.declared.Answer.the-variants.{Absent, Ok, Refused}
 use Rattle.promise.proofs.Finish.{by-blocks, by-look, by-row, form-good, form-long}
-use Rattle.promise.proofs.Laid.{laid}
+use Rattle.promise.specs.Laid.{laid}
 use Rattle.promise.proofs.View.{newest-usable as newest-active-usable}
 use Rattle.trail.specs.Trail.{holdersIn}
 use Rattle.trail.proofs.Listed.{none-listed, some-listed}

@@ -28,7 +28,8 @@ use Rattle.slot.proofs.Blocks.{lock-again, of-list}
 use Rattle.method.specs.Rules.{layBlock, lockHolders, look, updated}
 use Rattle.cabinet_rules.specs.Cabinet.{cabinet}
 use Rattle.cabinet_rules.specs.Images.{Image, Writes, blockIn, controlIn, stateIn}
-use Rattle.promise.proofs.Laid.{laid, laid-block, laid-none, laid-put, laid-same, put-elsewhere, putOne}
+use Rattle.promise.specs.Laid.{laid}
+use Rattle.promise.proofs.Laid.{laid-block, laid-none, laid-put, laid-same, put-elsewhere, putOne}
 use Rattle.trail.specs.Trail.{holdersIn}
 use Rattle.records.proofs.Reading.{holder-look}
 

@@ -18,7 +18,7 @@ ghost use Rattle.method.specs.Slots.{lockedByOther, readBy};
 ghost use Rattle.cabinet_rules.specs.Cabinet.{cabinet};
 ghost use Rattle.cabinet_rules.specs.Images.{blockIn, controlIn, stateIn};
 ghost use Rattle.promise.specs.Promise.{shown};
-ghost use Rattle.promise.proofs.Laid.{laid};
+ghost use Rattle.promise.specs.Laid.{laid};
 ghost use Rattle.trail.specs.Trail.{Lists, holdersIn};
 ghost use Rattle.records.specs.Slots.{lockedAt, lockedOutIn, rulesSlot, seenIn};
 use image::Block;

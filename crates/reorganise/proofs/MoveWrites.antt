@@ -15,7 +15,8 @@ use Rattle.method.specs.Rules.{View, moveWrites, newestSites, updated}
 use Rattle.control.specs.ControlBytes.{Part}
 use Rattle.cabinet_rules.specs.Cabinet.{cabinet}
 use Rattle.cabinet_rules.specs.Images.{Image, Writes, blockIn}
-use Rattle.promise.proofs.Laid.{laid, laid-put, laid-same, putOne}
+use Rattle.promise.specs.Laid.{laid}
+use Rattle.promise.proofs.Laid.{laid-put, laid-same, putOne}
 
 -- a block that may be put
 abbrev pub fillOne : Bool → Writes → ℕ → ℕ → BlockBytes → Writes

@@ -22,7 +22,8 @@ use Rattle.promise.specs.Given.{Given, rowsOn, viewOf}
 use Rattle.promise.specs.Promise.{Done}
 use Rattle.promise.specs.declared.Answer.the-variants.{Copied}
 use Rattle.promise.proofs.Finish.{by-blocks, given-whole}
-use Rattle.promise.proofs.Laid.{block-is, laid, laid-none, laid-same}
+use Rattle.promise.specs.Laid.{laid}
+use Rattle.promise.proofs.Laid.{block-is, laid-none, laid-same}
 use Rattle.promise.proofs.View.{look-on}
 use Rattle.trail.specs.Trail.{holdsAt}
 use Rattle.trail.proofs.Holding.{holds-seen}

@@ -27,7 +27,8 @@ use Rattle.slot.proofs.Words.{slot-in-range}
 use Rattle.method.specs.Rules.{dropHeld, endHeld, look, updated}
 use Rattle.cabinet_rules.specs.Cabinet.{cabinet}
 use Rattle.cabinet_rules.specs.Images.{Image, blockIn, controlIn, endIn, stateIn, tailIn}
-use Rattle.promise.proofs.Laid.{block-is, laid, laid-ext, laid-none, laid-same, of-block}
+use Rattle.promise.specs.Laid.{laid}
+use Rattle.promise.proofs.Laid.{block-is, laid-ext, laid-none, laid-same, of-block}
 use Rattle.promise.proofs.View.{look-is}
 use Rattle.tables.specs.Tables.{endWrites, endedOn, endedTable, setOf}
 use Rattle.tables.proofs.Sets.{in-set-of}

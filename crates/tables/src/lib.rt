@@ -11,7 +11,7 @@ ghost use Rattle.slot.specs.Blocks.{inSet};
 ghost use Rattle.method.specs.ControlPart.{isOpen, begunAt};
 ghost use Rattle.control.specs.ControlBytes.{homeIn, homeOf};
 ghost use Rattle.control.specs.Meaning.{meaning};
-ghost use Rattle.promise.proofs.Laid.{laid};
+ghost use Rattle.promise.specs.Laid.{laid};
 ghost use Rattle.tables.specs.Tables.{endWrites, endedOn, endedTable, setOf, isBegun};
 use control::Control;
 use control::codec::OPEN;

@@ -19,7 +19,7 @@ use Rattle.promise.specs.declared.Answer.the-variants.{Ok, Refused}
 use Rattle.promise.specs.Given.{rowsOn}
 use Rattle.promise.specs.Rows.{tranRows}
 use Rattle.promise.proofs.Finish.{by-both, by-control, by-rules, form-long}
-use Rattle.promise.proofs.Laid.{laid}
+use Rattle.promise.specs.Laid.{laid}
 use Rattle.tables.specs.Tables.{endWrites, setOf}
 use Rattle.tables.proofs.Ends.{ends-set}
 use Rattle.transactions.specs.Transactions.{beginRows, endCall}

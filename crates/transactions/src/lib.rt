@@ -8,7 +8,7 @@ ghost use Rattle.method.specs.ControlPart.{closed};
 ghost use Rattle.control.specs.Meaning.{Counted, meaning, putControl};
 ghost use Rattle.promise.specs.Promise.{Done, asked};
 ghost use Rattle.promise.specs.declared.Call.{Call};
-ghost use Rattle.promise.proofs.Laid.{laid};
+ghost use Rattle.promise.specs.Laid.{laid};
 ghost use Rattle.tables.specs.Tables.{endWrites, setOf};
 ghost use Rattle.transactions.specs.Transactions.{beginRows, endCall};
 use control::Control;

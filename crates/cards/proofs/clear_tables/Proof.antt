@@ -6,7 +6,8 @@ use Prim.Native.Nat.{ℕ, _≤_, _-_}
 use native.Mathlib.Omega.{arith}
 use lib.ListN.{length}
 use Rattle.image.specs.Layout.{cardCount, tableSize, zeros, putTable}
-use Rattle.promise.proofs.Laid.{laid, whole-laid}
+use Rattle.promise.specs.Laid.{laid}
+use Rattle.promise.proofs.Laid.{whole-laid}
 use Rattle.cards.proofs.Tables.{emptyTo, none-emptied, one-emptied, all-emptied}
 use Rattle.cards.proofs.clear_tables.Statement.{statement}
 use Rattle.cards.proofs.clear_tables.Tie as tie

@@ -7,7 +7,7 @@ use Rattle.slot.specs.declared.Entry.{Entry}
 use Rattle.method.specs.Rules.{lockHolders, look}
 use Rattle.cabinet_rules.specs.Cabinet.{cabinet}
 use Rattle.cabinet_rules.specs.Images.{controlIn, stateIn}
-use Rattle.promise.proofs.Laid.{laid}
+use Rattle.promise.specs.Laid.{laid}
 use Rattle.records.proofs.Calls.{delete-absent, delete-done, delete-refused, rec-fits, tran-fits, whole}
 use Rattle.records.proofs.delete.Statement.{statement}
 use Rattle.records.proofs.delete.Tie as tie

@@ -9,7 +9,7 @@ use Rattle.slot.specs.Blocks.{inSet}
 use Rattle.method.specs.ControlPart.{closed}
 use Rattle.control.specs.ControlBytes.{Part}
 use Rattle.control.specs.Meaning.{meaning, putControl}
-use Rattle.promise.proofs.Laid.{laid}
+use Rattle.promise.specs.Laid.{laid}
 use Rattle.tables.specs.Tables.{endWrites}
 use Rattle.transactions.proofs.end_open.Statement.{statement}
 use Rattle.transactions.proofs.end_open.Tie as tie
