@@ -1,10 +1,10 @@
 -- Each answer has a code of its own; and the laws that finish the functions' proofs. Assumes nothing.
 use mathlib.Core.Path.{_∙_, _≡_, ap, refl, sym}
-use mathlib.Core.List.{List}
+use mathlib.Core.List.{List, [], _∷_}
 use Prim.Native.Nat.{_%_, _/_, _<_, ℕ}
 use native.Mathlib.Omega.{arith}
 use lib.ListN.{getD}
-use Rattle.mask.specs.Masks.{Byte}
+use Rattle.mask.specs.Masks.{Byte, byte}
 use Rattle.mask.proofs.Masks.{byte-of}
 use Rattle.method.specs.Rules.{Answer, Call, absent, copied, loaded, ok, placed, protected, refused, retired, stops}
 use Rattle.method.specs.Rules.{unplaced, unprotected, value}
@@ -14,8 +14,7 @@ use Rattle.promise.specs.Promise.{Done, shown}
 use Rattle.promise.specs.declared.Answer.{Answer as AnswerValue}
 use Rattle.promise.specs.declared.Answer.the-variants.{Placed}
 use Rattle.command.specs.Meaning.{Obeyed}
-use Rattle.abi.specs.Codes.{Coded, CodedCommand, OneNumberEach, answerOfCode, codeOf, coded, kindOf, kinds, answerNumber}
-use Rattle.abi.specs.Codes.{numberRange}
+use Rattle.abi.specs.Codes.{Coded, CodedCommand, OneNumberEach, answerNumber, codeOf, coded, kindOf, numberRange}
 
 -- ---- codes
 kind-back : (k n : ℕ) → n < numberRange → coded k n / numberRange ≡ k
@@ -23,6 +22,29 @@ kind-back k n h = omega arith
 
 number-back : (k n : ℕ) → n < numberRange → coded k n % numberRange ≡ n
 number-back k n h = omega arith
+
+-- The answer of a code: by its kind, with its number. The kinds that are not theirs stand for ok here.
+abbrev kinds : List (ℕ → Answer cabinet)
+kinds =
+    (λ n. ok)
+    ∷ value
+    ∷ (λ n. absent)
+    ∷ (λ n. placed (byte n))
+    ∷ (λ n. unplaced)
+    ∷ (λ n. stops)
+    ∷ copied
+    ∷ retired
+    ∷ (λ n. protected)
+    ∷ (λ n. unprotected)
+    ∷ loaded
+    ∷ (λ n. ok)
+    ∷ (λ n. ok)
+    ∷ (λ n. ok)
+    ∷ (λ n. ok)
+    ∷ []
+
+answerOfCode : ℕ → Answer cabinet
+answerOfCode code = getD kinds (code / numberRange) refused (code % numberRange)
 
 -- the entry of an answer's kind, with its number, is the answer
 entry : (a : Answer cabinet) → getD kinds (kindOf a) refused (answerNumber a) ≡ a
@@ -40,7 +62,7 @@ entry unprotected = refl
 entry (loaded n) = refl
 entry (refused n) = refl
 
-pub answer-back : (a : Answer cabinet) → answerNumber a < numberRange → answerOfCode (codeOf a) ≡ a
+answer-back : (a : Answer cabinet) → answerNumber a < numberRange → answerOfCode (codeOf a) ≡ a
 unfolding answerOfCode
 answer-back a h =
     ap (λ (k : ℕ). getD kinds k refused (codeOf a % numberRange)) (kind-back (kindOf a) (answerNumber a) h)

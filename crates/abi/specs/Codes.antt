@@ -1,9 +1,7 @@
 -- Answers as numbers of 32 bits, for callers in other languages. Assumes nothing.
-use Prim.Native.Nat.{_%_, _*_, _+_, _/_, _<_, ℕ}
-use lib.ListN.{getD}
-use mathlib.Core.List.{List, _∷_, []}
+use Prim.Native.Nat.{_*_, _+_, _<_, ℕ}
+use mathlib.Core.List.{List}
 use mathlib.Core.Path.{_≡_}
-use Rattle.mask.specs.Masks.{byte}
 use Rattle.method.specs.Rules.{Answer, Call, absent, copied, loaded, ok, placed, protected, refused, retired, stops}
 use Rattle.method.specs.Rules.{unplaced, unprotected, value}
 use Rattle.cabinet_rules.specs.Cabinet.{cabinet}
@@ -49,29 +47,6 @@ coded kind number = kind * numberRange + number
 
 abbrev pub codeOf : Answer cabinet → ℕ
 codeOf a = coded (kindOf a) (answerNumber a)
-
--- The answer of a code: by its kind, with its number. The kinds that are not theirs stand for ok here.
-abbrev pub kinds : List (ℕ → Answer cabinet)
-kinds =
-    (λ n. ok)
-    ∷ value
-    ∷ (λ n. absent)
-    ∷ (λ n. placed (byte n))
-    ∷ (λ n. unplaced)
-    ∷ (λ n. stops)
-    ∷ copied
-    ∷ retired
-    ∷ (λ n. protected)
-    ∷ (λ n. unprotected)
-    ∷ loaded
-    ∷ (λ n. ok)
-    ∷ (λ n. ok)
-    ∷ (λ n. ok)
-    ∷ (λ n. ok)
-    ∷ []
-
-unfoldable pub answerOfCode : ℕ → Answer cabinet
-answerOfCode code = getD kinds (code / numberRange) refused (code % numberRange)
 
 -- Each answer, of those whose number has 16 bits, has a code of its own.
 abbrev pub OneNumberEach : Type 0

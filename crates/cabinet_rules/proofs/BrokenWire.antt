@@ -9,7 +9,7 @@ use mathlib.Core.Path.{_∙_, _≡_, ap, ap₂, refl, sym}
 use native.Mathlib.Omega.{arith}
 use Rattle.lists.proofs.Bools.{split}
 use Rattle.image.specs.Layout.{imageSizeOf, recordCount, valueBound}
-use Rattle.method.specs.BlockMoves.{settledBy}
+use Rattle.method.specs.Rules.{settledBy}
 use Rattle.method.specs.ControlPart.{isOpen}
 use Rattle.method.specs.Parameters.{Parameters}
 use Rattle.method.specs.PlainList.{orRefused}

@@ -8,7 +8,7 @@ use Rattle.mask.specs.Masks.{byte, hasCard, isWithin, members, noCards, size, w
 use Rattle.mask.specs.Placements.{acrossRails, chainedSites, fromMask, memberAt, membersAfter, railSites, sitesOf}
 use Rattle.slot.specs.Blocks.{byteIn, endSlots, endedByte, isHeld, lockSlot, putSlot, wordAt}
 use Rattle.slot.specs.Words.{slotOf, wordOf}
-use Rattle.method.specs.BlockMoves.{settledBy}
+use Rattle.method.specs.Rules.{settledBy}
 use Rattle.method.specs.OneRecordList.{zeroed}
 use Rattle.method.specs.Parameters.{Parameters}
 use Rattle.method.specs.Rules.{Answer, Call, State, absent, act, answerOf, anyLocked, apply, begin, clearCard, commit}

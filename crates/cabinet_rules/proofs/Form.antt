@@ -9,7 +9,7 @@ use mathlib.Core.Logic.{_⊎_, inl, inr}
 use mathlib.Core.Option.{Option, none, some}
 use mathlib.Core.Path.{_∙_, _≡_, ap, refl, sym}
 use native.Mathlib.Omega.{arith}
-use Rattle.lists.specs.Tests.{In, count}
+use Rattle.lists.specs.Tests.{In, countBelow}
 use Rattle.lists.proofs.Bools.{and-in, imp, is-not, nand, or-l, or-r, split, tf}
 use Rattle.lists.proofs.Counts.{all-below, any-below}
 use Rattle.lists.proofs.Lists.{all-in}
@@ -36,10 +36,10 @@ unfolding isSafe lostOf common
 safe-is working failed m = go (split (leb copyCount x)) (split (ltb y copyCount))
   where
     x : ℕ
-    x = count cardCount (λ c. hasCard m c && hasCard failed c)
+    x = countBelow cardCount (λ c. hasCard m c && hasCard failed c)
 
     y : ℕ
-    y = count cardCount (λ c. hasCard m c && hasCard working c)
+    y = countBelow cardCount (λ c. hasCard m c && hasCard working c)
 
     go : (leb copyCount x ≡ true) ⊎ (leb copyCount x ≡ false) → (ltb y copyCount ≡ true) ⊎ (ltb y copyCount ≡ false)
         → (ltb x copyCount && leb copyCount y) ≡ not (leb copyCount x || ltb y copyCount)

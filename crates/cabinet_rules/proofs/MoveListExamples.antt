@@ -9,7 +9,8 @@ use Rattle.mask.specs.Masks.{areApart, byte, common, hasCard, isOneMore, isWith
 use Rattle.mask.specs.Placements.{acrossRails, chainedSites, memberAt, membersAfter, railSites, sitesOf}
 use Rattle.slot.specs.Blocks.{endSlots, endedByte, isHeld, lockSlot, putSlot, wordAt}
 use Rattle.slot.specs.Words.{slotOf, wordOf}
-use Rattle.method.specs.BlockMoves.{originBy, settledBy}
+use Rattle.method.specs.MoveList.{originBy}
+use Rattle.method.specs.Rules.{settledBy}
 use Rattle.method.specs.MoveList.{Entry, ListAnswer, anyMoveLocked, listAnswer, listed, moveList, movesOf, noList}
 use Rattle.method.specs.MoveList.{notListed}
 use Rattle.method.specs.Rules.{Call, act, answerOf, anyLocked, apply, begin, clearCard, commit, dropHeld, endHeld}

@@ -6,7 +6,7 @@ use mathlib.Core.Bool.{Bool, _&&_, false, not, true}
 use mathlib.Core.List.{List}
 use mathlib.Core.Path.{_∙_, _≡_, ap, fun-ext, refl, sym}
 use native.Mathlib.Omega.{arith}
-use Rattle.lists.specs.Tests.{allBelow, count}
+use Rattle.lists.specs.Tests.{allBelow, countBelow}
 use Rattle.lists.proofs.Bools.{and-l, never-true, not-is, tf}
 use Rattle.lists.proofs.Counts.{below-all, count-none, count-some}
 use Rattle.image.specs.Layout.{cardCount}
@@ -89,8 +89,8 @@ pub stop-of : (g : Image) → answer state g ≡ unprotected → (c : ℕ) × (c
 unfolding noFailStopsOn
 stop-of g e =
     let f : ℕ → Bool = λ c. isStop cabinet (answer (fail c) g) in
-    let n : eqb (count cardCount f) 0 ≡ false = count-none cardCount f ∙ word g false e in
-    let d : count cardCount f ≡ 0 → ⊥ = eqb-false (count cardCount f) 0 n in
+    let n : eqb (countBelow cardCount f) 0 ≡ false = count-none cardCount f ∙ word g false e in
+    let d : countBelow cardCount f ≡ 0 → ⊥ = eqb-false (countBelow cardCount f) 0 n in
     count-some cardCount f (omega arith)
 
 -- ---- a list of calls that did not stop the store, from an image that is sound

@@ -4,7 +4,7 @@ use mathlib.Core.Path.{_≡_, refl}
 use Rattle.lists.specs.Tabulate.{tabulate}
 use Rattle.mask.specs.Masks.{byte, hasCard, isWithin, size, withCard, withoutCard}
 use Rattle.slot.specs.Blocks.{isHeld}
-use Rattle.method.specs.BlockMoves.{settledBy}
+use Rattle.method.specs.Rules.{settledBy}
 use Rattle.method.specs.Rules.{act, answerOf, apply, clearCard, dropHeld, fail, fit, isProtected, look, lostOf, nextState}
 use Rattle.method.specs.Rules.{place, plan, refusal, settle, settled, state, stopping}
 use Rattle.cabinet_rules.specs.Cabinet.{placeRows, startRow}

@@ -7,7 +7,7 @@ use Rattle.mask.specs.Masks.{byte, hasCard, isWithin, members, noCards, size, w
 use Rattle.mask.specs.Placements.{acrossRails, chainedSites, memberAt, membersAfter, railSites, sitesOf}
 use Rattle.slot.specs.Blocks.{endSlots, endedByte, isHeld, lockSlot, putSlot, wordAt}
 use Rattle.slot.specs.Words.{slotOf, wordOf}
-use Rattle.method.specs.BlockMoves.{settledBy}
+use Rattle.method.specs.Rules.{settledBy}
 use Rattle.method.specs.Growth.{grownState, rulesAfter}
 use Rattle.method.specs.OneRecordList.{zeroed}
 use Rattle.method.specs.Rules.{Call, State, act, answerOf, anyLocked, apply, begin, clearCard, commit, dropHeld, endHeld}

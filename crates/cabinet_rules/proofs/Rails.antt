@@ -6,7 +6,7 @@ use mathlib.Core.Bool.{Bool, _&&_, _||_, false, not, true}
 use mathlib.Core.Logic.{_⊎_, inl, inr}
 use mathlib.Core.Path.{_≡_}
 use native.Mathlib.Omega.{arith}
-use Rattle.lists.specs.Tests.{all, elem}
+use Rattle.lists.specs.Tests.{allIn, elem}
 use Rattle.lists.proofs.Bools.{and-l, and-r, imp-out, split}
 use Rattle.lists.proofs.Counts.{below-all}
 use Rattle.image.specs.Layout.{blockCount, cardCount}
@@ -14,7 +14,7 @@ use Rattle.mask.specs.Placements.{memberAt, onOneRail, railOf, sitesOf}
 use Rattle.mask.proofs.Masks.{has-card}
 use Rattle.mask.proofs.SiteLaws.{Pair, pair-of, secondSite}
 use Rattle.slot.specs.Blocks.{isHeld}
-use Rattle.method.specs.BlockMoves.{settledBy}
+use Rattle.method.specs.Rules.{settledBy}
 use Rattle.method.specs.Rules.{View, settled, settledAt}
 use Rattle.control.specs.ControlBytes.{Part}
 use Rattle.cabinet_rules.specs.Cabinet.{cabinet}
@@ -34,11 +34,11 @@ one-of-two held x y rail hx hy apart on-x on-y h = go (split (eqb (railOf x) rai
 
 module _ (k : Part) (v : View cabinet) (done : settled cabinet k v ≡ true) (b c : ℕ) (hb : b < blockCount) (hc : c < cardCount) (on : isHeld (v c b) ≡ true) where
   -- all newest sites of a block that is held hold it
-  sites-hold : all (λ x. isHeld (v x b)) (sitesOf (k .newest) b) ≡ true
+  sites-hold : allIn (λ x. isHeld (v x b)) (sitesOf (k .newest) b) ≡ true
   unfolding settled settledBy
-  sites-hold = and-r (elem c (sitesOf (k .newest) b)) (all (λ x. isHeld (v x b)) (sitesOf (k .newest) b))
-      (imp-out (isHeld (v c b)) (elem c (sitesOf (k .newest) b) && all (λ x. isHeld (v x b)) (sitesOf (k .newest) b))
-      (below-all cardCount (λ c. not (isHeld (v c b)) || (elem c (sitesOf (k .newest) b) && all (λ x. isHeld (v x b)) (sitesOf (k .newest) b))) c
+  sites-hold = and-r (elem c (sitesOf (k .newest) b)) (allIn (λ x. isHeld (v x b)) (sitesOf (k .newest) b))
+      (imp-out (isHeld (v c b)) (elem c (sitesOf (k .newest) b) && allIn (λ x. isHeld (v x b)) (sitesOf (k .newest) b))
+      (below-all cardCount (λ c. not (isHeld (v c b)) || (elem c (sitesOf (k .newest) b) && allIn (λ x. isHeld (v x b)) (sitesOf (k .newest) b))) c
       (below-all blockCount (settledAt cabinet k v) b done hb) hc) on)
 
 pub copy-on-each-rail : CopyOnEachRail

@@ -3,7 +3,8 @@
 use Prim.Native.Nat.{_<_, _≤_, ℕ}
 use lib.ListN.{length}
 use mathlib.Core.Path.{_∙_, _≡_, refl, ap, ap₂, sym}
-use Rattle.image.specs.Layout.{Whole, cardCount, controlSize, mostActive}
+use Rattle.image.specs.Layout.{cardCount, controlSize, mostActive}
+use Rattle.image.specs.Parts.{Whole}
 use Rattle.mask.specs.Masks.{Byte, withCard, withoutCard}
 use Rattle.mask.specs.Placements.{fromMask, Placement}
 use mathlib.Core.Logic.{_≢_}

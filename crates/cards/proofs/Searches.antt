@@ -7,7 +7,7 @@ use mathlib.Core.List.{List, [], _∷_}
 use mathlib.Core.Path.{_∙_, _≡_, ap, refl, sym}
 use native.Mathlib.Numerals.{unary-clauses}
 use native.Mathlib.Omega.{arith}
-use Rattle.lists.specs.Tests.{all, allBelow, any, anyBelow}
+use Rattle.lists.specs.Tests.{allIn, allBelow, anyIn, anyBelow}
 use Rattle.lists.proofs.Counts.{eqb-same}
 use Rattle.image.specs.Layout.{tranBound}
 use Rattle.mask.specs.Masks.{Byte, byte, hasCard}
@@ -19,11 +19,11 @@ use Rattle.cabinet_rules.specs.Cabinet.{cabinet}
 use Rattle.tables.specs.Tables.{setBelow, setOf}
 use Rattle.control.specs.declared.Control.{Control as Struct}
 
-any-not-all : {A : Type 0} (f : A → Bool) (l : List A) → any f l ≡ not (all (λ x. not (f x)) l)
+any-not-all : {A : Type 0} (f : A → Bool) (l : List A) → anyIn f l ≡ not (allIn (λ x. not (f x)) l)
 any-not-all f [] = refl
 any-not-all f (x ∷ l) = go (f x) (any-not-all f l)
   where
-    go : (b : Bool) → any f l ≡ not (all (λ x. not (f x)) l) → (b || any f l) ≡ not (not b && all (λ x. not (f x)) l)
+    go : (b : Bool) → anyIn f l ≡ not (allIn (λ x. not (f x)) l) → (b || anyIn f l) ≡ not (not b && allIn (λ x. not (f x)) l)
     go true ih = refl
     go false ih = ih
 

@@ -7,7 +7,8 @@ use mathlib.Core.Bool.{Bool, false, true}
 use mathlib.Core.Option.{some}
 use mathlib.Core.Path.{_∙_, _≡_, ap, ap₂, sym}
 use native.Mathlib.Omega.{arith}
-use Rattle.image.specs.Layout.{Whole, controlSize, imageSize, leastMembers}
+use Rattle.image.specs.Layout.{controlSize, imageSize, leastMembers}
+use Rattle.image.specs.Parts.{Whole}
 use Rattle.mask.specs.Masks.{Byte, noCards, size}
 use Rattle.mask.specs.Placements.{Placement, fromMask}
 use Rattle.slot.specs.Blocks.{emptyBlock}

@@ -11,8 +11,10 @@ use mathlib.Core.Path.{_∙_, _≡_, ap, refl, sym}
 use native.Mathlib.Omega.{arith}
 use Rattle.lists.proofs.Bools.{eqb-self}
 use Rattle.lists.proofs.Cases.{by-eq, lt-eq-gt}
-use Rattle.image.specs.Layout.{Whole, blockAt, blockSize, blockStart, cardCount}
-use Rattle.image.specs.Layout.{putTable, tableSize, zeros}
+use Rattle.image.specs.Layout.{blockSize, blockStart, cardCount}
+use Rattle.image.specs.Parts.{Whole, blockAt}
+use Rattle.image.specs.Layout.{tableSize}
+use Rattle.image.specs.Parts.{putTable, zeros}
 use Rattle.image.proofs.Blocks.{byte-of-control, control-put-table, put-table-other, put-table-same, whole-put-table}
 use Rattle.image.proofs.Zeros.{length-zeros, zeros-segment}
 use Rattle.slot.specs.Blocks.{BlockBytes, emptyBlock}

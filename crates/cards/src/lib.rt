@@ -1,7 +1,8 @@
 // start, fit, withdraw and place: which cards there are and which of them the records are placed on.
 ghost use mathlib.Core.Path.{_≡_};
 ghost use Prim.Native.Nat.{_<_};
-ghost use Rattle.image.specs.Layout.{Whole, cardCount};
+ghost use Rattle.image.specs.Layout.{cardCount};
+ghost use Rattle.image.specs.Parts.{Whole};
 ghost use Rattle.method.specs.Rules.{clearCard, inActive, refusal, fit, withdraw, place};
 ghost use Rattle.method.specs.PlainList.{noBlocks};
 ghost use Rattle.mask.specs.Masks.{byte};

@@ -7,7 +7,7 @@ use native.Mathlib.Omega.{arith}
 use lib.Dec.{eqb}
 use lib.ListN.{getD, length}
 use borrow.Author.Tests.{eqb-true, ltb-true}
-use Rattle.lists.specs.Tests.{all}
+use Rattle.lists.specs.Tests.{allIn}
 use Rattle.lists.proofs.Bools.{and-in, and-l, and-r, not-is}
 use Rattle.promise.specs.declared.Call.{Call}
 use Rattle.promise.specs.declared.Call.the-variants.{Begin, Commit, Delete, Fail, Fit, Get, Load, Move, Place, Rollback}
@@ -37,12 +37,12 @@ unfolding fieldsIn
 fields-encoded f w =
     same-fields (omega arith) (omega arith) (omega arith) (omega arith) (omega arith)
 
-pub encoded-fields : (a b c d e : ℕ) → all isByte (a ∷ b ∷ c ∷ d ∷ e ∷ []) ≡ true → encoded (fieldsOf a b c d e) ≡ a ∷ b ∷ c ∷ d ∷ e ∷ []
+pub encoded-fields : (a b c d e : ℕ) → allIn isByte (a ∷ b ∷ c ∷ d ∷ e ∷ []) ≡ true → encoded (fieldsOf a b c d e) ≡ a ∷ b ∷ c ∷ d ∷ e ∷ []
 encoded-fields a b c d e h =
-    let h1 : all isByte (b ∷ c ∷ d ∷ e ∷ []) ≡ true = and-r (isByte a) _ h in
-    let h2 : all isByte (c ∷ d ∷ e ∷ []) ≡ true = and-r (isByte b) _ h1 in
-    let h3 : all isByte (d ∷ e ∷ []) ≡ true = and-r (isByte c) _ h2 in
-    let h4 : all isByte (e ∷ []) ≡ true = and-r (isByte d) _ h3 in
+    let h1 : allIn isByte (b ∷ c ∷ d ∷ e ∷ []) ≡ true = and-r (isByte a) _ h in
+    let h2 : allIn isByte (c ∷ d ∷ e ∷ []) ≡ true = and-r (isByte b) _ h1 in
+    let h3 : allIn isByte (d ∷ e ∷ []) ≡ true = and-r (isByte c) _ h2 in
+    let h4 : allIn isByte (e ∷ []) ≡ true = and-r (isByte d) _ h3 in
     let ha : a < 256 = ltb-true a 256 (and-l (isByte a) _ h) in
     let hb : b < 256 = ltb-true b 256 (and-l (isByte b) _ h1) in
     let hc : c < 256 = ltb-true c 256 (and-l (isByte c) _ h2) in
@@ -156,18 +156,18 @@ written-reads lent c e =
     let w : isWritten lent c ≡ true = write-says lent c e in
     ap (λ (t : Bool). readOf (cond t (bytesFor c) lent)) w ∙ bytes-read c (and-r (eqb (length lent) commandSize) _ w)
 
-of-form : (l : List ℕ) → all isByte l ≡ true → wellFormed l ≡ true → (isWritable (commandOf l) ≡ true) × (bytesFor (commandOf l) ≡ l)
+of-form : (l : List ℕ) → allIn isByte l ≡ true → wellFormed l ≡ true → (isWritable (commandOf l) ≡ true) × (bytesFor (commandOf l) ≡ l)
 unfolding wellFormed isWritable bytesFor fieldsIn
 of-form l bytes h =
     let size : length l ≡ commandSize = eqb-true _ _ (and-l (eqb (length l) commandSize) _ h) in
     let k : formed (fieldsIn l) ≡ true = and-r (eqb (length l) commandSize) _ h in
     let b : Back (fieldsIn l) (commandOf l) = fields-back (fieldsIn l) k in (
       and-in _ _ (b .0) (ap formed (b .1) ∙ k),
-      ap encoded (b .1) ∙ by-five (λ m. all isByte m ≡ true → encoded (fieldsIn m) ≡ m) encoded-fields l size bytes,
+      ap encoded (b .1) ∙ by-five (λ m. allIn isByte m ≡ true → encoded (fieldsIn m) ≡ m) encoded-fields l size bytes,
     )
 
 -- what is read is writable, and its bytes are those read
-read-bytes : (l : List ℕ) (c : Command) → all isByte l ≡ true → readOf l ≡ Asks c → (isWritable c ≡ true) × (bytesFor c ≡ l)
+read-bytes : (l : List ℕ) (c : Command) → allIn isByte l ≡ true → readOf l ≡ Asks c → (isWritable c ≡ true) × (bytesFor c ≡ l)
 read-bytes l c bytes e =
     let r = read-asks l c e in
     subst (λ (d : Command). (isWritable d ≡ true) × (bytesFor d ≡ l)) (r .1) (of-form l bytes (r .0))

@@ -4,7 +4,7 @@ use lib.ListN.{length}
 use mathlib.Core.Bool.{true}
 use mathlib.Core.List.{List}
 use mathlib.Core.Path.{_≡_}
-use Rattle.lists.specs.Tests.{all}
+use Rattle.lists.specs.Tests.{allIn}
 use Rattle.command.specs.declared.Command.{Command}
 use Rattle.command.specs.declared.Reading.the-variants.{Asks}
 use Rattle.command.specs.declared.Writing.the-variants.{Written}
@@ -21,5 +21,5 @@ pub record WritesBack (bytes lent : List ℕ) (command : Command) : Type 0 where
 
 abbrev pub ReadWrites : Type 0
 ReadWrites =
-    (bytes lent : List ℕ) (command : Command) → all isByte bytes ≡ true → length lent ≡ commandSize
+    (bytes lent : List ℕ) (command : Command) → allIn isByte bytes ≡ true → length lent ≡ commandSize
     → readOf bytes ≡ Asks command → WritesBack bytes lent command

@@ -3,7 +3,7 @@
 use mathlib.Core.Path.{_≡_, refl, sym, ap, _∙_}
 use mathlib.Core.Bool.{Bool, true, false, _&&_}
 use Prim.Native.Nat.{ℕ, zero, suc, _+_, _<_}
-use Rattle.lists.specs.Tests.{all, allBelow}
+use Rattle.lists.specs.Tests.{allIn, allBelow}
 use Rattle.lists.proofs.Counts.{all-fails, all-more}
 use Rattle.mask.specs.Masks.{Byte, byte}
 use Rattle.mask.specs.Placements.{Placement}
@@ -24,7 +24,7 @@ front : (n : ℕ) (f : ℕ → Bool) → (f 0 && allBelow n (λ i. f (suc i))) �
 front zero f = refl
 front (suc n) f = and-swap (f 0) (f (suc n)) (allBelow n (λ i. f (suc i))) ∙ ap (λ (b : Bool). f (suc n) && b) (front n f)
 
-all-placements : (p : Placement → Bool) (f : ℕ → Placement) (n : ℕ) → all p (placementsIn f n) ≡ allBelow n (λ i. p (f i))
+all-placements : (p : Placement → Bool) (f : ℕ → Placement) (n : ℕ) → allIn p (placementsIn f n) ≡ allBelow n (λ i. p (f i))
 all-placements p f zero = refl
 all-placements p f (suc n) = ap (λ (b : Bool). p (f 0) && b) (all-placements p (λ i. f (suc i)) n) ∙ front n (λ i. p (f i))
 
@@ -33,12 +33,12 @@ unfoldable pub maskPasses : (Byte → Bool) → Control → ℕ → Bool
 maskPasses f k i = f (byte (maskIn k i))
 
 module _ (f : Byte → Bool) (k : Control) (w : Counted k) where
-  pub every-active : all (λ p. f (p .mask)) (active (meaning k)) ≡ allBelow (k .count) (maskPasses f k)
+  pub every-active : allIn (λ p. f (p .mask)) (active (meaning k)) ≡ allBelow (k .count) (maskPasses f k)
   unfolding meaning maskPasses
-  every-active = ap (all (λ (p : Placement). f (p .mask))) (active-is k w) ∙ all-placements (λ p. f (p .mask)) (placementIn k) (k .count)
+  every-active = ap (allIn (λ (p : Placement). f (p .mask))) (active-is k w) ∙ all-placements (λ p. f (p .mask)) (placementIn k) (k .count)
 
   -- mask i fails; mask i passes, and those before it; all passed
-  pub one-fails : (i : ℕ) → i < k .count → f (byte (maskIn k i)) ≡ false → false ≡ all (λ p. f (p .mask)) (active (meaning k))
+  pub one-fails : (i : ℕ) → i < k .count → f (byte (maskIn k i)) ≡ false → false ≡ allIn (λ p. f (p .mask)) (active (meaning k))
   unfolding maskPasses
   one-fails i h e = sym (every-active ∙ all-fails (maskPasses f k) (k .count) i h e)
 
@@ -46,5 +46,5 @@ module _ (f : Byte → Bool) (k : Control) (w : Counted k) where
   unfolding maskPasses
   one-passes i e h = all-more (maskPasses f k) i e h
 
-  pub every-passed : (i : ℕ) → k .count ≡ i → allBelow i (maskPasses f k) ≡ true → true ≡ all (λ p. f (p .mask)) (active (meaning k))
+  pub every-passed : (i : ℕ) → k .count ≡ i → allBelow i (maskPasses f k) ≡ true → true ≡ allIn (λ p. f (p .mask)) (active (meaning k))
   every-passed i e h = sym (every-active ∙ ap (λ (n : ℕ). allBelow n (maskPasses f k)) e ∙ h)

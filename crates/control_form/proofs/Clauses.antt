@@ -9,7 +9,7 @@ use lib.Bits.{bitAnd}
 use lib.Dec.{eqb}
 use lib.ListN.{getD}
 use borrow.Author.Tests.{eqb-true}
-use Rattle.lists.specs.Tests.{all, allBelow}
+use Rattle.lists.specs.Tests.{allIn, allBelow}
 use Rattle.lists.proofs.Bools.{and-r, same-test}
 use Rattle.lists.proofs.Counts.{all-below, below-all, below-ext}
 use Rattle.image.specs.Layout.{controlSize, mostActive, mostPlaced, tranBound, tranCount}
@@ -87,11 +87,11 @@ fromNewest l = newestIn l && allFrom homesAt wordsEnd (homeFitsAt l)
 abbrev pub fromChain : List ℕ → Bool
 fromChain l = chainIn l && fromNewest l
 
-abbrev pub placementsIn : List ℕ → Bool
-placementsIn l = allBelow (countIn (getD l 0 0)) (maskTest (placementOk (stoppedIn (getD l 0 0))) l)
+abbrev pub placementsFit : List ℕ → Bool
+placementsFit l = allBelow (countIn (getD l 0 0)) (maskTest (placementOk (stoppedIn (getD l 0 0))) l)
 
 abbrev pub fromPlacements : List ℕ → Bool
-fromPlacements l = placementsIn l && fromChain l
+fromPlacements l = placementsFit l && fromChain l
 
 abbrev pub apartIn : List ℕ → Bool
 apartIn l = areApart (byte (getD l workingAt 0)) (byte (getD l failedAt 0))
@@ -126,7 +126,7 @@ module _ (l : List ℕ) (ok : countOk (λ n. getD l n 0) ≡ true) (bytes : (n :
   counted = unfold structOf in (w .few)
 
   masks-are : (f : Byte → Byte → Byte → Bool)
-      → all (λ p. f (meaning (structOf l) .working) (meaning (structOf l) .failed) (p .mask)) (active (meaning (structOf l)))
+      → allIn (λ p. f (meaning (structOf l) .working) (meaning (structOf l) .failed) (p .mask)) (active (meaning (structOf l)))
       ≡ allBelow (countIn (getD l 0 0)) (maskTest f l)
   masks-are f = every-active (f (meaning (structOf l) .working) (meaning (structOf l) .failed)) (structOf l) w
       ∙ unfold meaning structOf in (below-ext (countIn (getD l 0 0)) (maskPasses (f (byte (getD l workingAt 0)) (byte (getD l failedAt 0))) (structOf l)) (maskTest f l) one)

@@ -6,7 +6,7 @@ use mathlib.Core.List.{List, [], _∷_, _++_, reverse}
 use Prim.Native.Nat.{ℕ}
 use lib.Dec.{eqb}
 use lib.ListN.{getD}
-use Rattle.lists.specs.Tests.{all, allBelow}
+use Rattle.lists.specs.Tests.{allIn, allBelow}
 use Rattle.image.specs.Layout.{mostPlaced, tranBound}
 use Rattle.mask.specs.Masks.{hasCard, withCard, size, common, isWithin, areApart, isWithinEither, isOneMore}
 use Rattle.method.specs.ControlPart.{active}
@@ -39,7 +39,7 @@ fault false x = x ∷ []
 -- The clauses that bytes break.
 abbrev pub faultsOf : Part → List Clause
 faultsOf k = fault (areApart (k .working) (k .failed)) apart
-    ++ (fault (all (λ p. membersOk (k .working) (k .failed) (p .mask)) (active k)) members
+    ++ (fault (allIn (λ p. membersOk (k .working) (k .failed) (p .mask)) (active k)) members
     ++ (fault (chainOk mostPlaced (k .failed) (k .newest .mask) (masksOf (reverse (k .older)))) chain
     ++ (fault (k .stopped || isWithin (k .newest .mask) (k .working)) newestWorks
     ++ (fault (k .stopped || allSafe k) safe

@@ -11,7 +11,8 @@ use Rattle.lists.specs.Tabulate.{tabulate}
 use Rattle.lists.proofs.Cases.{lt-or-ge}
 use Rattle.lists.proofs.Tabulate.{length-tabulate, at-tabulate}
 use Rattle.lists.proofs.Segments.{length-splice, getD-in, getD-after, get-put, get-put-after}
-use Rattle.image.specs.Layout.{Whole, cardCount, blockCount, controlSize, controlBytes, blockAt}
+use Rattle.image.specs.Layout.{cardCount, blockCount, controlSize}
+use Rattle.image.specs.Parts.{Whole, controlBytes, blockAt}
 use Rattle.control.specs.ControlBytes.{Part, controlByte, controlOf}
 use Rattle.control_form.specs.ControlForm.{controlForm}
 use Rattle.control.specs.Meaning.{putControl}

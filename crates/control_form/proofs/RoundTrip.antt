@@ -10,7 +10,7 @@ use native.Mathlib.Nat.{mod-eq-of-lt}
 use lib.Dec.{leb, ltb, eqb}
 use lib.ListN.{getD, length, length-append}
 use borrow.Author.Tests.{eqb-true, ltb-true, leb-true, le-leb, lt-leb}
-use Rattle.lists.specs.Tests.{all, allBelow}
+use Rattle.lists.specs.Tests.{allIn, allBelow}
 use Rattle.lists.proofs.Bools.{split, and-l, and-r}
 use Rattle.lists.proofs.Counts.{below-all}
 use Rattle.image.specs.Layout.{cardCount, controlSize, mostActive, mostPlaced, tranBound}
@@ -161,7 +161,7 @@ module _ (g : ℕ → ℕ) (form : formOk g ≡ true) where
 -- ---- the clauses on a control part, each taken out
 pub record Clauses (k : Part) : Type 0 where
   pub apart : areApart (k .working) (k .failed) ≡ true
-  pub members : all (λ p. membersOk (k .working) (k .failed) (p .mask)) (active k) ≡ true
+  pub members : allIn (λ p. membersOk (k .working) (k .failed) (p .mask)) (active k) ≡ true
   pub chain : chainOk mostPlaced (k .failed) (k .newest .mask) (masksOf (reverse (k .older))) ≡ true
   pub newest-works : (k .stopped || isWithin (k .newest .mask) (k .working)) ≡ true
   pub safe : (k .stopped || allSafe k) ≡ true
@@ -180,7 +180,7 @@ six a b c d e f h =
 pub part-clauses : (k : Part) → partOk k ≡ true → Clauses k
 unfolding partOk
 part-clauses k h =
-    let r = six (areApart (k .working) (k .failed)) (all (λ p. membersOk (k .working) (k .failed) (p .mask)) (active k))
+    let r = six (areApart (k .working) (k .failed)) (allIn (λ p. membersOk (k .working) (k .failed) (p .mask)) (active k))
     (chainOk mostPlaced (k .failed) (k .newest .mask) (masksOf (reverse (k .older))))
     (k .stopped || isWithin (k .newest .mask) (k .working)) (k .stopped || allSafe k)
     (allBelow tranBound (λ t. homeOk (k .stopped) (k .working) (k .home t))) h in

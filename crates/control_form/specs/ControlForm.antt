@@ -5,7 +5,7 @@ use lib.ListN.{getD, length}
 use mathlib.Core.Bool.{Bool, _&&_, _||_, cond, false, not, true}
 use mathlib.Core.List.{List, [], _∷_, reverse}
 use mathlib.Core.Option.{Option, none, some}
-use Rattle.lists.specs.Tests.{all, allBelow}
+use Rattle.lists.specs.Tests.{allIn, allBelow}
 use Rattle.image.specs.Layout.{controlSize, copyCount, imageSize, leastMembers, mostActive, mostPlaced, tranBound}
 use Rattle.mask.specs.Masks.{Byte, areApart, common, hasCard, isOneMore, isWithin, isWithinEither, size}
 use Rattle.mask.specs.Placements.{Placement}
@@ -40,7 +40,7 @@ isSafe working failed m = ltb (common m failed) copyCount && leb copyCount (comm
 
 -- All active placements are so.
 abbrev pub allSafe : Part → Bool
-allSafe k = all (λ p. isSafe (k .working) (k .failed) (p .mask)) (active k)
+allSafe k = allIn (λ p. isSafe (k .working) (k .failed) (p .mask)) (active k)
 
 -- If not stopped, each open transaction's home works. If stopped, none is open.
 unfoldable pub homeOk : Bool → Byte → Option ℕ → Bool
@@ -57,7 +57,7 @@ unfoldable pub partOk : Part → Bool
 partOk k =
     -- working and failed share no card
     areApart (k .working) (k .failed)
-    && (all (λ p. membersOk (k .working) (k .failed) (p .mask)) (active k)
+    && (allIn (λ p. membersOk (k .working) (k .failed) (p .mask)) (active k)
     && (chainOk mostPlaced (k .failed) (k .newest .mask) (masksOf (reverse (k .older)))
     -- if not stopped: the newest placement's members all work
     && ((k .stopped || isWithin (k .newest .mask) (k .working))

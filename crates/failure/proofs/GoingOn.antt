@@ -9,7 +9,8 @@ use mathlib.Core.Path.{_∙_, _≡_, ap, ap₂, refl, sym}
 use native.Mathlib.Omega.{arith}
 use Rattle.lists.specs.Tests.{In}
 use Rattle.lists.proofs.Lists.{in-left, in-reverse}
-use Rattle.image.specs.Layout.{Whole, mostActive, mostPlaced}
+use Rattle.image.specs.Layout.{mostActive, mostPlaced}
+use Rattle.image.specs.Parts.{Whole}
 use Rattle.mask.specs.Masks.{Byte, byte, hasCard, withoutCard}
 use Rattle.mask.specs.Placements.{Placement, fromMask}
 use Rattle.slot.specs.Blocks.{inSet}

@@ -9,7 +9,7 @@ use mathlib.Core.List.{List, [], _∷_}
 use mathlib.Core.Logic.{_⊎_, inl, inr}
 use mathlib.Core.Path.{_∙_, _≡_, ap, refl}
 use native.Mathlib.Omega.{arith}
-use Rattle.lists.specs.Tests.{In, count}
+use Rattle.lists.specs.Tests.{In, countBelow}
 use Rattle.lists.proofs.Bools.{and-l, and-r, eqb-self, not-is, or-l, or-r, split, tf}
 use Rattle.lists.proofs.Counts.{any-below-out, pigeon}
 use Rattle.lists.proofs.Lists.{any-none}
@@ -49,7 +49,7 @@ module _ (d n p w : Byte) (c x : ℕ) (hx : x < cardCount) (dx : hasCard d x ≡
   apart : eqb x c ≡ false
   apart = ne-eqb x c (λ z. tf (hasCard n c) h (rw z at nx))
 
-  two : copyCount ≤ count cardCount (λ y. hasCard p y && hasCard (withCard d c) y)
+  two : copyCount ≤ countBelow cardCount (λ y. hasCard p y && hasCard (withCard d c) y)
   two = pigeon cardCount (x ∷ c ∷ []) (λ y. hasCard p y && hasCard (withCard d c) y) (rw apart) both small
     where
       both : (y : ℕ) → In y (x ∷ c ∷ []) → (hasCard p y && hasCard (withCard d c) y) ≡ true

@@ -3,7 +3,7 @@ use Prim.Native.Nat.{ℕ}
 use mathlib.Core.Bool.{Bool, _&&_, _||_, false, not, true}
 use mathlib.Core.List.{List, [], _∷_}
 use mathlib.Core.Path.{_∙_, _≡_, ap, ap₂, refl, sym}
-use Rattle.lists.specs.Tests.{all, any}
+use Rattle.lists.specs.Tests.{allIn, anyIn}
 use Rattle.mask.specs.Placements.{Placement}
 use Rattle.method.specs.Changes.{marked}
 use Rattle.method.specs.ControlPart.{active}
@@ -13,16 +13,16 @@ use Rattle.control_form.specs.ControlForm.{allSafe, isSafe}
 use Rattle.cabinet_rules.specs.Cabinet.{cabinet}
 use Rattle.cabinet_rules.proofs.Form.{safe-is}
 
-lost-safe : (k : Part) → any (lost cabinet k) (active k) ≡ not (allSafe k)
+lost-safe : (k : Part) → anyIn (lost cabinet k) (active k) ≡ not (allSafe k)
 lost-safe k = go (active k)
   where
     safe : Placement → Bool
     safe p = isSafe (k .working) (k .failed) (p .mask)
 
-    go : (l : List Placement) → any (lost cabinet k) l ≡ not (all safe l)
+    go : (l : List Placement) → anyIn (lost cabinet k) l ≡ not (allIn safe l)
     go [] = refl
     go (p ∷ l) = ap₂ (λ (x y : Bool). x || y) (back (lost cabinet k p) (safe p) (safe-is (k .working) (k .failed) (p .mask))) (go l)
-        ∙ de-morgan (safe p) (all safe l)
+        ∙ de-morgan (safe p) (allIn safe l)
       where
         back : (a b : Bool) → b ≡ not a → a ≡ not b
         back true b e = sym (ap not e)
@@ -35,4 +35,4 @@ lost-safe k = go (active k)
 -- the test of the part with the card marked failed
 pub stop-is : (k m : Part) (c : ℕ) → m ≡ marked cabinet k c → not (allSafe m) ≡ stopping cabinet k c
 unfolding stopping
-stop-is k m c e = sym (lost-safe m) ∙ ap (λ (x : Part). any (lost cabinet x) (active x)) e
+stop-is k m c e = sym (lost-safe m) ∙ ap (λ (x : Part). anyIn (lost cabinet x) (active x)) e

@@ -1,7 +1,7 @@
 // fail: a card is lost, and the store goes on without it or stops.
 ghost use mathlib.Core.Bool.{false};
 ghost use mathlib.Core.Path.{_≡_};
-ghost use Rattle.image.specs.Layout.{Whole};
+ghost use Rattle.image.specs.Parts.{Whole};
 ghost use Rattle.method.specs.Rules.{stopping};
 ghost use Rattle.control.specs.Meaning.{Counted, meaning};
 ghost use Rattle.cabinet_rules.specs.Cabinet.{cabinet};

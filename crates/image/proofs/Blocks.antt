@@ -9,7 +9,8 @@ use lib.ListN.{length, getD}
 use Rattle.lists.specs.Segments.{segment, splice}
 use Rattle.lists.proofs.Cases.{lt-or-ge, lt-eq-gt}
 use Rattle.lists.proofs.Segments.{length-segment, getD-segment, length-splice, get-put, get-put-before, get-put-after, put-get, get-get}
-use Rattle.image.specs.Layout.{cardCount, blockCount, blockSize, controlSize, tableSize, imageSize, tableStart, blockStart, blockAddress, Whole, controlBytes, zeros, putTable, blockAt, putBlock}
+use Rattle.image.specs.Layout.{cardCount, blockCount, blockSize, controlSize, tableSize, imageSize, tableStart, blockStart, blockAddress}
+use Rattle.image.specs.Parts.{Whole, controlBytes, zeros, putTable, blockAt, putBlock}
 use Rattle.image.proofs.Zeros.{length-zeros, zeros-segment}
 
 -- Block b of card c: its length and its bytes.

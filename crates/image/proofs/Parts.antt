@@ -8,7 +8,8 @@ use lib.Seq.{drop-drop}
 use borrow.Rule.Slice.PartMut.{midOf, putMid}
 use Rattle.lists.specs.Segments.{Keeps, segment, splice, within}
 use Rattle.lists.proofs.Segments.{length-segment, length-splice, put-put}
-use Rattle.image.specs.Layout.{blockAddress, blockAt, blockSize}
+use Rattle.image.specs.Layout.{blockAddress, blockSize}
+use Rattle.image.specs.Parts.{blockAt}
 
 -- A part that was lent is a segment, and comes back as a splice.
 pub part-is : (a k : ℕ) (l : List ℕ) (n : ℕ) → k ≡ n → midOf a k l ≡ segment l a n

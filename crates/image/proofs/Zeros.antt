@@ -6,7 +6,7 @@ use lib.ListN.{length, length-replicate, getD, getD-replicate}
 use lib.Seq.{ext-getD}
 use Rattle.lists.specs.Segments.{segment}
 use Rattle.lists.proofs.Segments.{length-segment, getD-segment}
-use Rattle.image.specs.Layout.{zeros}
+use Rattle.image.specs.Parts.{zeros}
 
 pub length-zeros : (n : ℕ) → length (zeros n) ≡ n
 unfolding zeros

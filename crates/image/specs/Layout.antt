@@ -9,11 +9,7 @@
 --   0                        1        highest bit: held
 --   1 + place × 5            5        slot: present 1 bit, value 16, lock 4, pending present 1 and value 16, unnamed 2
 -- Assumes nothing.
-use mathlib.Core.Path.{_≡_}
-use mathlib.Core.List.{List}
 use Prim.Native.Nat.{ℕ, _+_, _-_, _*_}
-use lib.ListN.{length, replicate}
-use Rattle.lists.specs.Segments.{segment, splice}
 
 -- Cards 0 to 7, blocks 0 to 63, records 0 to 511, transactions 1 to 15; a value has 16 bits; every record lies on two
 -- cards.
@@ -117,27 +113,3 @@ tableStart = tableStartOf layout
 
 abbrev pub blockAddress : ℕ → ℕ → ℕ
 blockAddress = blockAddressOf layout
-
--- An image of the right length; its control part; the table of card c.
-abbrev pub Whole : List ℕ → Type 0
-Whole image = length image ≡ imageSize
-
-abbrev pub controlBytes : List ℕ → List ℕ
-controlBytes image = segment image 0 controlSize
-
-abbrev pub tableAt : List ℕ → ℕ → List ℕ
-tableAt image c = segment image (tableStart c) tableSize
-
--- n zero bytes, and the image with another table of card c.
-unfoldable pub zeros : ℕ → List ℕ
-zeros n = replicate n 0
-
-unfoldable pub putTable : List ℕ → ℕ → List ℕ → List ℕ
-putTable image c bytes = splice image (tableStart c) bytes
-
--- The 41 bytes of block b of card c, and the image with other bytes there.
-unfoldable pub blockAt : List ℕ → ℕ → ℕ → List ℕ
-blockAt image c b = segment image (blockAddress c b) blockSize
-
-unfoldable pub putBlock : List ℕ → ℕ → ℕ → List ℕ → List ℕ
-putBlock image c b bytes = splice image (blockAddress c b) bytes

@@ -4,20 +4,8 @@ ghost use mathlib.Core.Path.{_≡_};
 ghost use Prim.Native.Nat.{_+_, _≤_, _<_};
 ghost use lib.ListN.{length};
 ghost use Rattle.lists.specs.Segments.{segment, splice};
-ghost use Rattle.image.specs.Layout.{
-  Whole,
-  blockAddress,
-  blockAt,
-  blockCount,
-  blockSize,
-  blockStart,
-  cardCount,
-  putBlock,
-  putTable,
-  tableSize,
-  tableStart,
-  zeros,
-};
+ghost use Rattle.image.specs.Layout.{blockAddress, blockCount, blockSize, blockStart, cardCount, tableSize, tableStart};
+ghost use Rattle.image.specs.Parts.{Whole, blockAt, putBlock, putTable, zeros};
 
 // Counts: cards, blocks of a table, slots of a block, copies of a record, transactions.
 pub const CARD_COUNT: usize = 8;
@@ -30,9 +18,11 @@ pub const COPY_COUNT: usize = 2;
 
 pub const TRAN_COUNT: usize = 15;
 
-// Limits: the least members of a placement; the most active placements that a place leaves, and that there ever are; the
-// cards on a supply rail.
+// Limits: the least members of a placement; the most copies of a block; the most active placements that a place leaves,
+// and that there ever are; the cards on a supply rail.
 pub const LEAST_MEMBERS: u32 = COPY_COUNT as u32;
+
+pub const MOST_COPIES: usize = COPY_COUNT;
 
 pub const MOST_PLACED: u8 = 3;
 
@@ -83,11 +73,11 @@ pub fn write_at(s: &mut [u8], at: usize, bytes: &[u8])
 }
 
 // The 41 bytes of s from index at.
-pub fn read_at(s: &[u8], at: usize) -> [u8; 41]
+pub fn read_at(s: &[u8], at: usize) -> [u8; BLOCK_SIZE]
     requires { ⌜ at + blockSize ≤ length (now s) ⌝ }
     ensures { λ r. ⌜ r ≡ segment (now (s .entry)) at blockSize ⌝ }
 {
-    let mut bytes = [0u8; 41];
+    let mut bytes = [0u8; BLOCK_SIZE];
     let mut i = 0;
     while i < BLOCK_SIZE {
         bytes[i] = s[at + i];
@@ -97,7 +87,7 @@ pub fn read_at(s: &[u8], at: usize) -> [u8; 41]
 }
 
 // The block writer: writes a whole block of a card's table.
-pub fn write_block(table: &mut [u8], block: Block, bytes: [u8; 41])
+pub fn write_block(table: &mut [u8], block: Block, bytes: [u8; BLOCK_SIZE])
     requires { ⌜ (length (now table) ≡ tableSize) × (block .0 < blockCount) ⌝ }
     ensures { λ _. ⌜ now (table .exit) ≡ splice (now (table .entry)) (blockStart (block .0)) bytes ⌝ }
 {
@@ -121,7 +111,7 @@ pub fn block_address(card: Card, block: Block) -> usize
 }
 
 // Writes a whole block of a card: the card's table, a part from the middle of the image, is lent on to the block writer.
-pub fn put_block(image: &mut [u8], card: Card, block: Block, bytes: [u8; 41])
+pub fn put_block(image: &mut [u8], card: Card, block: Block, bytes: [u8; BLOCK_SIZE])
     requires { ⌜ Whole (now image) × (card .0 < cardCount) × (block .0 < blockCount) ⌝ }
     ensures { λ _. ⌜ now (image .exit) ≡ putBlock (now (image .entry)) (card .0) (block .0) bytes ⌝ }
 {
@@ -131,7 +121,7 @@ pub fn put_block(image: &mut [u8], card: Card, block: Block, bytes: [u8; 41])
 }
 
 // One block of a card.
-pub fn get_block(image: &[u8], card: Card, block: Block) -> [u8; 41]
+pub fn get_block(image: &[u8], card: Card, block: Block) -> [u8; BLOCK_SIZE]
     requires { ⌜ Whole (now image) × (card .0 < cardCount) × (block .0 < blockCount) ⌝ }
     ensures { λ r. ⌜ r ≡ blockAt (now (image .entry)) (card .0) (block .0) ⌝ }
 {

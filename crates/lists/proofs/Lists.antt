@@ -9,30 +9,30 @@ use native.Mathlib.Omega.{arith}
 use lib.Dec.{eqb}
 use lib.ListN.{getD, length}
 use borrow.Author.Tests.{eqb-true}
-use Rattle.lists.specs.Tests.{any, all, keepIf, concatMap, In, elem}
+use Rattle.lists.specs.Tests.{anyIn, allIn, keepIf, concatMap, In, elem}
 use Rattle.lists.proofs.Bools.{tf, and-l, and-r, and-in, or-cases, or-l, or-r, never-true, same-test, eqb-self}
 
 module _ {A : Type 0} where
-  pub any-in : (f : A → Bool) (l : List A) (x : A) → In x l → f x ≡ true → any f l ≡ true
+  pub any-in : (f : A → Bool) (l : List A) (x : A) → In x l → f x ≡ true → anyIn f l ≡ true
   any-in f [] x m e = absurd m
-  any-in f (y ∷ l) x (inl p) e = or-l (f y) (any f l) (rw p at e)
-  any-in f (y ∷ l) x (inr m) e = or-r (f y) (any f l) (any-in f l x m e)
+  any-in f (y ∷ l) x (inl p) e = or-l (f y) (anyIn f l) (rw p at e)
+  any-in f (y ∷ l) x (inr m) e = or-r (f y) (anyIn f l) (any-in f l x m e)
 
-  pub any-out : (f : A → Bool) (l : List A) → any f l ≡ true → (x : A) × In x l × (f x ≡ true)
+  pub any-out : (f : A → Bool) (l : List A) → anyIn f l ≡ true → (x : A) × In x l × (f x ≡ true)
   any-out f [] e = tf false e refl
-  any-out f (y ∷ l) e = go (or-cases (f y) (any f l) e) (any-out f l)
+  any-out f (y ∷ l) e = go (or-cases (f y) (anyIn f l) e) (any-out f l)
     where
-      go : (f y ≡ true) ⊎ (any f l ≡ true) → (any f l ≡ true → (x : A) × In x l × (f x ≡ true)) → (x : A) × In x (y ∷ l) × (f x ≡ true)
+      go : (f y ≡ true) ⊎ (anyIn f l ≡ true) → (anyIn f l ≡ true → (x : A) × In x l × (f x ≡ true)) → (x : A) × In x (y ∷ l) × (f x ≡ true)
       go (inl p) ih = (y, inl refl, p)
       go (inr p) ih = (ih p .0, inr (ih p .1), ih p .2)
 
-  pub any-none : (f : A → Bool) (l : List A) (x : A) → any f l ≡ false → In x l → f x ≡ false
-  any-none f l x e m = never-true (f x) (λ p. tf (any f l) (any-in f l x m p) e)
+  pub any-none : (f : A → Bool) (l : List A) (x : A) → anyIn f l ≡ false → In x l → f x ≡ false
+  any-none f l x e m = never-true (f x) (λ p. tf (anyIn f l) (any-in f l x m p) e)
 
-  pub all-out : (f : A → Bool) (l : List A) (x : A) → all f l ≡ true → In x l → f x ≡ true
+  pub all-out : (f : A → Bool) (l : List A) (x : A) → allIn f l ≡ true → In x l → f x ≡ true
   all-out f [] x e m = absurd m
-  all-out f (y ∷ l) x e (inl p) = rw p (and-l (f y) (all f l) e)
-  all-out f (y ∷ l) x e (inr m) = all-out f l x (and-r (f y) (all f l) e) m
+  all-out f (y ∷ l) x e (inl p) = rw p (and-l (f y) (allIn f l) e)
+  all-out f (y ∷ l) x e (inr m) = all-out f l x (and-r (f y) (allIn f l) e) m
 
   pub in-left : (l m : List A) (x : A) → In x l → In x (l ++ m)
   in-left [] m x h = absurd h
@@ -94,25 +94,25 @@ pub keep-elem : (f : ℕ → Bool) (c : ℕ) (l : List ℕ) → f c ≡ true →
 keep-elem f c l p e = in-elem c (keepIf f l) (keep-in f l c p (elem-in c l e))
 
 -- all the members of a list that is not empty have one value
-pub any-same : (f : ℕ → Bool) (b : Bool) (l : List ℕ) (c : ℕ) → elem c l ≡ true → ((x : ℕ) → elem x l ≡ true → f x ≡ b) → any f l ≡ b
-any-same f b l c m h = same-test (any f l) b up down
+pub any-same : (f : ℕ → Bool) (b : Bool) (l : List ℕ) (c : ℕ) → elem c l ≡ true → ((x : ℕ) → elem x l ≡ true → f x ≡ b) → anyIn f l ≡ b
+any-same f b l c m h = same-test (anyIn f l) b up down
   where
-    up : any f l ≡ true → b ≡ true
+    up : anyIn f l ≡ true → b ≡ true
     up e = let t = any-out f l e in sym (h (t .0) (in-elem (t .0) l (t .1))) ∙ t .2
 
-    down : b ≡ true → any f l ≡ true
+    down : b ≡ true → anyIn f l ≡ true
     down e = any-in f l c (elem-in c l m) (h c m ∙ e)
 
 module _ {A : Type 0} where
-  pub all-in : (f : A → Bool) (l : List A) → ((x : A) → In x l → f x ≡ true) → all f l ≡ true
+  pub all-in : (f : A → Bool) (l : List A) → ((x : A) → In x l → f x ≡ true) → allIn f l ≡ true
   all-in f [] h = refl
-  all-in f (x ∷ l) h = and-in (f x) (all f l) (h x (inl refl)) (all-in f l (λ y m. h y (inr m)))
+  all-in f (x ∷ l) h = and-in (f x) (allIn f l) (h x (inl refl)) (all-in f l (λ y m. h y (inr m)))
 
 -- of lists with the same elements all pass a test or none does
-pub all-same : (f : ℕ → Bool) (l m : List ℕ) → ((c : ℕ) → elem c l ≡ elem c m) → all f l ≡ all f m
-all-same f l m e = same-test (all f l) (all f m) (one l m e) (one m l (λ c. sym (e c)))
+pub all-same : (f : ℕ → Bool) (l m : List ℕ) → ((c : ℕ) → elem c l ≡ elem c m) → allIn f l ≡ allIn f m
+all-same f l m e = same-test (allIn f l) (allIn f m) (one l m e) (one m l (λ c. sym (e c)))
   where
-    one : (l m : List ℕ) → ((c : ℕ) → elem c l ≡ elem c m) → all f l ≡ true → all f m ≡ true
+    one : (l m : List ℕ) → ((c : ℕ) → elem c l ≡ elem c m) → allIn f l ≡ true → allIn f m ≡ true
     one l m e h = all-in f m (λ x i. all-out f l x h (elem-in x l (e x ∙ in-elem x m i)))
 
 module _ {A : Type 0} where
@@ -126,9 +126,9 @@ module _ {A : Type 0} where
       go false e = e
 
   -- some element of them passes a test
-  pub any-append : (f : A → Bool) (l m : List A) → any f (l ++ m) ≡ (any f l || any f m)
+  pub any-append : (f : A → Bool) (l m : List A) → anyIn f (l ++ m) ≡ (anyIn f l || anyIn f m)
   any-append f [] m = refl
-  any-append f (x ∷ l) m = ap (λ (t : Bool). f x || t) (any-append f l m) ∙ sym (or-assoc (f x) (any f l) (any f m))
+  any-append f (x ∷ l) m = ap (λ (t : Bool). f x || t) (any-append f l m) ∙ sym (or-assoc (f x) (anyIn f l) (anyIn f m))
 
   -- an element does not depend on what stands for none
   pub any-default : (l : List A) (i : ℕ) (d e : A) → i < length l → getD l i d ≡ getD l i e
@@ -173,7 +173,7 @@ module _ {A B : Type 0} (f : A → List B) where
 
 -- the list of what f gives of each element
 module _ {A B : Type 0} (f : A → B) where
-  pub any-map : (g : B → Bool) (l : List A) → any g (map f l) ≡ any (λ x. g (f x)) l
+  pub any-map : (g : B → Bool) (l : List A) → anyIn g (map f l) ≡ anyIn (λ x. g (f x)) l
   any-map g [] = refl
   any-map g (x ∷ l) = ap (λ (t : Bool). g (f x) || t) (any-map g l)
 

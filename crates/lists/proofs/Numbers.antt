@@ -8,7 +8,7 @@ use mathlib.Core.List.{List, [], _∷_, _++_}
 use mathlib.Core.Logic.{_⊎_, inl, inr}
 use mathlib.Core.Path.{_∙_, _≡_, ap, ap₂, refl}
 use native.Mathlib.Omega.{arith}
-use Rattle.lists.specs.Tests.{In, any, anyBelow, concatMap, count, keepIf, numbersBelow, oneIf, sumBelow}
+use Rattle.lists.specs.Tests.{In, anyIn, anyBelow, concatMap, countBelow, keepIf, numbersBelow, oneIf, sumBelow}
 use Rattle.lists.proofs.Bools.{and-in, and-l, and-r, is-not, never-true, not-is, or-cases, split, tf}
 use Rattle.lists.proofs.Counts.{all-below, but, count-above, count-but, count-mono, count-none}
 use Rattle.lists.proofs.Cases.{by-eq, lt-or-ge}
@@ -34,11 +34,11 @@ in-below (suc n) i m = go (in-cases (numbersBelow n) (n ∷ []) i m) (in-below n
     go (inr (inr p)) ih = absurd p
 
 -- Of them as many pass a test as are counted.
-pub length-keep : (n : ℕ) (f : ℕ → Bool) → length (keepIf f (numbersBelow n)) ≡ count n f
+pub length-keep : (n : ℕ) (f : ℕ → Bool) → length (keepIf f (numbersBelow n)) ≡ countBelow n f
 length-keep zero f = refl
 length-keep (suc n) f = ap length (keep-append f (numbersBelow n) (n ∷ [])) ∙ length-append (keepIf f (numbersBelow n)) (cond (f n) (n ∷ []) []) ∙ go (f n) (length-keep n f)
   where
-    go : (t : Bool) → length (keepIf f (numbersBelow n)) ≡ count n f → length (keepIf f (numbersBelow n)) + length (cond t (n ∷ []) []) ≡ oneIf t + count n f
+    go : (t : Bool) → length (keepIf f (numbersBelow n)) ≡ countBelow n f → length (keepIf f (numbersBelow n)) + length (cond t (n ∷ []) []) ≡ oneIf t + countBelow n f
     go true e = omega arith
     go false e = omega arith
 
@@ -94,13 +94,13 @@ sum-keep {A} f n (x ∷ l) =
         go (inr p) ih = rw p (omega (arith, ih))
 
 -- Numbers that all stand in a list are no more than the list has.
-pub count-in : (n : ℕ) (f : ℕ → Bool) (l : List ℕ) → ((i : ℕ) → i < n → f i ≡ true → In i l) → count n f ≤ length l
+pub count-in : (n : ℕ) (f : ℕ → Bool) (l : List ℕ) → ((i : ℕ) → i < n → f i ≡ true → In i l) → countBelow n f ≤ length l
 count-in n f [] h =
-    let e : count n f ≡ 0 = eqb-true (count n f) 0 (count-none n f ∙ all-below n (λ i. not (f i)) (λ i b. is-not (f i) (never-true (f i) (h i b)))) in
+    let e : countBelow n f ≡ 0 = eqb-true (countBelow n f) 0 (count-none n f ∙ all-below n (λ i. not (f i)) (λ i b. is-not (f i) (never-true (f i) (h i b)))) in
     omega arith
 count-in n f (x ∷ l) h =
-    let r : count n (but f x) ≤ length l = count-in n (but f x) l others in
-    let o : count n f ≤ suc (count n (but f x)) = one (lt-or-ge x n) (split (f x)) in
+    let r : countBelow n (but f x) ≤ length l = count-in n (but f x) l others in
+    let o : countBelow n f ≤ suc (countBelow n (but f x)) = one (lt-or-ge x n) (split (f x)) in
     omega arith
   where
     others : (i : ℕ) → i < n → but f x i ≡ true → In i l
@@ -110,12 +110,12 @@ count-in n f (x ∷ l) h =
         go (inl p) = tf (eqb i x) (eq-eqb i x p) (not-is (eqb i x) (and-r (f i) (not (eqb i x)) e))
         go (inr m) = m
 
-    one : (x < n) ⊎ (n ≤ x) → (f x ≡ true) ⊎ (f x ≡ false) → count n f ≤ suc (count n (but f x))
-    one (inl b) (inl p) = let e : count n f ≡ suc (count n (but f x)) = count-but n f x p b in omega arith
+    one : (x < n) ⊎ (n ≤ x) → (f x ≡ true) ⊎ (f x ≡ false) → countBelow n f ≤ suc (countBelow n (but f x))
+    one (inl b) (inl p) = let e : countBelow n f ≡ suc (countBelow n (but f x)) = count-but n f x p b in omega arith
     one (inl b) (inr p) =
-        let e : count n f ≤ count n (but f x) = count-mono n f (but f x) (λ i q. and-in (f i) (not (eqb i x)) q (is-not (eqb i x) (ne-eqb i x (λ z. tf (f x) (rw z at q) p)))) in
+        let e : countBelow n f ≤ countBelow n (but f x) = count-mono n f (but f x) (λ i q. and-in (f i) (not (eqb i x)) q (is-not (eqb i x) (ne-eqb i x (λ z. tf (f x) (rw z at q) p)))) in
         omega arith
-    one (inr b) p = let e : count n f ≡ count n (but f x) = count-above n f x b in omega arith
+    one (inr b) p = let e : countBelow n f ≡ countBelow n (but f x) = count-above n f x b in omega arith
 
 -- Where some number below n passes, there is a lowest one.
 pub lowest-below : (n : ℕ) (f : ℕ → Bool) → anyBelow n f ≡ true → (i : ℕ) × (i < n) × ((f i && not (anyBelow i f)) ≡ true)
@@ -132,34 +132,34 @@ lowest-below (suc n) f e = go (split (anyBelow n f)) (lowest-below n f)
         pick (inr z) = tf (anyBelow n f) z p
 
 -- And it is one alone.
-pub lowest-once : (n : ℕ) (f : ℕ → Bool) → count n (λ i. f i && not (anyBelow i f)) ≤ oneIf (anyBelow n f)
+pub lowest-once : (n : ℕ) (f : ℕ → Bool) → countBelow n (λ i. f i && not (anyBelow i f)) ≤ oneIf (anyBelow n f)
 lowest-once zero f = omega arith
 lowest-once (suc n) f = go (f n) (anyBelow n f) (lowest-once n f)
   where
-    go : (a b : Bool) → count n (λ i. f i && not (anyBelow i f)) ≤ oneIf b → oneIf (a && not b) + count n (λ i. f i && not (anyBelow i f)) ≤ oneIf (a || b)
+    go : (a b : Bool) → countBelow n (λ i. f i && not (anyBelow i f)) ≤ oneIf b → oneIf (a && not b) + countBelow n (λ i. f i && not (anyBelow i f)) ≤ oneIf (a || b)
     go true true h = omega (arith, h)
     go true false h = omega (arith, h)
     go false true h = omega (arith, h)
     go false false h = omega (arith, h)
 
 -- Some number that is kept passes a test.
-pub any-keep-below : (p f : ℕ → Bool) (n : ℕ) → any f (keepIf p (numbersBelow n)) ≡ anyBelow n (λ c. p c && f c)
+pub any-keep-below : (p f : ℕ → Bool) (n : ℕ) → anyIn f (keepIf p (numbersBelow n)) ≡ anyBelow n (λ c. p c && f c)
 any-keep-below p f zero = refl
 any-keep-below p f (suc n) =
-    ap (any f) (keep-append p (numbersBelow n) (n ∷ [])) ∙ any-append f (keepIf p (numbersBelow n)) (keepIf p (n ∷ []))
+    ap (anyIn f) (keep-append p (numbersBelow n) (n ∷ [])) ∙ any-append f (keepIf p (numbersBelow n)) (keepIf p (n ∷ []))
     ∙ ap₂ _||_ (any-keep-below p f n) (one (p n)) ∙ or-comm (anyBelow n (λ c. p c && f c)) (p n && f n)
   where
-    one : (t : Bool) → any f (cond t (n ∷ []) []) ≡ (t && f n)
+    one : (t : Bool) → anyIn f (cond t (n ∷ []) []) ≡ (t && f n)
     one true = or-false (f n)
     one false = refl
 
 module _ {A : Type 0} (m : ℕ → List A) where
   -- Some element of the lists that m gives of them passes a test.
-  pub any-concat-below : (f : A → Bool) (n : ℕ) → any f (concatMap m (numbersBelow n)) ≡ anyBelow n (λ b. any f (m b))
+  pub any-concat-below : (f : A → Bool) (n : ℕ) → anyIn f (concatMap m (numbersBelow n)) ≡ anyBelow n (λ b. anyIn f (m b))
   any-concat-below f zero = refl
   any-concat-below f (suc n) =
-      ap (any f) (concat-more m (numbersBelow n) n) ∙ any-append f (concatMap m (numbersBelow n)) (m n)
-      ∙ ap (λ (t : Bool). t || any f (m n)) (any-concat-below f n) ∙ or-comm (anyBelow n (λ b. any f (m b))) (any f (m n))
+      ap (anyIn f) (concat-more m (numbersBelow n) n) ∙ any-append f (concatMap m (numbersBelow n)) (m n)
+      ∙ ap (λ (t : Bool). t || anyIn f (m n)) (any-concat-below f n) ∙ or-comm (anyBelow n (λ b. anyIn f (m b))) (anyIn f (m n))
 
   length-next : (n : ℕ) → length (concatMap m (numbersBelow (suc n))) ≡ length (concatMap m (numbersBelow n)) + length (m n)
   length-next n = ap length (concat-more m (numbersBelow n) n) ∙ length-append (concatMap m (numbersBelow n)) (m n)

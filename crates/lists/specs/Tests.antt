@@ -8,14 +8,14 @@ use lib.Dec.{eqb}
 
 module _ {A : Type 0} where
   -- some element passes the test
-  abbrev pub any : (A → Bool) → List A → Bool
-  any f [] = false
-  any f (x ∷ l) = f x || any f l
+  abbrev pub anyIn : (A → Bool) → List A → Bool
+  anyIn f [] = false
+  anyIn f (x ∷ l) = f x || anyIn f l
 
   -- every element passes the test
-  abbrev pub all : (A → Bool) → List A → Bool
-  all f [] = true
-  all f (x ∷ l) = f x && all f l
+  abbrev pub allIn : (A → Bool) → List A → Bool
+  allIn f [] = true
+  allIn f (x ∷ l) = f x && allIn f l
 
   -- the elements that pass the test, in their order
   abbrev pub keepIf : (A → Bool) → List A → List A
@@ -34,7 +34,7 @@ module _ {A : Type 0} where
 
 -- the number c is an element
 abbrev pub elem : ℕ → List ℕ → Bool
-elem c l = any (eqb c) l
+elem c l = anyIn (eqb c) l
 
 -- the numbers below n, rising
 abbrev pub numbersBelow : ℕ → List ℕ
@@ -52,9 +52,9 @@ oneIf true = 1
 oneIf false = 0
 
 -- how many numbers below n pass the test
-abbrev pub count : ℕ → (ℕ → Bool) → ℕ
-count zero f = 0
-count (suc n) f = oneIf (f n) + count n f
+abbrev pub countBelow : ℕ → (ℕ → Bool) → ℕ
+countBelow zero f = 0
+countBelow (suc n) f = oneIf (f n) + countBelow n f
 
 -- how many elements fail the test
 abbrev pub countNot : {A : Type 0} → (A → Bool) → List A → ℕ

@@ -3,4 +3,4 @@ pub mod Sets
 pub mod FirstMember
 pub mod LastMember
 pub mod SiteLaws
-pub mod SiteTables
+pub mod SiteMasks

@@ -9,7 +9,7 @@ use lib.Bits.{bitAnd, bitOr, and-le-l, or-lt}
 use lib.Count.{ones, onesIn, leadingZeros}
 use lib.Dec.{ltb, eqb}
 use borrow.Author.Tests.{eq-eqb, eqb-true, le-ltb, lt-ltb}
-use Rattle.lists.specs.Tests.{count, allBelow, anyBelow}
+use Rattle.lists.specs.Tests.{countBelow, allBelow, anyBelow}
 use Rattle.lists.proofs.Bools.{and-l, and-r, and-in, and-when, imp-out, not-is, same-bool, same-test, split}
 use Rattle.lists.proofs.Counts.{all-below, below-all, at-pair, count-none, any-below, any-below-out}
 use Rattle.image.specs.Layout.{cardCount}
@@ -48,7 +48,7 @@ module _ (a b : ℕ) (ha : a < 256) (hb : b < 256) where
 
   pub common-is : ones (bitAnd a b) ≡ common (byte a) (byte b)
   unfolding common size
-  common-is = size-is (bitAnd a b) (omega (arith, and-le-l a b)) ∙ ap (count cardCount) (fun-ext has-both)
+  common-is = size-is (bitAnd a b) (omega (arith, and-le-l a b)) ∙ ap (countBelow cardCount) (fun-ext has-both)
 
   pub within-is : eqb (bitAnd a b) a ≡ isWithin (byte a) (byte b)
   unfolding isWithin

@@ -1,25 +1,27 @@
--- The sites of a block: two different members. Assumes nothing.
+-- The sites of a block: different members. Assumes nothing.
 use mathlib.Core.Path.{_≡_, refl, sym, ap, ap₂, _∙_, fun-ext}
 use mathlib.Core.Logic.{_≢_, _⊎_, inl, inr}
 use mathlib.Core.Bool.{Bool, true, false, not, _&&_, _||_, cond}
-use mathlib.Core.List.{[], _∷_}
-use Prim.Native.Nat.{ℕ, _+_, _-_, _%_, _≤_, _<_}
+use mathlib.Core.List.{List, [], _∷_}
+use Prim.Native.Nat.{ℕ, suc, zero, _+_, _-_, _%_, _≤_, _<_}
 use native.Mathlib.Nat.{mod-add-mod, mod-eq-of-lt, mod-lt}
 use native.Mathlib.Omega.{arith}
 use lib.Bits.{bitAnd}
 use lib.Count.{leadingZeros}
 use lib.Dec.{leb, ltb, eqb}
-use lib.ListN.{length, getD}
+use lib.ListN.{List·getD-map, length, getD, take}
+use lib.Seq.{getD-take}
 use borrow.Author.Tests.{eqb-true, leb-true, le-leb, lt-ltb, ltb-true}
 use Rattle.lists.specs.Tests.{elem, distinct, allBelow, keepIf}
 use Rattle.lists.specs.Tabulate.{tabulate}
-use Rattle.lists.proofs.Bools.{tf, imp-out, or-cases, and-in, and-l, and-r, not-is}
+use Rattle.lists.proofs.Bools.{tf, imp-out, or-cases, or-l, or-r, and-in, and-l, and-r, eqb-self, not-is}
 use Rattle.lists.proofs.Counts.{below-all}
 use Rattle.image.specs.Layout.{cardCount, copyCount}
+use Rattle.image.specs.declared.Card.{Card}
 use Rattle.mask.specs.Masks.{Byte, bitOf, byte, hasCard, members, size}
 use Rattle.mask.specs.declared.Sites.{Sites}
 use Rattle.mask.specs.Placements.{AreSites, Placement, Usable, acrossRails, chainedSites, fromMask, memberAt, membersAfter}
-use Rattle.mask.specs.Placements.{olderFromMask, onBothRails, onOneRail, otherRail, railSites, siteList, sitesOf}
+use Rattle.mask.specs.Placements.{olderFromMask, onBothRails, onOneRail, onTwoRails, otherRail, railSites, siteList, sitesOf}
 use Rattle.mask.proofs.FirstMember.{some-members}
 use Rattle.mask.proofs.Masks.{every-mask, every-pair, has-card, size-members}
 
@@ -227,29 +229,6 @@ sites-found n true b first across h u e d = rw (d, e) (ap (λ (x : ℕ). memberA
     (across-found (byte n) b (rw (size-members (byte n)) u)
     ∙ ap (λ (a : ℕ). cond (eqb (bitAnd a (otherRail (memberAt (byte n) b))) 0) (memberAt (byte n) (b + 1)) (leadingZeros 8 (bitAnd a (otherRail (memberAt (byte n) b))))) (mod-eq-of-lt h)))
 
--- Two cards that are the sites are all that is relied on.
-pub are-sites : (s : Sites) (p : Placement) (b : ℕ) → Usable p → sitesOf p b ≡ siteList s → AreSites s p b
-are-sites s p b u is = record {
-  listed = sym is;
-  first-member = two .first-member;
-  second-member = two .second-member;
-  differ = two .differ;
-  two-rails = two .two-rails;
-}
-  where
-    same : siteList s ≡ memberAt (p .mask) b ∷ secondSite p b ∷ []
-    same = sym is ∙ pair-of p b u .listed
-
-    two : Pair p b (s .first .0) (s .second .0)
-    two = rw (ap (λ l. getD l 0 0) same, ap (λ l. getD l 1 0) same) (pair-of p b u)
-
-module _ {s : Sites} {p : Placement} {b : ℕ} (at : AreSites s p b) where
-  pub first-fits : s .first .0 < cardCount
-  first-fits = has-card (p .mask) (s .first .0) (at .first-member)
-
-  pub second-fits : s .second .0 < cardCount
-  second-fits = has-card (p .mask) (s .second .0) (at .second-member)
-
 -- The laws of sites.
 pub site-count : (p : Placement) (b : ℕ) → length (sitesOf p b) ≡ copyCount
 unfolding sitesOf railSites chainedSites
@@ -275,6 +254,40 @@ site-member p b c u e = go (or-cases (eqb c (memberAt (p .mask) b)) _ (rw (two .
 
 pub site-distinct : (p : Placement) (b : ℕ) → Usable p → distinct (sitesOf p b) ≡ true
 site-distinct p b u = let two = pair-of p b u in rw (two .listed, two .differ)
+
+-- ---- what is relied on: the list is all that must be shown
+pub are-sites : (s : Sites) (p : Placement) (b : ℕ) → Usable p → s .count ≡ copyCount → sitesOf p b ≡ siteList s → AreSites s p b
+are-sites s p b u n is = record {
+  listed = sym is;
+  counted = n ∙ sym (site-count p b);
+  are-members = λ c h. site-member p b c u (ap (elem c) is ∙ h);
+  differ = ap distinct (sym is) ∙ site-distinct p b u;
+  two-rails = λ rails both. ap onTwoRails (sym is ∙ two .listed) ∙ crossing (memberAt (p .mask) b) (secondSite p b) (two .two-rails rails both);
+}
+  where
+    two : Pair p b (memberAt (p .mask) b) (secondSite p b)
+    two = pair-of p b u
+
+    crossing : (x y : ℕ) → onOneRail x y ≡ false → onTwoRails (x ∷ y ∷ []) ≡ true
+    crossing x y e = or-l _ _ (or-r (not (onOneRail x x)) _ (or-l (not (onOneRail x y)) false (ap not e)))
+
+-- a site is a card
+pub site-card : (p : Placement) (b c : ℕ) → Usable p → elem c (sitesOf p b) ≡ true → c < cardCount
+site-card p b c u e = has-card (p .mask) c (site-member p b c u e)
+
+-- the cards of the list, one by one
+module _ {s : Sites} {p : Placement} {b : ℕ} (at : AreSites s p b) (i : ℕ) (h : i < s .count) where
+  pub listed-at : (d : Card) → getD (s .cards) i d .0 ≡ getD (sitesOf p b) i (d .0)
+  listed-at d = ap (λ (c : Card). c .0) (sym (getD-take (s .count) (s .cards) i d h)) ∙ sym (List·getD-map (λ (c : Card). c .0) (take (s .count) (s .cards)) i d)
+      ∙ ap (λ (l : List ℕ). getD l i (d .0)) (at .listed)
+
+  pub listed-card : (d : Card) → getD (s .cards) i d .0 < cardCount
+  listed-card d = has-card (p .mask) _ (at .are-members _ (ap (elem (getD (s .cards) i d .0)) (at .listed) ∙ rw (listed-at d) (elem-at (sitesOf p b) i (d .0) (omega (arith, h, at .counted)))))
+    where
+      elem-at : (l : List ℕ) (i d : ℕ) → i < length l → elem (getD l i d) l ≡ true
+      elem-at [] i d h = absurd (omega arith)
+      elem-at (x ∷ l) zero d h = or-l (eqb x x) (elem x l) (eqb-self x)
+      elem-at (x ∷ l) (suc i) d h = or-r (eqb (getD l i d) x) (elem (getD l i d) l) (elem-at l i d (omega arith))
 
 -- Document 01, M1 and M2, by both choices: under E0 hex block 1 lies at 1 and 2, block 2 at 2 and 0; under 81 hex block 63 lies at
 -- 7 and 0.

@@ -1,3 +1,3 @@
 pub mod Masks
 pub mod Placements
-pub mod SiteTable
+pub mod SiteMasks

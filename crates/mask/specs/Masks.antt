@@ -6,7 +6,7 @@ use Prim.Native.Nat.{ℕ, _-_, _/_, _%_, _^_, _<_}
 use native.Mathlib.Omega.{arith}
 use lib.Dec.{ltb, eqb}
 use lib.Bits.{bitAnd, bitOr}
-use Rattle.lists.specs.Tests.{keepIf, count, allBelow, anyBelow}
+use Rattle.lists.specs.Tests.{keepIf, countBelow, allBelow, anyBelow}
 use Rattle.image.specs.Layout.{cardCount}
 
 -- A number of eight bits, and the low eight bits of a number.
@@ -39,7 +39,7 @@ unfoldable pub members : Byte → List ℕ
 members m = keepIf (hasCard m) (0 ∷ 1 ∷ 2 ∷ 3 ∷ 4 ∷ 5 ∷ 6 ∷ 7 ∷ [])
 
 unfoldable pub size : Byte → ℕ
-size m = count cardCount (hasCard m)
+size m = countBelow cardCount (hasCard m)
 
 -- The members of the mask are the cards that f picks.
 abbrev pub AreMembers : ℕ → (ℕ → Bool) → Type 0
@@ -47,7 +47,7 @@ AreMembers m f = (c : ℕ) → hasCard (byte m) c ≡ f c
 
 -- How many cards are in both.
 unfoldable pub common : Byte → Byte → ℕ
-common a b = count cardCount (λ c. hasCard a c && hasCard b c)
+common a b = countBelow cardCount (λ c. hasCard a c && hasCard b c)
 
 -- Every member of a is in b; no card is in both.
 unfoldable pub isWithin : Byte → Byte → Bool

@@ -1,11 +1,11 @@
 -- Placements and the sites of a block: document 01, "Sites and trail", and document 02, A.1. Assumes nothing.
 use mathlib.Core.Path.{_≡_}
 use mathlib.Core.Bool.{Bool, true, false, not, _&&_, cond}
-use mathlib.Core.List.{List, [], _∷_}
+use mathlib.Core.List.{List, [], _∷_, map}
 use Prim.Native.Nat.{ℕ, _+_, _-_, _/_, _%_, _≤_}
 use lib.Dec.{eqb, ltb}
-use lib.ListN.{length, getD}
-use Rattle.lists.specs.Tests.{anyBelow, keepIf}
+use lib.ListN.{length, getD, take}
+use Rattle.lists.specs.Tests.{anyIn, anyBelow, distinct, elem, keepIf}
 use Rattle.lists.specs.Tabulate.{tabulate}
 use Rattle.image.specs.Layout.{cardCount, leastMembers, railSize}
 use Rattle.mask.specs.declared.Placement.{Placement as Struct}
@@ -74,20 +74,28 @@ meant s = record { mask = byte (s .mask); byRails = s .rails }
 unfoldable pub sitesOf : Placement → ℕ → List ℕ
 sitesOf p b = cond (p .byRails) (railSites (p .mask) b) (chainedSites (p .mask) b)
 
+-- Card c is a site of block b.
+abbrev pub isSite : Placement → ℕ → ℕ → Bool
+isSite p b c = elem c (sitesOf p b)
+
 -- As many members as copies.
 abbrev pub Usable : Placement → Type 0
 Usable p = leastMembers ≤ size (p .mask)
 
 -- ---- what whoever asks for the sites of a block may rely on
--- The sites as the rules list them.
+-- The list that the struct stands for: its first `count` cards.
 abbrev pub siteList : Sites → List ℕ
-siteList s = s .first .0 ∷ s .second .0 ∷ []
+siteList s = map (λ c. c .0) (take (s .count) (s .cards))
 
--- The two cards are the sites of the block: two different members, and for a placement marked 1 on two rails whenever
--- both have members.
+-- Two of the cards are on different rails.
+abbrev pub onTwoRails : List ℕ → Bool
+onTwoRails l = anyIn (λ c. anyIn (λ d. not (onOneRail c d)) l) l
+
+-- The listed cards are the sites of the block, in the rules' order: different members, and for a placement marked 1 on
+-- two rails whenever both have members.
 pub record AreSites (s : Sites) (p : Placement) (b : ℕ) : Type 0 where
   pub listed : siteList s ≡ sitesOf p b
-  pub first-member : hasCard (p .mask) (s .first .0) ≡ true
-  pub second-member : hasCard (p .mask) (s .second .0) ≡ true
-  pub differ : eqb (s .first .0) (s .second .0) ≡ false
-  pub two-rails : p .byRails ≡ true → onBothRails (p .mask) ≡ true → onOneRail (s .first .0) (s .second .0) ≡ false
+  pub counted : s .count ≡ length (sitesOf p b)
+  pub are-members : (c : ℕ) → elem c (siteList s) ≡ true → hasCard (p .mask) c ≡ true
+  pub differ : distinct (siteList s) ≡ true
+  pub two-rails : p .byRails ≡ true → onBothRails (p .mask) ≡ true → onTwoRails (siteList s) ≡ true

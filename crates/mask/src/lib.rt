@@ -6,6 +6,7 @@ ghost use Prim.Native.Nat.{_+_, _-_, _<_, _≤_};
 ghost use lib.Bits.{bitAnd};
 ghost use lib.Dec.{leb};
 ghost use lib.ListN.{length, getD, drop, take};
+ghost use Rattle.lists.specs.Tests.{elem};
 ghost use Rattle.image.specs.Layout.{cardCount, blockCount, copyCount, leastMembers};
 ghost use Rattle.mask.specs.Masks.{
   AreMembers,
@@ -22,9 +23,18 @@ ghost use Rattle.mask.specs.Masks.{
   areApart,
   isOneMore,
 };
-ghost use Rattle.mask.specs.Placements.{AreSites, Usable, fromMask, meant, memberAt, otherRail, sitesOf};
+ghost use Rattle.mask.specs.Placements.{
+  AreSites,
+  Usable,
+  fromMask,
+  isSite,
+  meant,
+  memberAt,
+  otherRail,
+  sitesOf,
+};
 
-pub mod site_table;
+pub mod site_masks;
 
 use image::Block;
 use image::Card;
@@ -99,6 +109,14 @@ pub fn with_card(mask: u8, card: Card) -> u8
     ensures { λ r. ⌜ byte r ≡ withCard (byte mask) (card .0) ⌝ }
 {
     mask | bit_of(card)
+}
+
+// The mask of two cards.
+fn pair(a: Card, b: Card) -> u8
+    requires { ⌜ (a .0 < cardCount) × (b .0 < cardCount) ⌝ }
+    ensures { λ r. ⌜ AreMembers r (λ c. elem c (a .0 ∷ b .0 ∷ [])) ⌝ }
+{
+    with_card(with_card(0, a), b)
 }
 
 // The mask without the card.
@@ -203,10 +221,10 @@ pub struct Placement {
     pub rails: bool,
 }
 
-// The two sites of a block.
+// The sites of a block: the first `count` of the cards, in the order of the rules.
 pub struct Sites {
-    pub first: Card,
-    pub second: Card,
+    pub count: u8,
+    pub cards: [Card; image::MOST_COPIES],
 }
 
 impl Placement {
@@ -274,8 +292,8 @@ impl Placement {
         Card(u8::leading_zeros(across) as u8)
     }
 
-    // The sites of a block: two different members, on two rails whenever both have members and the placement is by
-    // rails.
+    // The sites of a block, as a list: different members, on two rails whenever both have members and the placement is
+    // by rails.
     pub fn sites(self, block: Block) -> Sites
         requires { ⌜ Usable (meant self) ⌝ }
         requires { ⌜ block .0 < blockCount ⌝ }
@@ -284,8 +302,19 @@ impl Placement {
         let first = self.member_at(block.0);
         let second = self.second_site(block, first);
         Sites {
-            first: first,
-            second: second,
+            count: image::COPY_COUNT as u8,
+            cards: [first, second],
         }
+    }
+
+    // The same as a mask.
+    pub fn site_mask(self, block: Block) -> u8
+        requires { ⌜ Usable (meant self) ⌝ }
+        requires { ⌜ block .0 < blockCount ⌝ }
+        ensures { λ r. ⌜ AreMembers r (isSite (meant self) (block .0)) ⌝ }
+    {
+        let first = self.member_at(block.0);
+        let second = self.second_site(block, first);
+        pair(first, second)
     }
 }

@@ -9,7 +9,7 @@ use mathlib.Core.Logic.{_⊎_, inl, inr}
 use mathlib.Core.Option.{Option, none, some}
 use mathlib.Core.Path.{_∙_, _≡_, refl, sym}
 use native.Mathlib.Omega.{arith}
-use Rattle.lists.specs.Tests.{In, anyBelow, count}
+use Rattle.lists.specs.Tests.{In, anyBelow, countBelow}
 use Rattle.lists.proofs.Bools.{and-in, and-l, and-r, eqb-self, nor-r, not-not-is, or-l, or-r, split, tf}
 use Rattle.lists.proofs.Counts.{below-none, but, count-but, count-mono}
 use Rattle.lists.proofs.Lists.{any-none, in-left, in-reverse, in-right}
@@ -80,12 +80,12 @@ module _ (P : Parameters) (L : Laws P) where
     chain-map d e j p l (λ q x m. h q x (inr m)) (c .1),
   )
 
-  grow : (d : Mask) (n p : Placement) → OneMore d n p → (a : ℕ) → a ≤ count cards (λ x. has (mask n) x && has d x) → suc a ≤ count cards (λ x. has (mask p) x && has d x)
+  grow : (d : Mask) (n p : Placement) → OneMore d n p → (a : ℕ) → a ≤ countBelow cards (λ x. has (mask n) x && has d x) → suc a ≤ countBelow cards (λ x. has (mask p) x && has d x)
   grow d n p o a h =
       let e : ℕ = o .extra in
-      let one : count cards fp ≡ suc (count cards (but fp e)) = count-but cards fp e (and-in (has (mask p) e) (has d e)
+      let one : countBelow cards fp ≡ suc (countBelow cards (but fp e)) = count-but cards fp e (and-in (has (mask p) e) (has d e)
       (rw (o .extra-is e) (or-l (eqb e e) (has (mask n) e) (eqb-self e))) (o .extra-failed)) (has-card d e (o .extra-failed)) in
-      let m : count cards (λ x. has (mask n) x && has d x) ≤ count cards (but fp e) = count-mono cards (λ x. has (mask n) x && has d x) (but fp e) inc in
+      let m : countBelow cards (λ x. has (mask n) x && has d x) ≤ countBelow cards (but fp e) = count-mono cards (λ x. has (mask n) x && has d x) (but fp e) inc in
       omega arith
     where
       fp : ℕ → Bool
@@ -98,11 +98,11 @@ module _ (P : Parameters) (L : Laws P) where
           (rw (ne-eqb x (o .extra) (λ z. tf (has (mask n) (o .extra)) (rw z at i) (o .extra-new))))
 
   -- j steps back there are j failed cards more
-  chain-count : (d : Mask) (j : ℕ) (n : Placement) (l : List Placement) → Chain d j n l → (p : Placement) × In p (n ∷ l) × (j ≤ count cards (λ x. has (mask p) x && has d x))
+  chain-count : (d : Mask) (j : ℕ) (n : Placement) (l : List Placement) → Chain d j n l → (p : Placement) × In p (n ∷ l) × (j ≤ countBelow cards (λ x. has (mask p) x && has d x))
   chain-count d j n l c = let r = go j n l 0 c (omega arith) in (r .0, r .1, omega (arith, r .2))
     where
-      go : (j : ℕ) (n : Placement) (l : List Placement) (a : ℕ) → Chain d j n l → a ≤ count cards (λ x. has (mask n) x && has d x)
-          → (p : Placement) × In p (n ∷ l) × (j + a ≤ count cards (λ x. has (mask p) x && has d x))
+      go : (j : ℕ) (n : Placement) (l : List Placement) (a : ℕ) → Chain d j n l → a ≤ countBelow cards (λ x. has (mask n) x && has d x)
+          → (p : Placement) × In p (n ∷ l) × (j + a ≤ countBelow cards (λ x. has (mask p) x && has d x))
       go zero n l a c h = (n, inl refl, omega arith)
       go (suc j) n [] a c h = absurd c
       go (suc j) n (p ∷ l) a c h = let r = go j p l (suc a) (c .1) (grow d n p (c .0) a h) in (r .0, inr (r .1), omega (arith, r .2))
@@ -112,7 +112,7 @@ module _ (P : Parameters) (L : Laws P) where
     pub bounded : Capacity k → suc (length (k .older)) < placeLimit (k .setting) + copies (k .setting)
     bounded r =
         let t = chain-count (k .failed) (r .steps) (k .newest) (reverse (k .older)) (r .chain) in
-        let n : ℕ = count cards (λ x. has (mask (t .0)) x && has (k .failed) x) in
+        let n : ℕ = countBelow cards (λ x. has (mask (t .0)) x && has (k .failed) x) in
         let s : n < copies (k .setting) = few-failed P (k .setting) (k .working) (k .failed) (mask (t .0)) (f .base .safe (t .0) (place-of (t .0) (t .1))) in
         let a : r .steps ≤ n = t .2 in
         let b : suc (length (k .older)) ≤ placeLimit (k .setting) + r .steps = r .few in

@@ -6,7 +6,7 @@ use mathlib.Core.Logic.{_⊎_, inl, inr}
 use mathlib.Core.Option.{Option}
 use mathlib.Core.Path.{_∙_, _≡_, ap, fun-ext, refl, sym}
 use native.Mathlib.Omega.{arith}
-use Rattle.lists.specs.Tests.{In, count}
+use Rattle.lists.specs.Tests.{In, countBelow}
 use Rattle.lists.proofs.Bools.{and-in, and-l, and-r, and-when, tf}
 use Rattle.lists.proofs.Counts.{count-mono}
 use Rattle.lists.proofs.Lists.{in-cases, in-right}
@@ -24,23 +24,23 @@ module _ (P : Parameters) (L : Laws P) where
   open Laws L using (has-none, start-usable, start-many, start-some)
 
   pub all-work-safe : (σ : Setting) (w f : Mask) (p : Placement) → ((c : ℕ) → has (mask p) c ≡ true → has w c ≡ true) → ((c : ℕ) → has w c ≡ true → has f c ≡ false)
-      → copies σ ≤ count cards (has (mask p)) → 0 < copies σ → lostOf P σ w f (mask p) ≡ false
+      → copies σ ≤ countBelow cards (has (mask p)) → 0 < copies σ → lostOf P σ w f (mask p) ≡ false
   all-work-safe σ w f p all-w apart many pos =
-      let z : count cards (λ c. has (mask p) c && has f c) ≤ count cards (λ c. false) = count-mono cards (λ c. has (mask p) c && has f c) (λ c. false)
+      let z : countBelow cards (λ c. has (mask p) c && has f c) ≤ countBelow cards (λ c. false) = count-mono cards (λ c. has (mask p) c && has f c) (λ c. false)
       (λ c e. tf (has f c) (and-r (has (mask p) c) (has f c) e) (apart c (all-w c (and-l (has (mask p) c) (has f c) e)))) in
-      let y : count cards (λ c. false) ≡ 0 = none-counted cards in
-      let x : count cards (has (mask p)) ≤ count cards (λ c. has (mask p) c && has w c) = count-mono cards (has (mask p)) (λ c. has (mask p) c && has w c)
+      let y : countBelow cards (λ c. false) ≡ 0 = none-counted cards in
+      let x : countBelow cards (has (mask p)) ≤ countBelow cards (λ c. has (mask p) c && has w c) = count-mono cards (has (mask p)) (λ c. has (mask p) c && has w c)
       (λ c e. and-in (has (mask p) c) (has w c) e (all-w c e)) in
       not-lost P σ w f (mask p) (omega arith) (omega arith)
     where
-      none-counted : (n : ℕ) → count n (λ c. false) ≡ 0
+      none-counted : (n : ℕ) → countBelow n (λ c. false) ≡ 0
       none-counted zero = refl
       none-counted (suc n) = let h = none-counted n in omega arith
 
   module _ (k : Control P) (f : Base P k) where
     pub some-copies : 0 < copies (k .setting)
     some-copies =
-        let n : ℕ = count cards (λ c. has (mask (k .newest)) c && has (k .failed) c) in
+        let n : ℕ = countBelow cards (λ c. has (mask (k .newest)) c && has (k .failed) c) in
         let h : n < copies (k .setting) = few-failed P (k .setting) (k .working) (k .failed) (mask (k .newest)) (f .safe (k .newest) (newest-in P k)) in
         omega arith
 
@@ -48,7 +48,8 @@ module _ (P : Parameters) (L : Laws P) where
     base-home h = record { running = f .running; apart = f .apart; known = f .known; sound = f .sound; safe = f .safe }
 
     -- a placement is added, of working cards
-    pub form-added : (p : Placement) → usable (k .setting) p → copies (k .setting) ≤ count cards (has (mask p)) → ((c : ℕ) → has (mask p) c ≡ true → has (k .working) c ≡ true) → Form P (addedBy P k p)
+    pub form-added : (p : Placement) → usable (k .setting) p → copies (k .setting) ≤ countBelow cards (has (mask p)) → ((c : ℕ) → has (mask p) c ≡ true → has (k .working) c ≡ true)
+        → Form P (addedBy P k p)
     form-added p fp many wk = record {
       base = record {
         running = f .running;
@@ -115,12 +116,12 @@ module _ (P : Parameters) (L : Laws P) where
         safe′ : (p : Placement) → In p (active k) → lostOf P (k .setting) w d (mask p) ≡ false
         safe′ p m =
             let old = f .safe p m in
-            let few : count cards (λ c. has (mask p) c && has (k .failed) c) < copies (k .setting) = few-failed P (k .setting) (k .working) (k .failed) (mask p) old in
-            let many : copies (k .setting) ≤ count cards (λ c. has (mask p) c && has (k .working) c) = enough-work P (k .setting) (k .working) (k .failed) (mask p) old in
-            let same-d : count cards (λ c. has (mask p) c && has d c) ≡ count cards (λ c. has (mask p) c && has (k .failed) c) =
-            ap (count cards) (fun-ext (λ c. and-when (has (mask p) c) (has d c) (has (k .failed) c) (λ h. eq p c m h .1))) in
-            let same-w : count cards (λ c. has (mask p) c && has w c) ≡ count cards (λ c. has (mask p) c && has (k .working) c) =
-            ap (count cards) (fun-ext (λ c. and-when (has (mask p) c) (has w c) (has (k .working) c) (λ h. eq p c m h .0))) in
+            let few : countBelow cards (λ c. has (mask p) c && has (k .failed) c) < copies (k .setting) = few-failed P (k .setting) (k .working) (k .failed) (mask p) old in
+            let many : copies (k .setting) ≤ countBelow cards (λ c. has (mask p) c && has (k .working) c) = enough-work P (k .setting) (k .working) (k .failed) (mask p) old in
+            let same-d : countBelow cards (λ c. has (mask p) c && has d c) ≡ countBelow cards (λ c. has (mask p) c && has (k .failed) c) =
+            ap (countBelow cards) (fun-ext (λ c. and-when (has (mask p) c) (has d c) (has (k .failed) c) (λ h. eq p c m h .1))) in
+            let same-w : countBelow cards (λ c. has (mask p) c && has w c) ≡ countBelow cards (λ c. has (mask p) c && has (k .working) c) =
+            ap (countBelow cards) (fun-ext (λ c. and-when (has (mask p) c) (has w c) (has (k .working) c) (λ h. eq p c m h .0))) in
             not-lost P (k .setting) w d (mask p) (omega arith) (omega arith)
 
   pub form-started : (a : StartArgument) → startRefusal a ≡ 0 → Form P (startedBy P a)

@@ -7,7 +7,7 @@ use mathlib.Core.List.{List, [], _∷_}
 use mathlib.Core.Logic.{_⊎_, inl, inr}
 use mathlib.Core.Path.{_∙_, _≡_, ap, refl, sym}
 use native.Mathlib.Omega.{arith}
-use Rattle.lists.specs.Tests.{In, any, concatMap, count, elem}
+use Rattle.lists.specs.Tests.{In, anyIn, concatMap, countBelow, elem}
 use Rattle.lists.proofs.Bools.{and-in, and-l, and-r, eqb-self, never-true, not-is, not-not-is, or-l, same-test, split}
 use Rattle.lists.proofs.Bools.{tf}
 use Rattle.lists.proofs.Counts.{pigeon}
@@ -101,7 +101,7 @@ module _ (P : Parameters) (L : Laws P) where
     -- an active placement has a site that works
     pub site-of : (b : ℕ) → ltb b (blocks (k .setting)) ≡ true → (p : Placement) → In p (active k)
         → (c : ℕ) × (elem c (sites (k .setting) p b) ≡ true) × (has (k .failed) c ≡ false) × (has (k .working) c ≡ true)
-    site-of b in-range p m = go (split (any (λ c. not (has (k .failed) c)) l))
+    site-of b in-range p m = go (split (anyIn (λ c. not (has (k .failed) c)) l))
       where
         l : List ℕ
         l = sites (k .setting) p b
@@ -109,7 +109,7 @@ module _ (P : Parameters) (L : Laws P) where
         member : (c : ℕ) → In c l → has (mask p) c ≡ true
         member c e = site-member (k .setting) p b c (i .form .base .sound p m) in-range (in-elem c l e)
 
-        go : (any (λ c. not (has (k .failed) c)) l ≡ true) ⊎ (any (λ c. not (has (k .failed) c)) l ≡ false)
+        go : (anyIn (λ c. not (has (k .failed) c)) l ≡ true) ⊎ (anyIn (λ c. not (has (k .failed) c)) l ≡ false)
             → (c : ℕ) × (elem c (sites (k .setting) p b) ≡ true) × (has (k .failed) c ≡ false) × (has (k .working) c ≡ true)
         go (inl e) =
             let t = any-out (λ c. not (has (k .failed) c)) l e in
@@ -117,11 +117,11 @@ module _ (P : Parameters) (L : Laws P) where
             (t .0, in-elem (t .0) l (t .1), not-is (has (k .failed) (t .0)) (t .2), w)
         go (inr e) =
             let s = i .form .base .sound p m in
-            let q : length l ≤ count cards (λ c. has (mask p) c && has (k .failed) c) = pigeon cards l (λ c. has (mask p) c && has (k .failed) c) (site-distinct (k .setting) p b s in-range)
+            let q : length l ≤ countBelow cards (λ c. has (mask p) c && has (k .failed) c) = pigeon cards l (λ c. has (mask p) c && has (k .failed) c) (site-distinct (k .setting) p b s in-range)
             (λ x n. and-in (has (mask p) x) (has (k .failed) x) (member x n) (not-not-is (has (k .failed) x) (any-none (λ c. not (has (k .failed) c)) l x e n)))
             (λ x n. has-card (mask p) x (member x n)) in
             let n : length l ≡ copies (k .setting) = site-count (k .setting) p b s in-range in
-            let few : count cards (λ c. has (mask p) c && has (k .failed) c) < copies (k .setting) = few-failed P (k .setting) (k .working) (k .failed) (mask p) (i .form .base .safe p m) in
+            let few : countBelow cards (λ c. has (mask p) c && has (k .failed) c) < copies (k .setting) = few-failed P (k .setting) (k .working) (k .failed) (mask p) (i .form .base .safe p m) in
             absurd (omega arith)
 
     -- a covered block has a holder
@@ -150,11 +150,11 @@ module _ (P : Parameters) (L : Laws P) where
         f : ℕ → Bool
         f c = lockedByOther t (slot (v c b) (placeOf r))
 
-        go : Cover P (k .setting) (active k) (has (k .working)) v b ⊎ Blank P v records b → any f (holders P k v b) ≡ lockedByOther t (records r)
+        go : Cover P (k .setting) (active k) (has (k .working)) v b ⊎ Blank P v records b → anyIn f (holders P k v b) ≡ lockedByOther t (records r)
         go (inl c) =
             let h = holder-of b b-ok c in
             any-same f (lockedByOther t (records r)) (holders P k v b) (h .0) (holder-is (h .0) b ∙ h .1)
             (λ x e. ap (lockedByOther t) (i .each b b-ok .same x r (sym (holder-is x b) ∙ e) refl))
-        go (inr n) = never-true (any f (holders P k v b)) (λ e. let o = any-out f (holders P k v b) e in tf (held (v (o .0) b))
+        go (inr n) = never-true (anyIn f (holders P k v b)) (λ e. let o = any-out f (holders P k v b) e in tf (held (v (o .0) b))
             (sym (holder-is (o .0) b) ∙ in-elem (o .0) (holders P k v b) (o .1)) (n .0 (o .0)))
             ∙ rw (n .1 r refl) refl

@@ -6,7 +6,7 @@ use lib.ListN.{length, take}
 use mathlib.Core.Bool.{Bool, _&&_, _||_, cond, false, not, true}
 use mathlib.Core.Option.{Option, none, some}
 use mathlib.Core.Path.{_≡_}
-use Rattle.lists.specs.Tests.{count, distinct, elem}
+use Rattle.lists.specs.Tests.{countBelow, distinct, elem}
 use Rattle.method.specs.Changes.{addedBy, startedBy}
 use Rattle.method.specs.ControlPart.{ControlPart, onlyNewest}
 use Rattle.method.specs.Parameters.{Parameters}
@@ -40,14 +40,14 @@ module _ (P : Parameters) where
     pub site-distinct : (σ : Setting) (p : Placement) (b : ℕ) → usable σ p → ltb b (blocks σ) ≡ true → distinct (sites σ p b) ≡ true
     -- the placement that follows a failure
     pub has-without : (p : Placement) (c x : ℕ) → has (mask (without p c)) x ≡ (has (mask p) x && not (eqb x c))
-    pub usable-without : (σ : Setting) (p : Placement) (c : ℕ) → copies σ ≤ count cards (has (mask (without p c))) → usable σ (without p c)
+    pub usable-without : (σ : Setting) (p : Placement) (c : ℕ) → copies σ ≤ countBelow cards (has (mask (without p c))) → usable σ (without p c)
     -- accepted arguments of start and place: a usable placement with members enough, all of them working
     pub start-usable : (a : StartArgument) → startRefusal a ≡ 0 → usable (startSetting a) (starts a)
-    pub start-many : (a : StartArgument) → startRefusal a ≡ 0 → copies (startSetting a) ≤ count cards (has (mask (starts a)))
+    pub start-many : (a : StartArgument) → startRefusal a ≡ 0 → copies (startSetting a) ≤ countBelow cards (has (mask (starts a)))
     pub start-some : (a : StartArgument) → startRefusal a ≡ 0 → 0 < copies (startSetting a)
     pub place-usable : (k : Control) (a : PlaceArgument) → placeRefusal k a ≡ 0 → usable (k .setting) (places (k .newest) a)
     pub place-many : (k : Control) (a : PlaceArgument) → placeRefusal k a ≡ 0
-        → copies (k .setting) ≤ count cards (has (mask (places (k .newest) a)))
+        → copies (k .setting) ≤ countBelow cards (has (mask (places (k .newest) a)))
     pub place-works : (k : Control) (a : PlaceArgument) (c : ℕ) → placeRefusal k a ≡ 0
         → has (mask (places (k .newest) a)) c ≡ true → has (k .working) c ≡ true
     pub limit-some : (σ : Setting) → 0 < placeLimit σ

@@ -12,7 +12,7 @@ use Rattle.lists.specs.Tests.{elem}
 use Rattle.lists.proofs.Bools.{and-in, and-l, and-r, never-true, split, tf}
 use Rattle.lists.proofs.Counts.{all-below}
 use Rattle.lists.proofs.Lists.{elem-keep}
-use Rattle.method.specs.BlockMoves.{settledBy}
+use Rattle.method.specs.Rules.{settledBy}
 use Rattle.method.specs.Changes.{Control, marked, replaced, startedBy}
 use Rattle.method.specs.ControlPart.{halted, isOpen}
 use Rattle.method.specs.OneRecordList.{isLast, observe}

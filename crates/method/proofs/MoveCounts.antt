@@ -9,12 +9,12 @@ use mathlib.Core.List.{List, [], _∷_, map}
 use mathlib.Core.Logic.{_⊎_, inl, inr}
 use mathlib.Core.Path.{_∙_, _≡_, ap, fun-ext, refl}
 use native.Mathlib.Omega.{arith}
-use Rattle.lists.specs.Tests.{In, anyBelow, count, elem, keepIf, numbersBelow, oneIf, sumBelow}
+use Rattle.lists.specs.Tests.{In, anyBelow, countBelow, elem, keepIf, numbersBelow, oneIf, sumBelow}
 use Rattle.lists.proofs.Bools.{and-l, and-r, eqb-self, never-true, not-is, split, tf}
 use Rattle.lists.proofs.Counts.{all-below, below-all, count-none}
 use Rattle.lists.proofs.Lists.{keep-in, map-in}
 use Rattle.lists.proofs.Numbers.{count-in, length-concat, length-keep, lowest-once, sum-keep, sum-mono}
-use Rattle.method.specs.BlockMoves.{originBy}
+use Rattle.method.specs.MoveList.{originBy}
 use Rattle.method.specs.Changes.{Control}
 use Rattle.method.specs.MoveList.{Entry, entryAt, isOrigin, moveList, movesOf}
 use Rattle.method.specs.Parameters.{Parameters}
@@ -60,30 +60,30 @@ module _ (P : Parameters) (L : Laws P) (k : Control P) (form : Form P k) (v : Vi
             missing e m = rw p at m
 
     -- so it has as many entries as cards that it moves from
-    block-fewest : count cards (isOrigin P k v b) ≤ length (namedBy b l)
+    block-fewest : countBelow cards (isOrigin P k v b) ≤ length (namedBy b l)
     unfolding originBy
     block-fewest = go (split (settledAt P k v b)) (split (anyBelow cards (isStray P k v b)))
       where
         go : (settledAt P k v b ≡ true) ⊎ (settledAt P k v b ≡ false) → (anyBelow cards (isStray P k v b) ≡ true) ⊎ (anyBelow cards (isStray P k v b) ≡ false)
-            → count cards (isOrigin P k v b) ≤ length (namedBy b l)
+            → countBelow cards (isOrigin P k v b) ≤ length (namedBy b l)
         go (inl e) a =
-            let z : count cards (isOrigin P k v b) ≡ 0 = eqb-true (count cards (isOrigin P k v b)) 0
+            let z : countBelow cards (isOrigin P k v b) ≡ 0 = eqb-true (countBelow cards (isOrigin P k v b)) 0
             (count-none cards (isOrigin P k v b) ∙ all-below cards (λ c. not (isOrigin P k v b c)) (λ c h. rw e)) in
             omega arith
         go (inr e) (inl a) =
-            let f : count cards (isOrigin P k v b) ≡ count cards (isStray P k v b) = ap (count cards) (fun-ext (λ c. rw (e, a))) in
-            let z : count cards (isStray P k v b) ≤ length (map (λ x. x .card) (namedBy b l)) = count-in cards (isStray P k v b) (map (λ x. x .card) (namedBy b l)) stray-named in
+            let f : countBelow cards (isOrigin P k v b) ≡ countBelow cards (isStray P k v b) = ap (countBelow cards) (fun-ext (λ c. rw (e, a))) in
+            let z : countBelow cards (isStray P k v b) ≤ length (map (λ x. x .card) (namedBy b l)) = count-in cards (isStray P k v b) (map (λ x. x .card) (namedBy b l)) stray-named in
             let y : length (map (λ x. x .card) (namedBy b l)) ≡ length (namedBy b l) = length-map (namedBy b l) (λ x. x .card) in
             omega arith
         go (inr e) (inr a) =
-            let f : count cards (isOrigin P k v b) ≡ count cards (isLowest P v b) = ap (count cards) (fun-ext (λ c. rw (e, a))) in
+            let f : countBelow cards (isOrigin P k v b) ≡ countBelow cards (isLowest P v b) = ap (countBelow cards) (fun-ext (λ c. rw (e, a))) in
             let z : 1 ≤ length (namedBy b l) = some-named e in
-            let y : count cards (isLowest P v b) ≤ oneIf (anyBelow cards (λ x. held (v x b))) = lowest-once cards (λ x. held (v x b)) in
+            let y : countBelow cards (isLowest P v b) ≤ oneIf (anyBelow cards (λ x. held (v x b))) = lowest-once cards (λ x. held (v x b)) in
             let u : oneIf (anyBelow cards (λ x. held (v x b))) ≤ 1 = at-most-one (anyBelow cards (λ x. held (v x b))) in
             omega arith
 
   -- The moves of a block are as many as the cards that it moves from.
-  length-moves : (b : ℕ) → length (movesOf P k v b) ≡ count cards (isOrigin P k v b)
+  length-moves : (b : ℕ) → length (movesOf P k v b) ≡ countBelow cards (isOrigin P k v b)
   unfolding movesOf
   length-moves b = length-map (keepIf (isOrigin P k v b) (numbersBelow cards)) (entryAt b) ∙ length-keep cards (isOrigin P k v b)
 

@@ -14,7 +14,7 @@ use Rattle.lists.proofs.Bools.{and-in, and-l, and-r, is-not, not-is, split, tf}
 use Rattle.lists.proofs.Counts.{all-below, all-fails, any-below, any-below-out, below-none}
 use Rattle.lists.proofs.Lists.{any-in, any-none, any-out, concat-in, concat-out, in-keep, in-map, keep-in, map-in}
 use Rattle.lists.proofs.Numbers.{below-in, in-below, lowest-below}
-use Rattle.method.specs.BlockMoves.{lowestBy, originBy, strayBy}
+use Rattle.method.specs.MoveList.{lowestBy, originBy, strayBy}
 use Rattle.method.specs.Changes.{Control}
 use Rattle.method.specs.MoveList.{Entry, LockedMove, anyMoveLocked, entryAt, isOrigin}
 use Rattle.method.specs.MoveList.{listAnswer, listed, moveList, movesOf, noList, notListed}

@@ -7,11 +7,11 @@ use mathlib.Core.Bool.{Bool, _&&_, _||_, cond, false, not, true}
 use mathlib.Core.List.{List, [], _∷_}
 use mathlib.Core.Logic.{_⊎_, inl, inr}
 use mathlib.Core.Path.{_∙_, _≡_, ap, ap₂, fun-ext, refl, subst, sym}
-use Rattle.lists.specs.Tests.{In, all, allBelow, elem}
+use Rattle.lists.specs.Tests.{In, allIn, allBelow, elem}
 use Rattle.lists.proofs.Bools.{and-in, and-l, and-r, imp-out, split, tf}
 use Rattle.lists.proofs.Counts.{all-below, below-all}
 use Rattle.lists.proofs.Lists.{all-in, all-out, elem-in, in-elem}
-use Rattle.method.specs.BlockMoves.{settledBy}
+use Rattle.method.specs.Rules.{settledBy}
 use Rattle.method.specs.Changes.{Control}
 use Rattle.method.specs.MoveList.{Entry, asMove, entryAt}
 use Rattle.method.specs.Parameters.{Parameters}
@@ -121,34 +121,34 @@ module _ (P : Parameters) (L : Laws P) where
   -- It is met by a block where it is met at every card.
   pub in-place-settles : (k : Control P) (v : View P) (b : ℕ) → ((x : ℕ) → InPlace P L k v x b) → settledAt P k v b ≡ true
   unfolding settledBy
-  in-place-settles k v b h = all-below cards (λ c. not (held (v c b)) || (elem c (newestSites P k b) && all (λ x. held (v x b)) (newestSites P k b))) (λ c l. go c (held (v c b)) refl)
+  in-place-settles k v b h = all-below cards (λ c. not (held (v c b)) || (elem c (newestSites P k b) && allIn (λ x. held (v x b)) (newestSites P k b))) (λ c l. go c (held (v c b)) refl)
     where
-      go : (c : ℕ) (t : Bool) → held (v c b) ≡ t → (not t || (elem c (newestSites P k b) && all (λ x. held (v x b)) (newestSites P k b))) ≡ true
+      go : (c : ℕ) (t : Bool) → held (v c b) ≡ t → (not t || (elem c (newestSites P k b) && allIn (λ x. held (v x b)) (newestSites P k b))) ≡ true
       go c true e =
           let z = h c e in
-          and-in (elem c (newestSites P k b)) (all (λ x. held (v x b)) (newestSites P k b)) (z .0) (all-in (λ x. held (v x b)) (newestSites P k b) (λ x m. z .1 x (in-elem x (newestSites P k b) m)))
+          and-in (elem c (newestSites P k b)) (allIn (λ x. held (v x b)) (newestSites P k b)) (z .0) (all-in (λ x. held (v x b)) (newestSites P k b) (λ x m. z .1 x (in-elem x (newestSites P k b) m)))
       go c false e = refl
 
   -- And where it is met by a block it is met at every card.
   pub settled-in-place : (k : Control P) (v : View P) → Idle P L k v → (b : ℕ) → settledAt P k v b ≡ true → (x : ℕ) → InPlace P L k v x b
   unfolding settledBy
   settled-in-place k v i b e x h = (
-    and-l (elem x (newestSites P k b)) (all (λ y. held (v y b)) (newestSites P k b)) t,
-    λ y q. all-out (λ z. held (v z b)) (newestSites P k b) y (and-r (elem x (newestSites P k b)) (all (λ y. held (v y b)) (newestSites P k b)) t) (elem-in y (newestSites P k b) q),
+    and-l (elem x (newestSites P k b)) (allIn (λ y. held (v y b)) (newestSites P k b)) t,
+    λ y q. all-out (λ z. held (v z b)) (newestSites P k b) y (and-r (elem x (newestSites P k b)) (allIn (λ y. held (v y b)) (newestSites P k b)) t) (elem-in y (newestSites P k b) q),
   )
     where
       card : has (k .working) x ≡ true
       card = and-l (has (k .working) x) (ltb b (blocks (k .setting))) (held-seen P L k v i x b h)
 
-      t : (elem x (newestSites P k b) && all (λ y. held (v y b)) (newestSites P k b)) ≡ true
-      t = imp-out (held (v x b)) (elem x (newestSites P k b) && all (λ y. held (v y b)) (newestSites P k b))
-          (below-all cards (λ c. not (held (v c b)) || (elem c (newestSites P k b) && all (λ x. held (v x b)) (newestSites P k b))) x e (has-card (k .working) x card)) h
+      t : (elem x (newestSites P k b) && allIn (λ y. held (v y b)) (newestSites P k b)) ≡ true
+      t = imp-out (held (v x b)) (elem x (newestSites P k b) && allIn (λ y. held (v y b)) (newestSites P k b))
+          (below-all cards (λ c. not (held (v c b)) || (elem c (newestSites P k b) && allIn (λ x. held (v x b)) (newestSites P k b))) x e (has-card (k .working) x card)) h
 
   -- It looks at no other block.
   pub settled-same : (k : Control P) (v w : View P) (b : ℕ) → ((x : ℕ) → w x b ≡ v x b) → settledAt P k w b ≡ settledAt P k v b
   unfolding settledBy
   settled-same k v w b same =
-      ap (λ (f : ℕ → Parameters.Block P). allBelow cards (λ c. not (held (f c)) || (elem c (newestSites P k b) && all (λ x. held (f x)) (newestSites P k b)))) (fun-ext same)
+      ap (λ (f : ℕ → Parameters.Block P). allBelow cards (λ c. not (held (f c)) || (elem c (newestSites P k b) && allIn (λ x. held (f x)) (newestSites P k b)))) (fun-ext same)
 
   -- ---- a store beside the view
   -- A move leaves the control part.

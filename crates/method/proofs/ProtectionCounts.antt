@@ -7,7 +7,7 @@ use mathlib.Core.Bool.{Bool, _&&_, _||_, and-true, false, not, true}
 use mathlib.Core.Logic.{_⊎_, inl, inr}
 use mathlib.Core.Path.{_∙_, _≡_, ap, fun-ext, refl, sym}
 use native.Mathlib.Omega.{arith}
-use Rattle.lists.specs.Tests.{In, count}
+use Rattle.lists.specs.Tests.{In, countBelow}
 use Rattle.lists.proofs.Bools.{and-in, and-l, and-r, eqb-self, nand, never-true, not-is, or-l, same-test, split, tf}
 use Rattle.lists.proofs.Counts.{all-below, below-all, but, count-but, count-some}
 use Rattle.lists.proofs.Lists.{all-in, all-out, any-none, any-out}
@@ -25,14 +25,14 @@ module _ (P : Parameters) (L : Laws P) (k : Control P) where
 
   -- how many members of a placement are among these cards
   abbrev within : Placement → Mask → ℕ
-  within p m = count cards (λ x. has (mask p) x && has m x)
+  within p m = countBelow cards (λ x. has (mask p) x && has m x)
 
   -- ---- a card that fails: what becomes of the two counts
   module _ (p : Placement) (c : ℕ) (c-ok : ltb c cards ≡ true) where
     -- a member that worked: one failed more, one working less
     failed-more : has (mask p) c ≡ true → has (k .failed) c ≡ false → within p (insert (k .failed) c) ≡ suc (within p (k .failed))
     failed-more m off = count-but cards f c (rw (has-insert (k .failed) c c c-ok) (and-in (has (mask p) c) _ m (or-l (eqb c c) (has (k .failed) c) (eqb-self c)))) (ltb-true c cards c-ok)
-        ∙ ap (λ (g : ℕ → Bool). suc (count cards g)) (fun-ext same)
+        ∙ ap (λ (g : ℕ → Bool). suc (countBelow cards g)) (fun-ext same)
       where
         f : ℕ → Bool
         f x = has (mask p) x && has (insert (k .failed) c) x
@@ -50,7 +50,7 @@ module _ (P : Parameters) (L : Laws P) (k : Control P) where
 
     works-less : has (mask p) c ≡ true → has (k .working) c ≡ true → within p (k .working) ≡ suc (within p (remove (k .working) c))
     works-less m on = count-but cards f c (and-in (has (mask p) c) (has (k .working) c) m on) (ltb-true c cards c-ok)
-        ∙ ap (λ (g : ℕ → Bool). suc (count cards g)) (fun-ext (λ x. rw (has-remove (k .working) c x) (assoc (has (mask p) x) (has (k .working) x) (not (eqb x c)))))
+        ∙ ap (λ (g : ℕ → Bool). suc (countBelow cards g)) (fun-ext (λ x. rw (has-remove (k .working) c x) (assoc (has (mask p) x) (has (k .working) x) (not (eqb x c)))))
       where
         f : ℕ → Bool
         f x = has (mask p) x && has (k .working) x
@@ -61,8 +61,8 @@ module _ (P : Parameters) (L : Laws P) (k : Control P) where
 
     -- a card that is no member changes neither
     module _ (m : has (mask p) c ≡ false) where
-      other : (x y : ℕ → Bool) → ((i : ℕ) → eqb i c ≡ false → x i ≡ y i) → count cards (λ i. has (mask p) i && x i) ≡ count cards (λ i. has (mask p) i && y i)
-      other x y same = ap (count cards) (fun-ext (λ i. go i (split (eqb i c))))
+      other : (x y : ℕ → Bool) → ((i : ℕ) → eqb i c ≡ false → x i ≡ y i) → countBelow cards (λ i. has (mask p) i && x i) ≡ countBelow cards (λ i. has (mask p) i && y i)
+      other x y same = ap (countBelow cards) (fun-ext (λ i. go i (split (eqb i c))))
         where
           go : (i : ℕ) → (eqb i c ≡ true) ⊎ (eqb i c ≡ false) → (has (mask p) i && x i) ≡ (has (mask p) i && y i)
           go i (inl e) = let n : has (mask p) i ≡ false = ap (has (mask p)) (eqb-true i c e) ∙ m in rw n

@@ -2,7 +2,6 @@ pub mod Slots
 pub mod ControlPart
 pub mod Parameters
 pub mod Changes
-pub mod BlockMoves
 pub mod Rules
 pub mod PlainList
 pub mod OneRecordList

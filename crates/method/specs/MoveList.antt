@@ -3,14 +3,13 @@
 use Prim.Native.Nat.{_<_, ℕ}
 use lib.Dec.{ltb}
 use lib.ListN.{length}
-use mathlib.Core.Bool.{Bool, cond, true}
+use mathlib.Core.Bool.{Bool, _&&_, cond, not, true}
 use mathlib.Core.List.{List, map}
 use mathlib.Core.Path.{_≡_}
-use Rattle.lists.specs.Tests.{any, concatMap, keepIf, numbersBelow}
-use Rattle.method.specs.BlockMoves.{originBy}
+use Rattle.lists.specs.Tests.{anyIn, anyBelow, concatMap, elem, keepIf, numbersBelow}
 use Rattle.method.specs.Changes.{Control}
 use Rattle.method.specs.Parameters.{Parameters}
-use Rattle.method.specs.Rules.{Call, View, anyLocked, move, newestSites}
+use Rattle.method.specs.Rules.{Call, View, anyLocked, move, newestSites, settledBy}
 
 -- An entry of the list: the card that a block moves from, and the block.
 pub record Entry : Type 0 where
@@ -25,6 +24,20 @@ pub data ListAnswer : Type 0 where
   listed : ℕ → ListAnswer
   noList : ListAnswer
   notListed : ℕ → ListAnswer
+
+-- ---- the cards that a block must still move from, of its sites and of the cards that hold it
+-- The card holds the block and is none of its sites; the card is the lowest that holds it.
+abbrev pub strayBy : List ℕ → (ℕ → Bool) → ℕ → Bool
+strayBy sites holds c = holds c && not (elem c sites)
+
+abbrev pub lowestBy : (ℕ → Bool) → ℕ → Bool
+lowestBy holds c = holds c && not (anyBelow c holds)
+
+-- A block that is not settled must move from every card that is none of its sites. Where only sites hold it one of them
+-- sends: the lowest.
+unfoldable pub originBy : ℕ → List ℕ → (ℕ → Bool) → ℕ → Bool
+originBy cards sites holds c =
+    not (settledBy cards sites holds) && cond (anyBelow cards (strayBy sites holds)) (strayBy sites holds c) (lowestBy holds c)
 
 module _ (P : Parameters) where
   open Parameters P using (cards, blocks, held)
@@ -43,7 +56,7 @@ module _ (P : Parameters) where
 
   -- A card that a block would move from has a locked record in that block.
   unfoldable pub anyMoveLocked : Control P → View P → Bool
-  anyMoveLocked k v = any (λ e. anyLocked P (v (e .card) (e .block))) (moveList k v)
+  anyMoveLocked k v = anyIn (λ e. anyLocked P (v (e .card) (e .block))) (moveList k v)
 
   -- 'none' where one is locked, whatever the length of the lent list; a lent list shorter than needed is refused 16.
   unfoldable pub listAnswer : Control P → View P → ℕ → ListAnswer

@@ -2,10 +2,9 @@
 -- Assumes nothing.
 use Prim.Native.Nat.{suc, zero, ℕ}
 use lib.Dec.{eqb, leb, ltb}
-use lib.ListN.{take}
 use mathlib.Core.Bool.{Bool, _&&_, _||_, cond, false, not, true}
 use mathlib.Core.Option.{Option, none, some}
-use Rattle.lists.specs.Tests.{allBelow, any, count}
+use Rattle.lists.specs.Tests.{allBelow, anyIn, countBelow}
 use Rattle.method.specs.Changes.{Control, addedBy, replaced, startedBy}
 use Rattle.method.specs.ControlPart.{active, begunAt, closed, isOpen, onlyNewest, opened, withCards}
 use Rattle.method.specs.Parameters.{Parameters}
@@ -116,9 +115,9 @@ module _ (P : Parameters) where
   -- ---- the stop rule, of the list's own fields
   -- With c failed, some active placement has as many failed cards as copies or fewer working ones.
   unfoldable pub stopsNow : Control P → ℕ → Bool
-  stopsNow k c = any (λ p.
-      leb (copies (k .setting)) (count cards (λ x. has (mask p) x && (eqb x c || has (k .failed) x)))
-      || ltb (count cards (λ x. has (mask p) x && (has (k .working) x && not (eqb x c)))) (copies (k .setting)))
+  stopsNow k c = anyIn (λ p.
+      leb (copies (k .setting)) (countBelow cards (λ x. has (mask p) x && (eqb x c || has (k .failed) x)))
+      || ltb (countBelow cards (λ x. has (mask p) x && (has (k .working) x && not (eqb x c)))) (copies (k .setting)))
       (active k)
 
   -- The word of state, of the list's own fields: no working card is one whose failure stops it.

@@ -4,7 +4,7 @@ use lib.Dec.{ltb}
 use mathlib.Core.Bool.{Bool, _&&_, cond, false, not}
 use mathlib.Core.List.{List}
 use mathlib.Core.Path.{_≡_}
-use Rattle.lists.specs.Tests.{all, allBelow, count}
+use Rattle.lists.specs.Tests.{allIn, allBelow, countBelow}
 use Rattle.method.specs.Changes.{Control}
 use Rattle.method.specs.ControlPart.{active}
 use Rattle.method.specs.Growth.{NoStop, plainAfter, stateAfter}
@@ -21,12 +21,12 @@ module _ (P : Parameters) where
   -- are still fewer than copies, and with one working member less still as many.
   unfoldable pub withstands : Setting → Mask → Mask → Mask → Bool
   withstands σ working failed m =
-      ltb (suc (count cards (λ c. has m c && has failed c))) (copies σ)
-      && ltb (copies σ) (count cards (λ c. has m c && has working c))
+      ltb (suc (countBelow cards (λ c. has m c && has failed c))) (copies σ)
+      && ltb (copies σ) (countBelow cards (λ c. has m c && has working c))
 
   -- Every active placement withstands it.
   abbrev pub allWithstand : Control P → Bool
-  allWithstand k = all (λ p. withstands (k .setting) (k .working) (k .failed) (mask p)) (active k)
+  allWithstand k = allIn (λ p. withstands (k .setting) (k .working) (k .failed) (mask p)) (active k)
 
   -- The word of state.
   abbrev pub protection : Bool → Answer P

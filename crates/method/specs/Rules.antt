@@ -1,12 +1,11 @@
 -- The rules of the store, call by call: document 01, "Sites and trail" and "The calls". Assumes nothing.
 use Prim.Native.Nat.{suc, zero, ℕ}
 use lib.Dec.{eqb, leb, ltb}
-use lib.ListN.{length, take}
+use lib.ListN.{length}
 use mathlib.Core.Bool.{Bool, _&&_, _||_, cond, false, not, true}
 use mathlib.Core.List.{List, [], _∷_}
 use mathlib.Core.Option.{Option, none, some}
-use Rattle.lists.specs.Tests.{allBelow, any, anyBelow, concatMap, count, countNot, elem, keepIf, sumBelow}
-use Rattle.method.specs.BlockMoves.{settledBy}
+use Rattle.lists.specs.Tests.{allIn, allBelow, anyIn, anyBelow, concatMap, countBelow, countNot, elem, keepIf, sumBelow}
 use Rattle.method.specs.Changes.{Control, addedBy, marked, replaced, startedBy}
 use Rattle.method.specs.ControlPart.{active, begunAt, closed, halted, isOpen, onlyNewest, opened}
 use Rattle.method.specs.ControlPart.{withCards}
@@ -79,6 +78,14 @@ pub data AnswerOf (M : Type 0) : Type 0 where
   loaded : ℕ → AnswerOf M
   refused : ℕ → AnswerOf M
 
+-- ---- the sites of a block beside the cards that hold it
+-- Card c does not hold the block, or is a site of it and all its sites hold it; every card is so.
+abbrev pub cardSettled : List ℕ → (ℕ → Bool) → ℕ → Bool
+cardSettled sites holds c = not (holds c) || (elem c sites && allIn holds sites)
+
+unfoldable pub settledBy : ℕ → List ℕ → (ℕ → Bool) → Bool
+settledBy cards sites holds = allBelow cards (cardSettled sites holds)
+
 module _ (P : Parameters) where
   open Parameters P using (Mask, Placement, Setting, Serial, Block, Stamp, StartArgument, PlaceArgument, cards, transactions, slots)
   open Parameters P using (copies, blocks, tranInRange, recInRange, valueInRange, blockOf, placeOf, has, insert, remove)
@@ -131,25 +138,25 @@ module _ (P : Parameters) where
   -- ---- conditions that the calls name
   -- Some holder's slot is locked by another number.
   abbrev pub lockedOut : Control P → View → ℕ → ℕ → Bool
-  lockedOut k v t r = any (λ c. lockedByOther t (slot (v c (blockOf r)) (placeOf r))) (holders k v (blockOf r))
+  lockedOut k v t r = anyIn (λ c. lockedByOther t (slot (v c (blockOf r)) (placeOf r))) (holders k v (blockOf r))
 
   -- The card is in an active placement.
   abbrev pub inActive : Control P → ℕ → Bool
-  inActive k c = any (λ p. has (mask p) c) (active k)
+  inActive k c = anyIn (λ p. has (mask p) c) (active k)
 
   -- The stop rule of a placement with this mask: as many failed members as copies, or fewer working members than
   -- copies.
   unfoldable pub lostOf : Setting → Mask → Mask → Mask → Bool
   lostOf σ working failed m =
-      leb (copies σ) (count cards (λ c. has m c && has failed c))
-      || ltb (count cards (λ c. has m c && has working c)) (copies σ)
+      leb (copies σ) (countBelow cards (λ c. has m c && has failed c))
+      || ltb (countBelow cards (λ c. has m c && has working c)) (copies σ)
 
   abbrev pub lost : Control P → Placement → Bool
   lost k p = lostOf (k .setting) (k .working) (k .failed) (mask p)
 
   -- With the card marked failed, some active placement is lost.
   unfoldable pub stopping : Control P → ℕ → Bool
-  stopping k c = any (lost (marked P k c)) (active k)
+  stopping k c = anyIn (lost (marked P k c)) (active k)
 
   -- Some slot of the block is locked.
   unfoldable pub anyLocked : Block → Bool
@@ -292,7 +299,7 @@ module _ (P : Parameters) where
 
   -- load: how many records are committed present in the card's held blocks.
   abbrev pub committedIn : Block → ℕ
-  committedIn x = cond (held x) (count slots (λ i. isSome ((slot x i) .committed))) 0
+  committedIn x = cond (held x) (countBelow slots (λ i. isSome ((slot x i) .committed))) 0
 
   unfoldable pub act : Call → Control P → View → Plan
   act (start a) k v =

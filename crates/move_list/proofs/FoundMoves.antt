@@ -6,17 +6,17 @@ use mathlib.Core.List.{List, _++_, map}
 use mathlib.Core.Path.{_∙_, _≡_, ap, ap₂, fun-ext, refl, sym}
 use native.Mathlib.Numerals.{add-one}
 use native.Mathlib.Omega.{arith}
-use Rattle.lists.specs.Tests.{any, anyBelow, concatMap, elem, keepIf, numbersBelow}
+use Rattle.lists.specs.Tests.{anyIn, anyBelow, concatMap, elem, keepIf, numbersBelow}
 use Rattle.lists.proofs.Bools.{and-l, and-when, tf}
 use Rattle.lists.proofs.Counts.{any-below}
 use Rattle.lists.proofs.Lists.{any-map, concat-more}
 use Rattle.lists.proofs.Numbers.{any-concat-below, any-keep-below}
 use Rattle.image.specs.Layout.{blockCount, cardCount}
 use Rattle.mask.specs.Masks.{AreMembers, byte, hasCard, members, size}
-use Rattle.mask.specs.SiteTable.{isSite}
+use Rattle.mask.specs.Placements.{isSite}
+use Rattle.mask.specs.SiteMasks.{MasksBelow}
 use Rattle.mask.proofs.Masks.{elem-members, size-members}
-use Rattle.mask.proofs.SiteTables.{MasksBelow}
-use Rattle.slot.specs.Blocks.{anyLocked as anyLockedIn, isHeld}
+use Rattle.slot.specs.Blocks.{someLocked, isHeld}
 use Rattle.method.specs.MoveList.{Entry, anyMoveLocked, entryAt, isOrigin, moveList, movesOf}
 use Rattle.method.proofs.MoveList.{origin-holds}
 use Rattle.method.specs.Rules.{anyLocked, newestSites}
@@ -29,9 +29,9 @@ use Rattle.promise.specs.Given.{Given, viewOf}
 use Rattle.promise.proofs.View.{held-look, look-on}
 use Rattle.trail.specs.Trail.{holdsAt}
 use Rattle.trail.proofs.Holding.{holds-seen}
-use Rattle.method.specs.BlockMoves.{settledBy}
+use Rattle.method.specs.Rules.{settledBy}
 use Rattle.reorganise.proofs.Looks.{newest-are}
-use Rattle.method.specs.BlockMoves.{originBy}
+use Rattle.method.specs.MoveList.{originBy}
 use Rattle.move_list.specs.Plans.{Finds, movesAt, movesIn}
 use Rattle.move_list.proofs.OriginMasks.{same-origins}
 
@@ -61,14 +61,14 @@ module _ (g : Image) (b from : ℕ) (hb : b < blockCount) (m : AreMembers from (
   count-of-block = ap length moves-are-members ∙ length-map (members (byte from)) (entryAt b) ∙ size-members (byte from)
 
   -- one is locked where a member's copy has a locked slot
-  pub locked-of-block : anyBelow cardCount (λ c. hasCard (byte from) c && anyLockedIn (blockIn g c b)) ≡ any (λ e. anyLocked cabinet (viewOf g (e .card) (e .block))) (movesOfBlock g b)
-  unfolding movesOf anyLockedIn anyLocked
+  pub locked-of-block : anyBelow cardCount (λ c. hasCard (byte from) c && someLocked (blockIn g c b)) ≡ anyIn (λ e. anyLocked cabinet (viewOf g (e .card) (e .block))) (movesOfBlock g b)
+  unfolding movesOf someLocked anyLocked
   locked-of-block = sym (any-map (entryAt b) (λ (e : Entry). anyLocked cabinet (viewOf g (e .card) (e .block))) (keepIf (origin g b) (numbersBelow cardCount))
       ∙ any-keep-below (origin g b) (λ c. anyLocked cabinet (viewOf g c b)) cardCount
       ∙ ap (anyBelow cardCount)
-      (fun-ext (λ c. and-when (origin g b c) (anyLocked cabinet (viewOf g c b)) (anyLockedIn (blockIn g c b)) (seen c) ∙ ap (λ (t : Bool). t && anyLockedIn (blockIn g c b)) (sym (m c)))))
+      (fun-ext (λ c. and-when (origin g b c) (anyLocked cabinet (viewOf g c b)) (someLocked (blockIn g c b)) (seen c) ∙ ap (λ (t : Bool). t && someLocked (blockIn g c b)) (sym (m c)))))
     where
-      seen : (c : ℕ) → origin g b c ≡ true → anyLocked cabinet (viewOf g c b) ≡ anyLockedIn (blockIn g c b)
+      seen : (c : ℕ) → origin g b c ≡ true → anyLocked cabinet (viewOf g c b) ≡ someLocked (blockIn g c b)
       seen c e = ap (anyLocked cabinet) (look-on g c b (and-l _ _ (sym (held-look g c b hb) ∙ origin-holds cabinet (controlIn g) (viewOf g) b c e)) hb)
 
 -- ---- all blocks
@@ -77,7 +77,7 @@ unfoldable pub movesBelow : Image → ℕ → List Entry
 movesBelow g n = concatMap (movesOfBlock g) (numbersBelow n)
 
 unfoldable pub lockedBlock : Image → ℕ → Bool
-lockedBlock g b = any (λ e. anyLocked cabinet (viewOf g (e .card) (e .block))) (movesOfBlock g b)
+lockedBlock g b = anyIn (λ e. anyLocked cabinet (viewOf g (e .card) (e .block))) (movesOfBlock g b)
 
 pub count-none : (g : Image) → 0 ≡ length (movesBelow g 0)
 unfolding movesBelow
@@ -90,7 +90,7 @@ count-more g b from hb m = sym (ap (λ (n : ℕ). length (concatMap (movesOfBloc
     ∙ ap (λ (n : ℕ). length (concatMap (movesOfBlock g) (numbersBelow b)) + n) (count-of-block g b from hb m))
 
 pub block-locked : (g : Image) (b from : ℕ) → b < blockCount → AreMembers from (origin g b)
-    → anyBelow cardCount (λ c. hasCard (byte from) c && anyLockedIn (blockIn g c b)) ≡ lockedBlock g b
+    → anyBelow cardCount (λ c. hasCard (byte from) c && someLocked (blockIn g c b)) ≡ lockedBlock g b
 unfolding lockedBlock
 block-locked = locked-of-block
 

@@ -61,8 +61,8 @@ module _ (k : Control) (g : Image) (is : Given k g) where
 
 -- ---- the n-th move
 -- The moves of the first b blocks are so many.
-unfoldable pub countBelow : List ℕ → ℕ → ℕ
-countBelow origins b = length (concatMap (movesAt origins) (numbersBelow b))
+unfoldable pub movesBelow : List ℕ → ℕ → ℕ
+movesBelow origins b = length (concatMap (movesAt origins) (numbersBelow b))
 
 getD-map : {A B : Type 0} (f : A → B) (l : List A) (i : ℕ) (d : B) (e : A) → i < length l → getD (map f l) i d ≡ f (getD l i e)
 getD-map f [] i d e h = absurd (omega arith)
@@ -72,24 +72,24 @@ getD-map f (x ∷ l) (suc i) d e h = getD-map f l i d e (omega arith)
 length-moves : (origins : List ℕ) (b : ℕ) → length (movesAt origins b) ≡ size (byte (getD origins b 0))
 length-moves origins b = length-map (members (byte (getD origins b 0))) (entryAt b) ∙ size-members (byte (getD origins b 0))
 
-pub none-below : (origins : List ℕ) (n : ℕ) → n ≡ countBelow origins 0 + n
-unfolding countBelow
+pub none-below : (origins : List ℕ) (n : ℕ) → n ≡ movesBelow origins 0 + n
+unfolding movesBelow
 none-below origins n = omega arith
 
 -- one block further
-pub below-next : (origins : List ℕ) (n b left here : ℕ) → n ≡ countBelow origins b + left → here ≡ size (byte (getD origins b 0)) → here ≤ left
-    → n ≡ countBelow origins (b + 1) + (left - here)
-unfolding countBelow
+pub below-next : (origins : List ℕ) (n b left here : ℕ) → n ≡ movesBelow origins b + left → here ≡ size (byte (getD origins b 0)) → here ≤ left
+    → n ≡ movesBelow origins (b + 1) + (left - here)
+unfolding movesBelow
 below-next origins n b left here e h le =
-    let z : countBelow origins (b + 1) ≡ countBelow origins b + here =
-    ap (countBelow origins) (add-one b) ∙ ap length (concat-more (movesAt origins) (numbersBelow b) b)
-    ∙ length-append (concatMap (movesAt origins) (numbersBelow b)) (movesAt origins b) ∙ ap (λ (k : ℕ). countBelow origins b + k) (length-moves origins b ∙ sym h) in
+    let z : movesBelow origins (b + 1) ≡ movesBelow origins b + here =
+    ap (movesBelow origins) (add-one b) ∙ ap length (concat-more (movesAt origins) (numbersBelow b) b)
+    ∙ length-append (concatMap (movesAt origins) (numbersBelow b)) (movesAt origins b) ∙ ap (λ (k : ℕ). movesBelow origins b + k) (length-moves origins b ∙ sym h) in
     omega (arith, z, e, le)
 
 -- a move of this block
-pub move-here : (origins : List ℕ) (n b left : ℕ) → b < blockCount → n ≡ countBelow origins b + left → left < size (byte (getD origins b 0))
+pub move-here : (origins : List ℕ) (n b left : ℕ) → b < blockCount → n ≡ movesBelow origins b + left → left < size (byte (getD origins b 0))
     → record { 0 = record { 0 = getD (members (byte (getD origins b 0))) left 0 }; 1 = record { 0 = b } } ≡ moveAt (movesIn origins) n
-unfolding countBelow movesIn moveAt
+unfolding movesBelow movesIn moveAt
 move-here origins n b left hb e h =
     let l : left < length (movesAt origins b) = rw (length-moves origins b) h in
     let i : left < length (members (byte (getD origins b 0))) = rw (size-members (byte (getD origins b 0))) h in
@@ -97,10 +97,10 @@ move-here origins n b left hb e h =
     ∙ ap moveFor (getD-concat (movesAt origins) blockCount b left (entryAt 0 0) hb l ∙ getD-map (entryAt b) (members (byte (getD origins b 0))) left (entryAt 0 0) 0 i))
 
 -- there are no more
-pub move-beyond : (origins : List ℕ) (n b left : ℕ) → b ≡ blockCount → n ≡ countBelow origins b + left → moveFor (entryAt 0 0) ≡ moveAt (movesIn origins) n
-unfolding countBelow movesIn moveAt
+pub move-beyond : (origins : List ℕ) (n b left : ℕ) → b ≡ blockCount → n ≡ movesBelow origins b + left → moveFor (entryAt 0 0) ≡ moveAt (movesIn origins) n
+unfolding movesBelow movesIn moveAt
 move-beyond origins n b left hb e =
-    let z : n ≡ countBelow origins blockCount + left = e ∙ ap (λ (k : ℕ). countBelow origins k + left) hb in
+    let z : n ≡ movesBelow origins blockCount + left = e ∙ ap (λ (k : ℕ). movesBelow origins k + left) hb in
     sym (ap moveFor (List·getD-eq-default (movesIn origins) (entryAt 0 0) (omega (arith, z))))
 
 -- ---- the answer, and the lent list after it

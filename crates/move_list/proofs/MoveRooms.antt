@@ -7,7 +7,7 @@ use lib.ListN.{length, length-map}
 use mathlib.Core.Bool.{Bool, cond, false, true}
 use mathlib.Core.Path.{_∙_, _≡_, ap, refl, subst, sym}
 use native.Mathlib.Omega.{arith}
-use Rattle.lists.specs.Tests.{count, keepIf, numbersBelow, oneIf}
+use Rattle.lists.specs.Tests.{countBelow, keepIf, numbersBelow, oneIf}
 use Rattle.lists.proofs.Numbers.{length-concat, length-keep, sum-mono}
 use Rattle.image.specs.Layout.{blockCount, cardCount}
 use Rattle.method.specs.MoveList.{ListAnswer, anyMoveLocked, entryAt, isOrigin, listAnswer, listed, moveList, movesOf, noList, notListed}
@@ -17,11 +17,11 @@ use Rattle.cabinet_rules.specs.Images.{Image, controlIn, stateIn}
 use Rattle.cabinet_rules.specs.MoveLists.{listAnswerOn, listRefusal, movesOn, unlessRefusedList}
 use Rattle.move_list.specs.Promise.{EveryListFits, mostMoves}
 
-count-most : (n : ℕ) (f : ℕ → Bool) → count n f ≤ n
+count-most : (n : ℕ) (f : ℕ → Bool) → countBelow n f ≤ n
 count-most zero f = omega arith
 count-most (suc n) f = go (f n) (count-most n f)
   where
-    go : (t : Bool) → count n f ≤ n → oneIf t + count n f ≤ suc n
+    go : (t : Bool) → countBelow n f ≤ n → oneIf t + countBelow n f ≤ suc n
     go true h = omega arith
     go false h = omega arith
 

@@ -13,9 +13,9 @@ use Rattle.lists.proofs.Counts.{below-all}
 use Rattle.image.specs.Layout.{cardCount}
 use Rattle.mask.specs.Masks.{AreMembers, Byte, byte, hasCard, members, withCard}
 use Rattle.mask.proofs.Masks.{elem-members, has-card, has-none, has-with}
-use Rattle.method.specs.BlockMoves.{settledBy}
+use Rattle.method.specs.Rules.{settledBy}
 use Rattle.reorganise.proofs.SettledMasks.{same-sites}
-use Rattle.method.specs.BlockMoves.{lowestBy, originBy, strayBy}
+use Rattle.method.specs.MoveList.{lowestBy, originBy, strayBy}
 
 -- ---- the lowest card
 lowestIs : ℕ → Bool

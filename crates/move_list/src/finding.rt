@@ -8,7 +8,6 @@ use crate::origins;
 use control::Control;
 use image::BLOCK_COUNT;
 use image::Block;
-use mask::site_table::next_place;
 use reorganise::looking;
 
 // The call is refused: nothing is looked at.
@@ -28,14 +27,13 @@ pub fn find(image: &[u8], k: Control) -> Plan
     requires { ⌜ Given k (now image) ⌝ }
     ensures { λ r. ⌜ Finds r (now (image .entry)) ⌝ }
 {
-    let table = looking::newest_table(k);
+    let sites = looking::newest_masks(k);
     let mut origins = [0u8; BLOCK_COUNT];
     let mut count: u16 = 0;
-    let mut place: u8 = 0;
     let mut b: usize = 0;
     while b < BLOCK_COUNT {
         let block = Block(b as u8);
-        let from = origins::of_block(image, k.working, table.masks[place as usize], block);
+        let from = origins::of_block(image, k.working, sites.masks[b], block);
         if origins::any_locked(image, from, block) {
             return Plan {
                 refusal: 0,
@@ -46,7 +44,6 @@ pub fn find(image: &[u8], k: Control) -> Plan
         }
         origins[b] = from;
         count += mask::members(from) as u16;
-        place = next_place(table.count, place);
         b += 1;
     }
     Plan {

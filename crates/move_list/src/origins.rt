@@ -3,12 +3,13 @@ ghost use mathlib.Core.Path.{_≡_};
 ghost use mathlib.Core.Bool.{_&&_};
 ghost use Prim.Native.Nat.{_<_};
 ghost use Rattle.lists.specs.Tests.{anyBelow};
-ghost use Rattle.image.specs.Layout.{Whole, blockCount, cardCount};
+ghost use Rattle.image.specs.Layout.{blockCount, cardCount};
+ghost use Rattle.image.specs.Parts.{Whole};
 ghost use Rattle.mask.specs.Masks.{AreMembers, byte, hasCard, members};
-ghost use Rattle.slot.specs.Blocks.{anyLocked};
+ghost use Rattle.slot.specs.Blocks.{someLocked};
 ghost use Rattle.cabinet_rules.specs.Images.{blockIn};
 ghost use Rattle.trail.specs.Trail.{holdsAt};
-ghost use Rattle.method.specs.BlockMoves.{lowestBy, originBy};
+ghost use Rattle.method.specs.MoveList.{lowestBy, originBy};
 use image::Block;
 use image::Card;
 use mask::Placement;
@@ -52,7 +53,7 @@ pub fn of_block(image: &[u8], working: u8, sites: u8, block: Block) -> u8
 fn locked_at(image: &[u8], from: u8, card: Card, block: Block) -> bool
     requires { ⌜ Whole (now image) × (card .0 < cardCount) × (block .0 < blockCount) ⌝ }
     ensures { λ r.
-        ⌜ r ≡ (hasCard (byte from) (card .0) && anyLocked (blockIn (now (image .entry)) (card .0) (block .0))) ⌝ }
+        ⌜ r ≡ (hasCard (byte from) (card .0) && someLocked (blockIn (now (image .entry)) (card .0) (block .0))) ⌝ }
 {
     if mask::has(from, card) {
         let start = image::block_address(card, block);
@@ -66,7 +67,7 @@ fn locked_at(image: &[u8], from: u8, card: Card, block: Block) -> bool
 pub fn any_locked(image: &[u8], from: u8, block: Block) -> bool
     requires { ⌜ Whole (now image) × (block .0 < blockCount) ⌝ }
     ensures { λ r. ⌜ r ≡ anyBelow cardCount
-        (λ c. hasCard (byte from) c && anyLocked (blockIn (now (image .entry)) c (block .0))) ⌝ }
+        (λ c. hasCard (byte from) c && someLocked (blockIn (now (image .entry)) c (block .0))) ⌝ }
 {
     let mut c: u8 = 0;
     while c < Placement::MOST_CARDS {

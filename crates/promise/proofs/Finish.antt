@@ -9,7 +9,8 @@ use mathlib.Core.Logic.{_≢_}
 use mathlib.Core.Option.{Option, none}
 use mathlib.Core.Path.{_∙_, _≡_, ap, ap₂, refl, sym}
 use Rattle.lists.proofs.Bools.{not-not-is}
-use Rattle.image.specs.Layout.{Whole, imageSize}
+use Rattle.image.specs.Layout.{imageSize}
+use Rattle.image.specs.Parts.{Whole}
 use Rattle.method.specs.PlainList.{orRefused}
 use Rattle.method.specs.Rules.{isStart, Call, Plan, row, stamping, unwritten, writing}
 use Rattle.method.proofs.Refusals.{row-clear}

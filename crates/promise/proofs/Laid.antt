@@ -1,5 +1,5 @@
 -- What block work leaves of an image: the blocks that were written, all else as found. Assumes nothing.
-use Prim.Native.Nat.{_+_, _-_, _<_, _≤_, ℕ}
+use Prim.Native.Nat.{_+_, _<_, _≤_, ℕ}
 use borrow.Author.Tests.{ne-eqb}
 use borrow.Rule.Slice.PartMut.{midOf}
 use lib.Dec.{eqb}
@@ -14,8 +14,10 @@ use native.Mathlib.Omega.{arith}
 use Rattle.lists.proofs.Bools.{eqb-self}
 use Rattle.lists.proofs.Cases.{by-pair, lt-or-ge}
 use Rattle.lists.proofs.Segments.{getD-after, getD-before}
-use Rattle.image.specs.Layout.{Whole, blockAddress, blockAt, blockCount, blockSize, cardCount}
-use Rattle.image.specs.Layout.{controlSize, endStartOf, imageSize, layout, putBlock, tailStartOf}
+use Rattle.image.specs.Layout.{blockAddress, blockCount, blockSize, cardCount}
+use Rattle.image.specs.Parts.{Whole, blockAt}
+use Rattle.image.specs.Layout.{controlSize, endStartOf, imageSize, layout, tailStartOf}
+use Rattle.image.specs.Parts.{putBlock}
 use Rattle.image.proofs.Blocks.{put-same, byte-of-block, byte-of-control, control-put, length-block, put-other, whole-put}
 use Rattle.image.proofs.Parts.{part-block}
 use Rattle.slot.specs.Blocks.{BlockBytes, ofList}

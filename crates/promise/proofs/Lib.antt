@@ -1,4 +1,5 @@
 pub mod Laid
+pub mod PutEach
 pub mod View
 pub mod Finish
 pub mod SharedRows

@@ -6,7 +6,8 @@ use mathlib.Core.List.{List, [], _∷_}
 use mathlib.Core.Logic.{_≢_}
 use mathlib.Core.Option.{Option, none, some}
 use mathlib.Core.Path.{_∙_, _≡_, ap, refl, subst, sym}
-use Rattle.image.specs.Layout.{Whole, recordCount, slotCount, tranBound}
+use Rattle.image.specs.Layout.{recordCount, slotCount, tranBound}
+use Rattle.image.specs.Parts.{Whole}
 use Rattle.mask.specs.Placements.{Usable, meant}
 use Rattle.slot.specs.Words.{stateOf}
 use Rattle.slot.specs.declared.Entry.{Entry}
@@ -26,7 +27,7 @@ use Rattle.promise.specs.Laid.{laid}
 use Rattle.promise.proofs.View.{newest-usable as newest-active-usable}
 use Rattle.trail.specs.Trail.{holdersIn}
 use Rattle.trail.proofs.Listed.{none-listed, some-listed}
-use Rattle.records.specs.Access.{Ready, withValue}
+use Rattle.records.specs.Access.{Prepared, withValue}
 use Rattle.records.specs.Slots.{seenIn}
 use Rattle.records.specs.declared.access.Access.{Access}
 use Rattle.records.proofs.LookUp.{delete-rows, store-rows}
@@ -45,7 +46,7 @@ pub store-refused : (g : Image) (t r n m l : ℕ) → m ≡ withValue (storable 
 store-refused g t r n m l e is d = by-row (store t r n) g m (e ∙ ap (withValue (storable n)) is ∙ with-table g t r n) d
 
 -- ---- accepted
-module _ (g : Image) (t r : ℕ) (a : Access) (ready : Ready g t r a) where
+module _ (g : Image) (t r : ℕ) (a : Access) (ready : Prepared g t r a) where
   pub whole : Whole g
   whole = form-long g (ready .formed)
 

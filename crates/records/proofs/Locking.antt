@@ -15,12 +15,14 @@ use Rattle.lists.specs.Tests.{elem}
 use Rattle.lists.proofs.Bools.{eqb-self, or-l, or-r, split}
 use Rattle.lists.proofs.Cases.{by-pair}
 use Rattle.lists.proofs.Segments.{put-again}
-use Rattle.image.specs.Layout.{Whole, blockAddress, blockAt, blockCount, blockSize, cardCount, putBlock, recordCount, slotCount, tranBound, valueBound}
+use Rattle.image.specs.Layout.{blockAddress, blockCount, blockSize, cardCount, recordCount, slotCount, tranBound, valueBound}
+use Rattle.image.specs.Parts.{Whole, blockAt, putBlock}
 use Rattle.image.proofs.Blocks.{put-same}
 use Rattle.image.proofs.Parts.{part-back, part-block}
 use Rattle.mask.specs.Masks.{AreMembers, byte, members}
 use Rattle.mask.proofs.Masks.{elem-members, has-card}
-use Rattle.mask.specs.Placements.{Placement, sitesOf}
+use Rattle.mask.specs.Placements.{AreSites, Placement, isSite, siteList, sitesOf}
+use Rattle.mask.specs.declared.Sites.{Sites}
 use Rattle.slot.specs.Blocks.{BlockBytes, freshBlock, lockSlot, ofList}
 use Rattle.slot.specs.Words.{entryOf, stateOf}
 use Rattle.slot.specs.declared.Entry.{Entry}
@@ -30,6 +32,7 @@ use Rattle.cabinet_rules.specs.Cabinet.{cabinet}
 use Rattle.cabinet_rules.specs.Images.{Image, Writes, blockIn, controlIn, stateIn}
 use Rattle.promise.specs.Laid.{laid}
 use Rattle.promise.proofs.Laid.{laid-block, laid-none, laid-put, laid-same, put-elsewhere, putOne}
+use Rattle.promise.proofs.PutEach.{putEach, putWrites, put-cards}
 use Rattle.trail.specs.Trail.{holdersIn}
 use Rattle.records.proofs.Reading.{holder-look}
 
@@ -173,7 +176,7 @@ lock-holders g t r v = laid-same (lockWrites g t r v (holdersIn g (r / slotCount
     same : (c b : ℕ) → b < blockCount → lockWrites g t r v (holdersIn g (r / slotCount)) c b ≡ lockHolders cabinet (controlIn g) (look cabinet (stateIn g)) t r v c b
     same c b hb = unfold lockWrites lockHolders in at c b hb (split (eqb b (r / slotCount)))
 
--- ---- a new block at both sites of the newest placement
+-- ---- a new block at each site of the newest placement
 abbrev pub newBlock : ℕ → ℕ → Option ℕ → BlockBytes
 newBlock t r v = lockSlot freshBlock (r % slotCount) t v
 
@@ -189,31 +192,23 @@ lay-one g t r v w hr c b hc eb x ex one two put lock =
     hb : b < blockCount
     hb = omega arith
 
+-- each site of the newest placement gets it, which the rules say
 pub lay-laid : (g : Image) (t r : ℕ) (v : Option ℕ) (q : Placement) → Whole g → r < recordCount → q ≡ controlIn g .newest
-    → (b first second : ℕ) → b ≡ r / slotCount → first ∷ second ∷ [] ≡ sitesOf q b → first < cardCount → second < cardCount
-    → putBlock (putBlock g first b (newBlock t r v .0)) second b (newBlock t r v .0) ≡ laid (layBlock cabinet (controlIn g) t r v) g
-lay-laid g t r v q w hr is b first second eb listed h1 h2 =
-    ap (λ (i : Image). putBlock (putBlock i first b (x .0)) second b (x .0)) (laid-none (λ c b. none) g w (λ c b hc hb. refl))
-    ∙ ap (λ (i : Image). putBlock i second b (x .0)) (laid-put (λ c b. none) g first b h1 hb x)
-    ∙ laid-put (putOne (λ c b. none) first b x) g second b h2 hb x
-    ∙ laid-same (putOne (putOne (λ c b. none) first b x) second b x) g (layBlock cabinet (controlIn g) t r v)
+    → (s : Sites) → AreSites s q (r / slotCount) → putEach (r / slotCount) (newBlock t r v .0) (siteList s) g ≡ laid (layBlock cabinet (controlIn g) t r v) g
+lay-laid g t r v q w hr is s at =
+    put-cards g w b hb x (siteList s) (λ c h. has-card (q .mask) c (at .are-members c h)) (isSite q b) (λ c. ap (elem c) (at .listed))
+    ∙ laid-same (putWrites (λ c k. none) b x (isSite q b)) g (layBlock cabinet (controlIn g) t r v)
     (λ c k hc hk. ap (λ (o : Option BlockBytes). updated o (blockIn g c k)) (there c k (split (eqb k b))))
   where
+    b : ℕ
+    b = r / slotCount
+
     x : BlockBytes
     x = newBlock t r v
 
     hb : b < blockCount
     hb = omega arith
 
-    sites : (k : ℕ) → k ≡ b → sitesOf (controlIn g .newest) k ≡ first ∷ second ∷ []
-    sites k e = ap₂ (λ (p : Placement) (n : ℕ). sitesOf p n) (sym is) e ∙ sym listed
-
-    bools : (m n : Bool) → _≡_ {A = Option BlockBytes} (cond (n && true) (some x) (cond (m && true) (some x) none)) (cond (m || (n || false)) (some x) none)
-    bools true true = refl
-    bools true false = refl
-    bools false true = refl
-    bools false false = refl
-
-    there : (c k : ℕ) → (eqb k b ≡ true) ⊎ (eqb k b ≡ false) → putOne (putOne (λ c b. none) first b x) second b x c k ≡ layBlock cabinet (controlIn g) t r v c k
-    there c k (inl e) = unfold layBlock in (rw (sites k (eqb-true k b e), sym eb, e) (bools (eqb c first) (eqb c second)))
-    there c k (inr e) = unfold layBlock in (rw (sym eb, e, and-false (eqb c first), and-false (eqb c second)))
+    there : (c k : ℕ) → (eqb k b ≡ true) ⊎ (eqb k b ≡ false) → putWrites (λ c k. none) b x (isSite q b) c k ≡ layBlock cabinet (controlIn g) t r v c k
+    there c k (inl e) = unfold layBlock in (rw e (ap₂ (λ (p : Placement) (n : ℕ). cond (elem c (sitesOf p n)) (some x) none) is (sym (eqb-true k b e))))
+    there c k (inr e) = unfold layBlock in (rw e)

@@ -8,10 +8,11 @@ use mathlib.Core.Logic.{_≢_}
 use mathlib.Core.Option.{Option, none}
 use mathlib.Core.Path.{_∙_, _≡_, ap, ap₂, refl, sym}
 use native.Mathlib.Omega.{arith}
-use Rattle.lists.specs.Tests.{any, elem}
+use Rattle.lists.specs.Tests.{anyIn, elem}
 use Rattle.lists.proofs.Bools.{and-l, eqb-self, or-l, or-r, same-test}
 use Rattle.lists.proofs.Lists.{any-in, any-out, elem-in, elem-keep, in-elem}
-use Rattle.image.specs.Layout.{Whole, blockAt, blockCount, cardCount, recordCount, slotCount}
+use Rattle.image.specs.Layout.{blockCount, cardCount, recordCount, slotCount}
+use Rattle.image.specs.Parts.{Whole, blockAt}
 use Rattle.mask.specs.Masks.{byte, hasCard, members}
 use Rattle.mask.proofs.Masks.{elem-members}
 use Rattle.slot.specs.Blocks.{BlockBytes, isHeld, ofList, slotAt}
@@ -44,33 +45,33 @@ slot-by g w c r hc hr b p x s eb ex ep es =
 
 -- ---- a loop that looks for one among the members of a mask
 module _ (f : ℕ → Bool) (l : List ℕ) (some : 0 < length l) where
-  pub any-hit : f (getD l 0 0) ≡ true → any f l ≡ true
+  pub any-hit : f (getD l 0 0) ≡ true → anyIn f l ≡ true
   any-hit = go l some
     where
-      go : (l : List ℕ) → 0 < length l → f (getD l 0 0) ≡ true → any f l ≡ true
+      go : (l : List ℕ) → 0 < length l → f (getD l 0 0) ≡ true → anyIn f l ≡ true
       go [] some e = absurd (omega arith)
-      go (x ∷ l) some e = or-l (f x) (any f l) e
+      go (x ∷ l) some e = or-l (f x) (anyIn f l) e
 
-  pub any-miss : f (getD l 0 0) ≡ false → any f (drop 1 l) ≡ any f l
+  pub any-miss : f (getD l 0 0) ≡ false → anyIn f (drop 1 l) ≡ anyIn f l
   any-miss = go l some
     where
-      go : (l : List ℕ) → 0 < length l → f (getD l 0 0) ≡ false → any f (drop 1 l) ≡ any f l
+      go : (l : List ℕ) → 0 < length l → f (getD l 0 0) ≡ false → anyIn f (drop 1 l) ≡ anyIn f l
       go [] some e = absurd (omega arith)
       go (x ∷ l) some e = rw e
 
-any-members : (f : ℕ → Bool) (l m : List ℕ) → ((c : ℕ) → elem c l ≡ elem c m) → any f l ≡ any f m
-any-members f l m same = same-test (any f l) (any f m) (half l m same) (half m l (λ c. sym (same c)))
+any-members : (f : ℕ → Bool) (l m : List ℕ) → ((c : ℕ) → elem c l ≡ elem c m) → anyIn f l ≡ anyIn f m
+any-members f l m same = same-test (anyIn f l) (anyIn f m) (half l m same) (half m l (λ c. sym (same c)))
   where
-    half : (l m : List ℕ) → ((c : ℕ) → elem c l ≡ elem c m) → any f l ≡ true → any f m ≡ true
+    half : (l m : List ℕ) → ((c : ℕ) → elem c l ≡ elem c m) → anyIn f l ≡ true → anyIn f m ≡ true
     half l m same e = let x = any-out f l e in any-in f m (x .0) (elem-in (x .0) m (sym (same (x .0)) ∙ in-elem (x .0) l (x .1))) (x .2)
 
-any-ext : (f h : ℕ → Bool) (l : List ℕ) → ((c : ℕ) → elem c l ≡ true → f c ≡ h c) → any f l ≡ any h l
+any-ext : (f h : ℕ → Bool) (l : List ℕ) → ((c : ℕ) → elem c l ≡ true → f c ≡ h c) → anyIn f l ≡ anyIn h l
 any-ext f h [] e = refl
 any-ext f h (x ∷ l) e = ap₂ (λ (s t : Bool). s || t) (e x (or-l (eqb x x) (elem x l) (eqb-self x))) (any-ext f h l (λ c m. e c (or-r (eqb c x) (elem c l) m)))
 
 module _ (g : Image) (t r : ℕ) (hr : r < recordCount) (h : Holders) (lists : Lists h (holdersIn g (r / slotCount))) where
   -- ---- row 7
-  pub locked-out-is : any (lockedAt g t r) (members (byte (h .cards))) ≡ lockedOutIn g t r
+  pub locked-out-is : anyIn (lockedAt g t r) (members (byte (h .cards))) ≡ lockedOutIn g t r
   unfolding lockedAt
   locked-out-is = any-members (lockedAt g t r) (members (byte (h .cards))) (holdersIn g (r / slotCount)) (λ c. elem-members (byte (h .cards)) c ∙ lists .cards-are c)
       ∙ any-ext (lockedAt g t r) (λ c. lockedByOther t (slotSeen (look cabinet (stateIn g) c (r / slotCount)) (r % slotCount))) (holdersIn g (r / slotCount))

@@ -23,7 +23,7 @@ earlyRows k t r =
     row 5 (not (isOpen k t)) 0))
 
 -- No row applies, and the holders of the record's block and the newest placement are found.
-pub record Ready (g : Image) (t r : ℕ) (a : Access) : Type 0 where
+pub record Prepared (g : Image) (t r : ℕ) (a : Access) : Type 0 where
   pub formed : formRefusal g ≡ 0
   pub accepted : 0 ≡ rowsOn (get t r) g
   pub newest-is : meant (a .newest) ≡ controlIn g .newest
@@ -32,7 +32,7 @@ pub record Ready (g : Image) (t r : ℕ) (a : Access) : Type 0 where
 -- The row of the refusal table that applies to a get of the record, or else what it goes on with.
 pub record LooksUp (g : Image) (t r : ℕ) (a : Access) : Type 0 where
   pub refusal-is : a .refusal ≡ refusalOn (get t r) g
-  pub ready : a .refusal ≡ 0 → Ready g t r a
+  pub ready : a .refusal ≡ 0 → Prepared g t r a
 
 -- The refusal of a store, from that of a get of the record: where the value is not in range 3 applies too, and the lowest
 -- number is returned.

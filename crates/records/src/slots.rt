@@ -1,17 +1,10 @@
 // The slots of a record: on each holder of its block, and in a new block.
 ghost use mathlib.Core.Path.{_≡_};
 ghost use Prim.Native.Nat.{_%_, _/_, _<_};
-ghost use Rattle.image.specs.Layout.{
-  Whole,
-  blockAt,
-  cardCount,
-  putBlock,
-  recordCount,
-  slotCount,
-  tranBound,
-};
+ghost use Rattle.image.specs.Layout.{cardCount, recordCount, slotCount, tranBound};
+ghost use Rattle.image.specs.Parts.{Whole, blockAt, putBlock};
 ghost use Rattle.mask.specs.Placements.{Usable, meant};
-ghost use Rattle.slot.specs.Blocks.{lockSlot, ofList, slotAt};
+ghost use Rattle.slot.specs.Blocks.{freshBlock, lockSlot, ofList, slotAt};
 ghost use Rattle.slot.specs.Words.{stateOf};
 ghost use Rattle.method.specs.Rules.{layBlock, lockHolders, look, reply};
 ghost use Rattle.method.specs.Slots.{lockedByOther, readBy};
@@ -149,7 +142,17 @@ pub fn lock_all(image: &mut [u8], holders: Holders, tran: Tran, rec: Rec, pendin
     }
 }
 
-// Both sites of the newest placement get a new block with the record's slot locked.
+// Puts a new block on a card, with the record's slot locked.
+fn lay_on(image: &mut [u8], card: Card, tran: Tran, rec: Rec, pending: Entry)
+    requires { ⌜ Whole (now image) × (card .0 < cardCount) × (rec .0 < recordCount) × (tran .0 < tranBound) ⌝ }
+    ensures { λ _. ⌜ now (image .exit) ≡ putBlock (now (image .entry)) (card .0) (rec .0 / slotCount)
+        (lockSlot freshBlock (rec .0 % slotCount) (tran .0) (stateOf pending) .0) ⌝ }
+{
+    image::put_block(image, card, block_of(rec), slot::fresh_block());
+    lock_on(image, card, tran, rec, pending);
+}
+
+// Each site of the newest placement gets a new block with the record's slot locked.
 pub fn lay(image: &mut [u8], newest: Placement, tran: Tran, rec: Rec, pending: Entry)
     requires { ⌜ Whole (now image) × (rec .0 < recordCount) × (tran .0 < tranBound) ⌝ }
     requires { ⌜ Usable (meant newest) × (meant newest ≡ controlIn (now image) .newest) ⌝ }
@@ -157,10 +160,11 @@ pub fn lay(image: &mut [u8], newest: Placement, tran: Tran, rec: Rec, pending: E
         ⌜ now (image .exit) ≡ laid (layBlock cabinet (controlIn (now (image .entry))) (tran .0) (rec .0)
         (stateOf pending)) (now (image .entry)) ⌝ }
 {
-    let block = block_of(rec);
-    let sites = newest.sites(block);
-    image::put_block(image, sites.first, block, slot::fresh_block());
-    lock_on(image, sites.first, tran, rec, pending);
-    image::put_block(image, sites.second, block, slot::fresh_block());
-    lock_on(image, sites.second, tran, rec, pending);
+    let sites = newest.sites(block_of(rec));
+    let count = sites.count as usize;
+    let mut n: usize = 0;
+    while n < count {
+        lay_on(image, sites.cards[n], tran, rec, pending);
+        n += 1;
+    }
 }

@@ -10,8 +10,8 @@ use native.Mathlib.Omega.{arith}
 use Rattle.lists.proofs.Bools.{and-l, and-r, not-not-is}
 use Rattle.image.specs.Layout.{blockAddress, blockCount, blockSize, cardCount}
 use Rattle.mask.specs.Masks.{hasCard}
-use Rattle.slot.specs.Blocks.{BlockBytes, anyLocked, isHeld, ofList}
-use Rattle.method.specs.Rules.{anyLocked as anyLockedOf, move, refusal, row}
+use Rattle.slot.specs.Blocks.{BlockBytes, isHeld, ofList, someLocked}
+use Rattle.method.specs.Rules.{anyLocked, move, refusal, row}
 use Rattle.method.proofs.Refusals.{row-3, row-clear}
 use Rattle.control.specs.ControlBytes.{Part}
 use Rattle.control.specs.Meaning.{meaning}
@@ -29,7 +29,7 @@ abbrev rows : Bool → Bool → Bool → Bool → ℕ → ℕ
 rows c b stopped on below = row 3 (not (c && b)) (row 4 stopped (row 8 (not on) below))
 
 abbrev copyRows : BlockBytes → ℕ
-copyRows x = row 11 (not (isHeld x)) (row 12 (anyLockedOf cabinet x) 0)
+copyRows x = row 11 (not (isHeld x)) (row 12 (anyLocked cabinet x) 0)
 
 by-block : (c b stopped on : Bool) (below : ℕ) → b ≡ false → 3 ≡ rows c b stopped on below
 by-block true b stopped on below e = rw e
@@ -60,8 +60,8 @@ module _ (g : Image) (c b : ℕ) where
 
   -- else by what the card's copy shows
   pub seen-rows : b < blockCount → 0 ≡ cardRows (controlIn g) c
-      → row 11 (not (isHeld (blockIn g c b))) (row 12 (anyLocked (blockIn g c b)) 0) ≡ rowsOn (move c b) g
-  unfolding anyLocked anyLockedOf
+      → row 11 (not (isHeld (blockIn g c b))) (row 12 (someLocked (blockIn g c b)) 0) ≡ rowsOn (move c b) g
+  unfolding someLocked anyLocked
   seen-rows h e =
       let r = card-accepted (controlIn g) c e in
       ap copyRows (sym (look-on g c b (r .2) h))
@@ -92,8 +92,8 @@ module _ (k : Control) (g : Image) (is : Given k g) (c b : ℕ) (hb : b < blockC
     pub copy-end : a + blockSize ≤ length g
     copy-end = omega (arith, given-whole is, copy-card)
 
-    pub copy-rows : (m : ℕ) → m ≡ blockSize → (held locked : Bool) → held ≡ isHeld (ofList (midOf a m g)) → locked ≡ anyLocked (ofList (midOf a m g))
+    pub copy-rows : (m : ℕ) → m ≡ blockSize → (held locked : Bool) → held ≡ isHeld (ofList (midOf a m g)) → locked ≡ someLocked (ofList (midOf a m g))
         → row 11 (not held) (row 12 locked 0) ≡ rowsOn (move c b) g
     copy-rows m em held locked p q =
         let x : ofList (midOf a m g) ≡ blockIn g c b = of-part g (given-whole is) c b copy-card hb a m at em in
-        ap₂ (λ (s t : Bool). row 11 (not s) (row 12 t 0)) (p ∙ ap isHeld x) (q ∙ ap anyLocked x) ∙ seen-rows g c b hb card-clear
+        ap₂ (λ (s t : Bool). row 11 (not s) (row 12 t 0)) (p ∙ ap isHeld x) (q ∙ ap someLocked x) ∙ seen-rows g c b hb card-clear

@@ -7,7 +7,7 @@ use Rattle.lists.specs.Tests.{allBelow, elem}
 use Rattle.lists.proofs.Counts.{all-fails}
 use Rattle.image.specs.Layout.{cardCount, blockCount}
 use Rattle.mask.specs.Masks.{AreMembers, byte, hasCard, members}
-use Rattle.mask.specs.SiteTable.{isSite}
+use Rattle.mask.specs.Placements.{isSite}
 use Rattle.mask.proofs.Masks.{elem-members}
 use Rattle.slot.specs.Blocks.{isHeld}
 use Rattle.method.specs.ControlPart.{onlyNewest}
@@ -22,7 +22,7 @@ use Rattle.promise.specs.Given.{Given, rowsOn, viewOf}
 use Rattle.promise.proofs.SharedRows.{stopped-is}
 use Rattle.trail.specs.Trail.{holdsAt}
 use Rattle.trail.proofs.Holding.{holds-seen}
-use Rattle.method.specs.BlockMoves.{settledBy}
+use Rattle.method.specs.Rules.{settledBy}
 use Rattle.reorganise.proofs.Looks.{newest-are}
 use Rattle.reorganise.proofs.SettledMasks.{same-sites}
 

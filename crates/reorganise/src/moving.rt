@@ -3,7 +3,8 @@ ghost use mathlib.Core.Path.{_≡_};
 ghost use mathlib.Core.Bool.{cond, not};
 ghost use Prim.Native.Nat.{_<_, _≤_};
 ghost use Rattle.lists.specs.Tests.{oneIf};
-ghost use Rattle.image.specs.Layout.{Whole, blockCount, cardCount, putBlock};
+ghost use Rattle.image.specs.Layout.{blockCount, cardCount};
+ghost use Rattle.image.specs.Parts.{Whole, putBlock};
 ghost use Rattle.method.specs.Rules.{move};
 ghost use Rattle.promise.specs.Given.{Given, rowsOn};
 ghost use Rattle.promise.specs.Promise.{Done};
@@ -38,7 +39,7 @@ pub fn refusal(image: &[u8], k: Control, card: Card, block: Block) -> u8
 }
 
 // A card that lacks the block gets these bytes, by the block writer, and counts as one; one that has it keeps its own.
-fn fill(image: &mut [u8], has: bool, card: Card, block: Block, bytes: [u8; 41]) -> u8
+fn fill(image: &mut [u8], has: bool, card: Card, block: Block, bytes: [u8; image::BLOCK_SIZE]) -> u8
     requires { ⌜ Whole (now image) × (card .0 < cardCount) × (block .0 < blockCount) ⌝ }
     ensures { λ r. ⌜ (r ≡ oneIf (not has)) × (r ≤ 1) × (now (image .exit)
         ≡ cond has (now (image .entry)) (putBlock (now (image .entry)) (card .0) (block .0) bytes)) ⌝ }
@@ -59,14 +60,17 @@ pub fn spread(image: &mut [u8], k: Control, card: Card, block: Block) -> u8
         ⌜ Done (move (card .0) (block .0)) (now (image .entry)) (Answer.Copied r) (now (image .exit)) ⌝ }
 {
     let sites = looking::newest_sites(k, block);
-    let first = sites.first;
-    let second = sites.second;
-    let first_has = trail::holds(image, k.working, first, block);
-    let second_has = trail::holds(image, k.working, second, block);
-    let stays = looking::is_site(sites, card);
+    let working = k.working;
+    let stays = mask::has(sites, card);
     let bytes = image::get_block(image, card, block);
-    let first_copy = fill(image, first_has, first, block, bytes);
-    let second_copy = fill(image, second_has, second, block, bytes);
-    fill(image, stays, card, block, [0u8; 41]);
-    first_copy + second_copy
+    let mut copies: u8 = 0;
+    let mut left = sites;
+    while left != 0 {
+        let site = mask::first_member(left);
+        let has = trail::holds(image, working, site, block);
+        copies += fill(image, has, site, block, bytes);
+        left = mask::without_first(left);
+    }
+    fill(image, stays, card, block, [0u8; image::BLOCK_SIZE]);
+    copies
 }

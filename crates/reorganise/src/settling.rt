@@ -8,27 +8,23 @@ use crate::looking;
 use control::Control;
 use image::BLOCK_COUNT;
 use image::Block;
-use mask::site_table::next_place;
 
 // Whether every block lies where the newest placement has it: one pass over the working cards' tables, two blocks at a
-// time, beside a table of the newest sites.
+// time, beside the masks of the newest sites.
 fn settled(image: &[u8], k: Control) -> bool
     requires { ⌜ Given k (now image) ⌝ }
     ensures { λ r. ⌜ r ≡ settled cabinet (controlIn (now (image .entry))) (viewOf (now (image .entry))) ⌝ }
 {
-    let table = looking::newest_table(k);
-    let mut place: u8 = 0;
+    let sites = looking::newest_masks(k);
     let mut b = 0;
     while b < BLOCK_COUNT {
         let held = trail::held_by_two(image, k.working, Block(b as u8));
-        if !looking::block_settled(held.first, table.masks[place as usize]) {
+        if !looking::block_settled(held.first, sites.masks[b]) {
             return false;
         }
-        let next = next_place(table.count, place);
-        if !looking::block_settled(held.second, table.masks[next as usize]) {
+        if !looking::block_settled(held.second, sites.masks[b + 1]) {
             return false;
         }
-        place = next_place(table.count, next);
         b += 2;
     }
     true

@@ -14,7 +14,8 @@ use borrow.Author.Tests.{eqb-true, eqb-false, ne-eqb, lt-ltb, ltb-true, le-leb, 
 use Rattle.lists.proofs.Bools.{eqb-self, split, and-l, and-r, never-true}
 use Rattle.lists.proofs.Counts.{below-none}
 use Rattle.lists.proofs.Tabulate.{at-tabulate}
-use Rattle.image.specs.Layout.{blockSize, slotCount, slotSize, slotStart, tranBound, valueBound, zeros}
+use Rattle.image.specs.Layout.{blockSize, slotCount, slotSize, slotStart, tranBound, valueBound}
+use Rattle.image.specs.Parts.{zeros}
 use Rattle.image.proofs.Zeros.{length-zeros, zeros-at}
 use Rattle.slot.specs.declared.Slot.{Slot}
 use Rattle.slot.specs.Words.{slotOf, wordOf, InRange, entryOf, lockedSlot, freedSlot}

@@ -19,7 +19,7 @@ use Rattle.lists.proofs.Bools.{and-in, and-l, and-r, imp, imp-out, is-not, neve
 use Rattle.lists.proofs.Cases.{lt-or-ge}
 use Rattle.lists.proofs.Counts.{any-below-out, below-all, below-none, none-below}
 use Rattle.image.specs.Layout.{slotCount, slotSize}
-use Rattle.slot.specs.Blocks.{BlockBytes, anyLocked, anyPicked, inSet, isLocked, isPicked, joined, joinedLocks, lacking, ofList, sharedBit, sharedBits, slotAt, wordAt}
+use Rattle.slot.specs.Blocks.{BlockBytes, someLocked, anyPicked, inSet, isLocked, isPicked, joined, joinedLocks, lacking, ofList, sharedBit, sharedBits, slotAt, wordAt}
 use Rattle.slot.proofs.Steps.{lock-of-list}
 use Rattle.slot.proofs.Words.{slot-in-range}
 
@@ -163,11 +163,11 @@ module _ (x : BlockBytes) where
   pub no-lock : joinedLocks x ≡ 0 → (i : ℕ) → i < slotCount → lock i ≡ 0
   no-lock e i h = sym (lock-within i h) ∙ ap (bitAnd (lock i)) e ∙ and-zero-r (lock i)
 
-  pub locked-joined : not (eqb (joinedLocks x) 0) ≡ anyLocked x
-  unfolding anyLocked joinedLocks
-  locked-joined = go (split (anyLocked x))
+  pub locked-joined : not (eqb (joinedLocks x) 0) ≡ someLocked x
+  unfolding someLocked joinedLocks
+  locked-joined = go (split (someLocked x))
     where
-      go : (anyLocked x ≡ true) ⊎ (anyLocked x ≡ false) → not (eqb (joinedLocks x) 0) ≡ anyLocked x
+      go : (someLocked x ≡ true) ⊎ (someLocked x ≡ false) → not (eqb (joinedLocks x) 0) ≡ someLocked x
       go (inl p) =
           let s = any-below-out slotCount (isLocked x) p in
           rw p (is-not (eqb (joinedLocks x) 0) (ne-eqb (joinedLocks x) 0 (λ e. eqb-false (lock (s .0)) 0 (not-is (eqb (lock (s .0)) 0) (s .2)) (no-lock e (s .0) (s .1)))))

@@ -7,7 +7,7 @@ use Prim.Native.Nat.{ℕ, zero, suc, _+_, _-_, _*_, _/_, _%_, _^_}
 use lib.Bits.{bitAnd, bitOr}
 use lib.Dec.{leb, ltb, eqb}
 use lib.ListN.{length, getD}
-use Rattle.lists.specs.Tests.{anyBelow, count, sumBelow}
+use Rattle.lists.specs.Tests.{anyBelow, countBelow, sumBelow}
 use Rattle.lists.specs.Tabulate.{tabulate}
 use Rattle.lists.proofs.Tabulate.{length-tabulate}
 use Rattle.image.specs.Layout.{blockSize, slotCount, slotSize, slotStart, tranBound}
@@ -116,8 +116,8 @@ joinedLocks x = joined 3 (λ i. slotAt x i .lock)
 abbrev pub isLocked : BlockBytes → ℕ → Bool
 isLocked x i = not (eqb (slotAt x i .lock) 0)
 
-unfoldable pub anyLocked : BlockBytes → Bool
-anyLocked x = anyBelow slotCount (isLocked x)
+unfoldable pub someLocked : BlockBytes → Bool
+someLocked x = anyBelow slotCount (isLocked x)
 
 -- A transaction that f picks locks slot i; one of them locks some slot.
 abbrev pub isPicked : (ℕ → Bool) → BlockBytes → ℕ → Bool
@@ -131,4 +131,4 @@ abbrev pub isCommitted : BlockBytes → ℕ → Bool
 isCommitted x i = slotAt x i .committed .present
 
 unfoldable pub committedCount : BlockBytes → ℕ
-committedCount x = count slotCount (isCommitted x)
+committedCount x = countBelow slotCount (isCommitted x)

@@ -7,7 +7,7 @@ ghost use Rattle.lists.specs.Tests.{oneIf};
 ghost use Rattle.image.specs.Layout.{blockSize, slotCount, tranBound};
 ghost use Rattle.slot.specs.Words.{InRange, stateOf};
 ghost use Rattle.slot.specs.Blocks.{
-  anyLocked,
+  someLocked,
   anyPicked,
   committedCount,
   endSlots,
@@ -112,7 +112,7 @@ fn joined_locks(block: &[u8]) -> u8
 // Whether a transaction locks some slot.
 pub fn any_locked(block: &[u8]) -> bool
     requires { ⌜ length (now block) ≡ blockSize ⌝ }
-    ensures { λ r. ⌜ r ≡ anyLocked (ofList (now (block .entry))) ⌝ }
+    ensures { λ r. ⌜ r ≡ someLocked (ofList (now (block .entry))) ⌝ }
 {
     joined_locks(block) != 0
 }

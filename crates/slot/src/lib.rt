@@ -159,10 +159,10 @@ impl Slot {
 }
 
 // A held block with no records.
-pub fn fresh_block() -> [u8; 41]
+pub fn fresh_block() -> [u8; image::BLOCK_SIZE]
     ensures { λ r. ⌜ r ≡ freshBlock .0 ⌝ }
 {
-    let mut block = [0u8; 41];
+    let mut block = [0u8; image::BLOCK_SIZE];
     block[0] = HELD;
     block
 }

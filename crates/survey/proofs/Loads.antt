@@ -5,7 +5,7 @@ use mathlib.Core.Option.{none, some}
 use mathlib.Core.Path.{_∙_, _≡_, ap, ap₂, fun-ext, refl, sym}
 use native.Mathlib.Numerals.{add-one}
 use native.Mathlib.Omega.{arith}
-use Rattle.lists.specs.Tests.{count, oneIf, sumBelow}
+use Rattle.lists.specs.Tests.{countBelow, oneIf, sumBelow}
 use Rattle.image.specs.Layout.{blockCount, slotCount}
 use Rattle.mask.specs.Masks.{hasCard}
 use Rattle.slot.specs.Blocks.{BlockBytes, committedCount, isCommitted, isHeld, slotAt}
@@ -19,11 +19,11 @@ use Rattle.promise.proofs.View.{look-on}
 use Rattle.survey.specs.Loads.{loadBelow}
 
 -- ---- a block
-count-le : (n : ℕ) (f : ℕ → Bool) → count n f ≤ n
+count-le : (n : ℕ) (f : ℕ → Bool) → countBelow n f ≤ n
 count-le zero f = omega arith
 count-le (suc n) f = go (f n) (count-le n f)
   where
-    go : (t : Bool) → count n f ≤ n → oneIf t + count n f ≤ suc n
+    go : (t : Bool) → countBelow n f ≤ n → oneIf t + countBelow n f ≤ suc n
     go true h = omega arith
     go false h = omega arith
 
@@ -33,7 +33,7 @@ committed-le x = count-le slotCount (isCommitted x)
 
 committed-held : (x : BlockBytes) → isHeld x ≡ true → committedCount x ≡ committedIn cabinet x
 unfolding committedCount
-committed-held x h = rw h (ap (count slotCount) (fun-ext (λ i. sym (present (isCommitted x i) (slotAt x i .committed .value)))))
+committed-held x h = rw h (ap (countBelow slotCount) (fun-ext (λ i. sym (present (isCommitted x i) (slotAt x i .committed .value)))))
   where
     present : (t : Bool) (n : ℕ) → isSome (cond t (some n) none) ≡ t
     present true n = refl

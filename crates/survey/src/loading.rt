@@ -1,7 +1,8 @@
 // The count of a load.
 ghost use mathlib.Core.Path.{_≡_};
 ghost use Prim.Native.Nat.{_*_, _+_, _<_, _≤_};
-ghost use Rattle.image.specs.Layout.{Whole, blockCount, cardCount, slotCount};
+ghost use Rattle.image.specs.Layout.{blockCount, cardCount, slotCount};
+ghost use Rattle.image.specs.Parts.{Whole};
 ghost use Rattle.method.specs.Rules.{committedIn};
 ghost use Rattle.cabinet_rules.specs.Cabinet.{cabinet};
 ghost use Rattle.cabinet_rules.specs.Images.{blockIn};

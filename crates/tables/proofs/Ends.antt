@@ -13,7 +13,8 @@ use Rattle.lists.specs.Segments.{Keeps, each, segment, within}
 use Rattle.lists.proofs.Counts.{none-below}
 use Rattle.lists.proofs.Each.{each-after, each-before, each-in, length-each}
 use Rattle.lists.proofs.Segments.{get-get, getD-segment, length-segment, put-get}
-use Rattle.image.specs.Layout.{Whole, blockAt, blockCount, blockSize, blockStart, blocksSize, cardCount, controlSize, layout}
+use Rattle.image.specs.Layout.{blockCount, blockSize, blockStart, blocksSize, cardCount, controlSize, layout}
+use Rattle.image.specs.Parts.{Whole, blockAt}
 use Rattle.image.specs.Layout.{slotCount, slotSize, slotStart, tableSize, tableStart, tailStartOf, tranBound}
 use Rattle.image.proofs.Blocks.{byte-of-control}
 use Rattle.mask.specs.Masks.{Byte, hasCard, withoutCard}

@@ -1,13 +1,15 @@
 -- What the code keeps of a list of holders, as cards are added at its end: the first stays the first, and the mask has
 -- one card more. Assumes nothing.
-use Prim.Native.Nat.{_<_, ℕ}
+use Prim.Native.Nat.{_+_, _<_, _≤_, ℕ}
 use borrow.Author.Tests.{lt-ltb}
 use lib.Dec.{eqb}
-use lib.ListN.{getD}
+use lib.ListN.{getD, length, take}
+use lib.Seq.{take-all, take-suc}
 use mathlib.Core.Bool.{Bool, _||_, false, true}
 use mathlib.Core.List.{List, [], _++_, _∷_, append-assoc, append-nil}
 use mathlib.Core.Logic.{_≢_}
 use mathlib.Core.Path.{_∙_, _≡_, ap, refl, subst, sym}
+use native.Mathlib.Numerals.{add-one}
 use native.Mathlib.Omega.{arith}
 use Rattle.lists.specs.Tests.{elem, keepIf}
 use Rattle.lists.proofs.Bools.{eqb-self, or-l, tf}
@@ -69,8 +71,18 @@ module _ {h : Holders} where
   pub push-no : (f : ℕ → Bool) (c : ℕ) → f c ≡ false → Adds h f (c ∷ []) h
   push-no f c off l lists = rw off (subst (Lists h) (sym (append-nil l)) lists)
 
--- ---- two cards, one after the other, are the two sites
-pub push-two : (f : ℕ → Bool) (sites : List ℕ) (x y : ℕ) → x ∷ y ∷ [] ≡ sites → (h m r : Holders) → Adds h f (x ∷ []) m → Adds m f (y ∷ []) r → Adds h f sites r
-push-two f sites x y is h m r one two l lists = subst (Lists r)
-    (append-assoc l (keepIf f (x ∷ [])) (keepIf f (y ∷ [])) ∙ ap (λ (z : List ℕ). l ++ z) (sym (keep-append f (x ∷ []) (y ∷ [])) ∙ ap (keepIf f) is))
-    (two (l ++ keepIf f (x ∷ [])) (one l lists))
+-- ---- the cards of a list, one after the other
+pub add-none : (f : ℕ → Bool) (h : Holders) → Adds h f [] h
+add-none f h l lists = subst (Lists h) (sym (append-nil l)) lists
+
+pub add-more : (f : ℕ → Bool) (s : List ℕ) (i c : ℕ) → i < length s → c ≡ getD s i 0 → (h m r : Holders) → Adds h f (take i s) m → Adds m f (c ∷ []) r → Adds h f (take (i + 1) s) r
+add-more f s i c long is h m r before one l lists = subst (Lists r)
+    (append-assoc l (keepIf f (take i s)) (keepIf f (c ∷ []))
+    ∙ ap (λ (z : List ℕ). l ++ z) (sym (keep-append f (take i s) (c ∷ [])) ∙ ap (keepIf f) taken))
+    (one (l ++ keepIf f (take i s)) (before l lists))
+  where
+    taken : take i s ++ (c ∷ []) ≡ take (i + 1) s
+    taken = ap (λ (x : ℕ). take i s ++ (x ∷ [])) is ∙ sym (take-suc s i 0 long) ∙ ap (λ (n : ℕ). take n s) (sym (add-one i))
+
+pub add-all : (f : ℕ → Bool) (s : List ℕ) (i : ℕ) → length s ≤ i → (h r : Holders) → Adds h f (take i s) r → Adds h f s r
+add-all f s i h found r adds = subst (λ (l : List ℕ). Adds found f l r) (take-all i s h) adds

@@ -4,7 +4,8 @@ ghost use mathlib.Core.Path.{_≡_};
 ghost use mathlib.Core.List.{List, _++_, _∷_, []};
 ghost use Prim.Native.Nat.{_+_, _<_, ℕ};
 ghost use lib.ListN.{getD};
-ghost use Rattle.image.specs.Layout.{Whole, blockCount, cardCount};
+ghost use Rattle.image.specs.Layout.{blockCount, cardCount};
+ghost use Rattle.image.specs.Parts.{Whole};
 ghost use Rattle.mask.specs.Masks.{AreMembers, byte};
 ghost use Rattle.mask.specs.Placements.{Usable, meant, sitesOf};
 ghost use Rattle.slot.specs.Blocks.{isHeld};
@@ -151,8 +152,15 @@ fn push_sites(
         (sitesOf (meant placement) (block .0)) r ⌝ }
 {
     let sites = placement.sites(block);
-    let more = push(image, working, block, found, sites.first);
-    push(image, working, block, more, sites.second)
+    let count = sites.count as usize;
+    let mut all = found;
+    let mut n: usize = 0;
+    while n < count {
+        let more = push(image, working, block, all, sites.cards[n]);
+        all = more;
+        n += 1;
+    }
+    all
 }
 
 // The holders of a block. The placements are read off the image: of the struct only the count and the working cards are

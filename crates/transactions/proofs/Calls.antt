@@ -3,7 +3,7 @@ use Prim.Native.Nat.{ℕ}
 use lib.Dec.{eqb}
 use mathlib.Core.Bool.{Bool}
 use mathlib.Core.Path.{_∙_, _≡_, ap, refl, sym}
-use Rattle.image.specs.Layout.{Whole}
+use Rattle.image.specs.Parts.{Whole}
 use Rattle.slot.specs.Blocks.{inSet}
 use Rattle.method.specs.ControlPart.{closed, opened}
 use Rattle.method.specs.Rules.{View, begin, endHeld, look}

@@ -2,7 +2,8 @@
 ghost use mathlib.Core.Path.{_≡_};
 ghost use Prim.Native.Nat.{_<_};
 ghost use lib.Dec.{eqb};
-ghost use Rattle.image.specs.Layout.{Whole, tranBound};
+ghost use Rattle.image.specs.Layout.{tranBound};
+ghost use Rattle.image.specs.Parts.{Whole};
 ghost use Rattle.slot.specs.Blocks.{inSet};
 ghost use Rattle.method.specs.ControlPart.{closed};
 ghost use Rattle.control.specs.Meaning.{Counted, meaning, putControl};

@@ -1,4 +1,4 @@
--- The proof of `list_code`: each arm has its answer's kind and number. Assumes nothing.
+-- Each arm has its answer's kind and number. Assumes nothing.
 use Prim.Native.Nat.{ℕ}
 use borrow.Author.Needs.{needs}
 use mathlib.Core.Path.{_∙_, ap, sym}

@@ -1,4 +1,4 @@
--- The proof of `nolpigat_move_list`: the answer on bytes, coded. Assumes nothing.
+-- The answer on bytes, coded. Assumes nothing.
 use borrow.Author.Needs.{needs}
 use Rattle.abi.proofs.ListCodes.{coded-list}
 use Rattle.abi.proofs.nolpigat_move_list.Statement.{statement}

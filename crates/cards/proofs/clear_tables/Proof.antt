@@ -5,7 +5,8 @@ use mathlib.Core.List.{List}
 use Prim.Native.Nat.{ℕ, _≤_, _-_}
 use native.Mathlib.Omega.{arith}
 use lib.ListN.{length}
-use Rattle.image.specs.Layout.{cardCount, tableSize, zeros, putTable}
+use Rattle.image.specs.Layout.{cardCount, tableSize}
+use Rattle.image.specs.Parts.{zeros, putTable}
 use Rattle.promise.specs.Laid.{laid}
 use Rattle.promise.proofs.Laid.{whole-laid}
 use Rattle.cards.proofs.Tables.{emptyTo, none-emptied, one-emptied, all-emptied}

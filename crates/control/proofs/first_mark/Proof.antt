@@ -1,4 +1,4 @@
--- The proof of `first_mark`. Assumes nothing.
+-- By the mark. Assumes nothing.
 use Rattle.control.proofs.first_mark.Statement.{statement}
 use Rattle.control.proofs.first_mark.Tie as tie
 

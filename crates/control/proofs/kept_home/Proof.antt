@@ -1,4 +1,4 @@
--- The proof of `kept_home`: by whether the byte is open with the card. Assumes nothing.
+-- By whether the byte is open with the card. Assumes nothing.
 use mathlib.Core.Path.{_∙_, sym}
 use borrow.Author.Needs.{needs}
 use Rattle.control.specs.Meaning.{keptHome}

@@ -6,7 +6,7 @@ use Prim.Native.Nat.{ℕ}
 use Rattle.control_form.specs.ControlForm.{controlForm, formOk}
 use Rattle.control_form.proofs.Checks.{failed-is, passed-is}
 use Rattle.control_form.specs.Reading.{allFrom, chainIn, homeFitsAt, newestIn, otherZeros, wordsEnd}
-use Rattle.control_form.proofs.Clauses.{all-fail, apartIn, clauses, form-by, others-left, placementsIn}
+use Rattle.control_form.proofs.Clauses.{all-fail, apartIn, clauses, form-by, others-left, placementsFit}
 use Rattle.control_form.proofs.Clauses.{fromApart, fromChain, fromNewest, fromPlacements}
 use borrow.Author.Needs.{needs}
 use Rattle.control.specs.ControlBytes.{homesAt}
@@ -43,7 +43,7 @@ left3 : (c : tie.Else3) → controlForm (at3 c) ≡ fromPlacements (at3 c)
 left3 c = others-left (apartIn (at3 c)) (fromPlacements (at3 c)) (left2 (c .before .before .before .before)) (passed-is (c .before .apart .ensures) (c .if3 .left))
 
 left4 : (c : tie.Else4) → controlForm (at4 c) ≡ fromChain (at4 c)
-left4 c = others-left (placementsIn (at4 c)) (fromChain (at4 c)) (left3 (c .before .before)) (passed-is (c .before .placements-ok .ensures) (c .if4 .left))
+left4 c = others-left (placementsFit (at4 c)) (fromChain (at4 c)) (left3 (c .before .before)) (passed-is (c .before .placements-ok .ensures) (c .if4 .left))
 
 left5 : (c : tie.Else5) → controlForm (at5 c) ≡ fromNewest (at5 c)
 left5 c = others-left (chainIn (at5 c)) (fromNewest (at5 c)) (left4 (c .before .before)) (passed-is (c .before .fourth-ok .ensures) (c .if5 .left))
@@ -83,7 +83,7 @@ placements-ok-requires c κs = search needs
 returns-4 : tie.Need-returns-4
 returns-4 c =
     let g = at3 (c .before .before) in
-    all-fail (placementsIn g) (fromChain g) (left3 (c .before .before)) (failed-is (c .before .placements-ok .ensures) (c .if4 .taken))
+    all-fail (placementsFit g) (fromChain g) (left3 (c .before .before)) (failed-is (c .before .placements-ok .ensures) (c .if4 .taken))
 
 fourth-ok-requires : tie.Need-fourth-ok-requires
 fourth-ok-requires c κs =

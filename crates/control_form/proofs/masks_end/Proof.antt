@@ -1,4 +1,4 @@
--- The proof of `masks_end`: the bytes of the number from the count on. Assumes nothing.
+-- The bytes of the number from the count on. Assumes nothing.
 use Rattle.control_form.proofs.Zeros.{masks-by}
 use borrow.Author.Needs.{needs}
 use Rattle.control_form.proofs.masks_end.Statement.{statement}

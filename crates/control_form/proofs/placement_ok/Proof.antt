@@ -1,4 +1,4 @@
--- The proof of `placement_ok`: the clauses in their order. Assumes nothing.
+-- The clauses in their order. Assumes nothing.
 use Rattle.control_form.specs.Reading.{placementOk}
 use Rattle.control_form.proofs.Checks.{failed-is, passed-is}
 use borrow.Author.Needs.{needs}

@@ -1,4 +1,4 @@
--- The proof of `clear`. Assumes nothing.
+-- The first i bytes are zero; at the end all are. Assumes nothing.
 use mathlib.Core.Path.{_≡_, refl, sym, _∙_}
 use Prim.Native.Nat.{ℕ, _≤_, _<_, _-_}
 use native.Mathlib.Omega.{arith}
@@ -7,7 +7,7 @@ use lib.Seq.{ext-getD}
 use lib.ListN.{length, getD, length-set}
 use borrow.Author.Needs.{needs}
 use Rattle.lists.proofs.Segments.{fill-more}
-use Rattle.image.specs.Layout.{zeros}
+use Rattle.image.specs.Parts.{zeros}
 use Rattle.image.proofs.Zeros.{length-zeros, zeros-at}
 use Rattle.image.proofs.clear.Statement.{statement}
 use Rattle.image.proofs.clear.Tie as tie

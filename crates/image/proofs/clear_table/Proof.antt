@@ -1,10 +1,11 @@
--- The proof of `clear_table`. Assumes nothing.
+-- The table's part is lent on, and zeroed as a whole. Assumes nothing.
 use mathlib.Core.Path.{_≡_, _∙_, ap}
 use Prim.Native.Nat.{ℕ, _+_, _-_}
 use native.Mathlib.Omega.{arith}
 use borrow.Author.Needs.{needs}
 use Rattle.lists.specs.Segments.{splice}
-use Rattle.image.specs.Layout.{putTable, tableSize, tableStart, zeros}
+use Rattle.image.specs.Layout.{tableSize, tableStart}
+use Rattle.image.specs.Parts.{putTable, zeros}
 use Rattle.image.proofs.Parts.{length-part, part-left}
 use Rattle.image.proofs.Zeros.{length-zeros}
 use Rattle.image.proofs.clear_table.Statement.{statement}

@@ -1,6 +1,6 @@
--- The proof of `get_block`. Assumes nothing.
+-- The bytes read at a block's address are the block. Assumes nothing.
 use borrow.Author.Needs.{needs}
-use Rattle.image.specs.Layout.{blockAt}
+use Rattle.image.specs.Parts.{blockAt}
 use Rattle.image.proofs.get_block.Statement.{statement}
 use Rattle.image.proofs.get_block.Tie as tie
 use Rattle.image.proofs.get_block.Reads as reads

@@ -1,11 +1,12 @@
--- The proof of `put_block`. Assumes nothing.
+-- The table's part is lent on: a splice in a part is one in the image. Assumes nothing.
 use mathlib.Core.Path.{_≡_, ap, _∙_}
 use Prim.Native.Nat.{ℕ, _+_, _-_}
 use native.Mathlib.Omega.{arith}
 use lib.ListN.{length}
 use borrow.Author.Needs.{needs}
 use Rattle.lists.specs.Segments.{splice}
-use Rattle.image.specs.Layout.{blockSize, blockStart, tableSize, tableStart, putBlock}
+use Rattle.image.specs.Layout.{blockSize, blockStart, tableSize, tableStart}
+use Rattle.image.specs.Parts.{putBlock}
 use Rattle.image.proofs.Parts.{part-put}
 use Rattle.image.proofs.put_block.Statement.{statement}
 use Rattle.image.proofs.put_block.Tie as tie

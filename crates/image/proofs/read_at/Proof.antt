@@ -1,4 +1,4 @@
--- The proof of `read_at`. Assumes nothing.
+-- The first i bytes are those behind the address; at the end all are. Assumes nothing.
 use mathlib.Core.Path.{_≡_, refl, sym, _∙_}
 use Prim.Native.Nat.{ℕ, _≤_, _<_, _-_, _+_}
 use native.Mathlib.Omega.{arith}

@@ -1,4 +1,4 @@
--- The proof of `write_at`. Assumes nothing.
+-- The first i bytes are spliced in; each turn splices in one more. Assumes nothing.
 use mathlib.Core.Path.{_≡_, refl, sym, ap, _∙_}
 use Prim.Native.Nat.{_≤_, _-_}
 use native.Mathlib.Omega.{arith}

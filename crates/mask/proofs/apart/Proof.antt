@@ -1,3 +1,4 @@
+-- No common bit is no common card (`apart-is`). Assumes nothing.
 use native.Mathlib.Omega.{arith}
 use Rattle.mask.proofs.Sets.{apart-is}
 use Rattle.mask.proofs.apart.Statement.{statement}

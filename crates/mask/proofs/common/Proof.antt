@@ -1,3 +1,4 @@
+-- The common bits are the common cards (`common-is`). Assumes nothing.
 use native.Mathlib.Omega.{arith}
 use Rattle.mask.proofs.Sets.{common-is}
 use Rattle.mask.proofs.common.Statement.{statement}

@@ -1,4 +1,4 @@
--- The proof of `first_member`: the count of leading zeros is it, computed for every mask. Assumes nothing.
+-- The count of leading zeros is it, computed for every mask. Assumes nothing.
 use native.Mathlib.Omega.{arith}
 use lib.Count.{leading-le}
 use Rattle.mask.proofs.FirstMember.{first-card, first-is}

@@ -1,4 +1,4 @@
--- The proof of `first_or`. Assumes nothing.
+-- By whether a member is left. Assumes nothing.
 use mathlib.Core.Path.{_∙_}
 use native.Mathlib.Omega.{arith}
 use lib.ListN.{getD}

@@ -1,3 +1,4 @@
+-- A card is asked by its bit (`bit-is`); a number above the cards is no member. Assumes nothing.
 use mathlib.Core.Path.{sym, ap, _∙_}
 use mathlib.Core.Bool.{not}
 use Prim.Native.Nat.{ℕ}

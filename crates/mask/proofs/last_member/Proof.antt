@@ -1,4 +1,4 @@
--- The proof of `last_member`: a computed test of all masks. Assumes nothing.
+-- A computed test of all masks. Assumes nothing.
 use Prim.Native.Nat.{_-_}
 use native.Mathlib.Omega.{arith}
 use lib.Bits.{and-le-l, bitAnd}

@@ -1,3 +1,4 @@
+-- The count of bits is the number of members (`size-is`). Assumes nothing.
 use native.Mathlib.Omega.{arith}
 use Rattle.mask.proofs.Sets.{size-is}
 use Rattle.mask.proofs.members.Statement.{statement}

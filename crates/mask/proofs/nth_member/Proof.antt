@@ -1,4 +1,4 @@
--- The proof of `nth_member`. The members up to number k are left; at the end k is i, and the last one left is member
+-- The members up to number k are left; at the end k is i, and the last one left is member
 -- number i. Assumes nothing.
 use mathlib.Core.Path.{_∙_, _≡_, ap, sym}
 use Prim.Native.Nat.{_-_, _<_, _≤_, suc, ℕ}

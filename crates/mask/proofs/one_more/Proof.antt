@@ -1,3 +1,4 @@
+-- The first card that the mask has more is the only one, if with it the two masks are equal. Assumes nothing.
 use mathlib.Core.Path.{sym, ap, _∙_}
 use Prim.Native.Nat.{_-_, _<_}
 use native.Mathlib.Nat.{mod-eq-of-lt}

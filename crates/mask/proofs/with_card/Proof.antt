@@ -1,3 +1,4 @@
+-- The card's bit is joined (`with-is`). Assumes nothing.
 use mathlib.Core.Path.{ap, _∙_}
 use Prim.Native.Nat.{ℕ}
 use lib.Bits.{bitOr}

@@ -1,3 +1,4 @@
+-- No bit outside is no card outside (`within-is`). Assumes nothing.
 use native.Mathlib.Omega.{arith}
 use Rattle.mask.proofs.Sets.{within-is}
 use Rattle.mask.proofs.within.Statement.{statement}

@@ -1,3 +1,4 @@
+-- The joined bits of two masks are the cards of either (`within-either-is`). Assumes nothing.
 use mathlib.Core.Path.{_∙_}
 use native.Mathlib.Omega.{arith}
 use Rattle.mask.proofs.Sets.{within-either-is}

@@ -1,3 +1,4 @@
+-- The bits that the other mask lacks are the other cards (`has-others`). Assumes nothing.
 use borrow.Author.Needs.{needs}
 use Rattle.mask.proofs.Sets.{has-others}
 use Rattle.mask.proofs.without.Statement.{statement}

@@ -1,3 +1,4 @@
+-- All bits but the card's are kept (`without-is`). Assumes nothing.
 use mathlib.Core.Path.{ap, _∙_}
 use Prim.Native.Nat.{ℕ, _-_}
 use lib.Bits.{bitAnd}

@@ -1,4 +1,4 @@
--- The proof of `without_first`: without it the others are left, computed for every mask. Assumes nothing.
+-- Without it the others are left, computed for every mask. Assumes nothing.
 use mathlib.Core.Path.{_∙_, _≡_, ap}
 use native.Mathlib.Omega.{arith}
 use borrow.Author.Needs.{needs}

@@ -1,4 +1,4 @@
--- The proof of `without_last`: a computed test of all masks. Assumes nothing.
+-- A computed test of all masks. Assumes nothing.
 use native.Mathlib.Omega.{arith}
 use Rattle.mask.proofs.LastMember.{not-zero, without-last-is}
 use Rattle.mask.proofs.without_last.Statement.{statement}

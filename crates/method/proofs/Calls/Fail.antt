@@ -10,7 +10,7 @@ use mathlib.Core.Option.{none}
 use mathlib.Core.Path.{_∙_, _≡_, ap, refl, subst, sym}
 use native.Mathlib.Omega.{arith}
 use Rattle.lists.specs.Segments.{each}
-use Rattle.lists.specs.Tests.{In, count}
+use Rattle.lists.specs.Tests.{In, countBelow}
 use Rattle.lists.proofs.Bools.{and-in, and-l, and-r, nor-l, nor-r, not-is, split, tf}
 use Rattle.lists.proofs.Counts.{count-mono}
 use Rattle.lists.proofs.Lists.{any-none, in-left}
@@ -68,12 +68,13 @@ module _ (P : Parameters) (L : Laws P) where
       base1 = base-home P L (marked P k c) base-marked (λ x. cond (begunAt k c x) none (k .home x))
 
       -- the new placement, without the card
-      many : copies (k .setting) ≤ count cards (has (mask (without (k .newest) c)))
+      many : copies (k .setting) ≤ countBelow cards (has (mask (without (k .newest) c)))
       many =
-          let a : ℕ = count cards (λ x. has (mask (k .newest)) x && has (remove (k .working) c) x) in
+          let a : ℕ = countBelow cards (λ x. has (mask (k .newest)) x && has (remove (k .working) c) x) in
           let s = base-marked .safe (k .newest) (newest-in P k) in
           let h : copies (k .setting) ≤ a = enough-work P (k .setting) (remove (k .working) c) (insert (k .failed) c) (mask (k .newest)) s in
-          let g : a ≤ count cards (has (mask (without (k .newest) c))) = count-mono cards (λ x. has (mask (k .newest)) x && has (remove (k .working) c) x) (has (mask (without (k .newest) c))) inc in
+          let g : a ≤ countBelow cards (has (mask (without (k .newest) c))) = count-mono cards (λ x. has (mask (k .newest)) x && has (remove (k .working) c) x)
+          (has (mask (without (k .newest) c))) inc in
           omega arith
         where
           inc : (x : ℕ) → (has (mask (k .newest)) x && has (remove (k .working) c) x) ≡ true → has (mask (without (k .newest) c)) x ≡ true

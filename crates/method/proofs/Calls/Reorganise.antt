@@ -8,11 +8,11 @@ use mathlib.Core.Logic.{_⊎_, inl, inr}
 use mathlib.Core.Option.{none}
 use mathlib.Core.Path.{_∙_, _≡_, ap, refl, sym}
 use Rattle.lists.specs.Segments.{each}
-use Rattle.lists.specs.Tests.{all, elem}
+use Rattle.lists.specs.Tests.{allIn, elem}
 use Rattle.lists.proofs.Bools.{and-l, and-r, not-not-is, split, tf}
 use Rattle.lists.proofs.Counts.{below-all}
 use Rattle.lists.proofs.Lists.{all-out, elem-in}
-use Rattle.method.specs.BlockMoves.{settledBy}
+use Rattle.method.specs.Rules.{settledBy}
 use Rattle.method.specs.Changes.{Control}
 use Rattle.method.specs.ControlPart.{active, onlyNewest}
 use Rattle.method.specs.OneRecordList.{isZero, plainObserve, quiet}
@@ -104,16 +104,16 @@ module _ (P : Parameters) (L : Laws P) where
       form = form-settled P L k (i .form);
       idle = i .idle;
       each = λ b bk. record {
-        trailed = λ c h. (k .newest, inl refl, and-l (elem c (newestSites P k b)) (all (λ x. held (v x b)) (newestSites P k b)) (all-new c b bk h));
+        trailed = λ c h. (k .newest, inl refl, and-l (elem c (newestSites P k b)) (allIn (λ x. held (v x b)) (newestSites P k b)) (all-new c b bk h));
         same = i .each b bk .same;
         cover = go b bk (i .each b bk .cover);
       };
     }
       where
-        all-new : (c b : ℕ) → ltb b (blocks (k .setting)) ≡ true → held (v c b) ≡ true → (elem c (newestSites P k b) && all (λ x. held (v x b)) (newestSites P k b)) ≡ true
+        all-new : (c b : ℕ) → ltb b (blocks (k .setting)) ≡ true → held (v c b) ≡ true → (elem c (newestSites P k b) && allIn (λ x. held (v x b)) (newestSites P k b)) ≡ true
         all-new c b bk h =
             let row = below-all (blocks (k .setting)) _ b yes-settled (ltb-true b (blocks (k .setting)) bk) in
-            let cell = below-all cards (λ c. not (held (v c b)) || (elem c (newestSites P k b) && all (λ x. held (v x b)) (newestSites P k b))) c row
+            let cell = below-all cards (λ c. not (held (v c b)) || (elem c (newestSites P k b) && allIn (λ x. held (v x b)) (newestSites P k b))) c row
             (has-card (k .working) c (works-w P L k v records i c b h)) in
             rw h at cell
 
@@ -121,7 +121,7 @@ module _ (P : Parameters) (L : Laws P) where
             → Cover P (k .setting) (k .newest ∷ []) (has (k .working)) v b ⊎ Blank P v records b
         go b bk (inl o) =
             let h = holder-of P L k v records i b bk o in
-            let a = and-r (elem (h .0) (newestSites P k b)) (all (λ x. held (v x b)) (newestSites P k b)) (all-new (h .0) b bk (h .1)) in
+            let a = and-r (elem (h .0) (newestSites P k b)) (allIn (λ x. held (v x b)) (newestSites P k b)) (all-new (h .0) b bk (h .1)) in
             inl (k .newest, inl refl, λ c e z. all-out (λ x. held (v x b)) (newestSites P k b) c a (elem-in c (newestSites P k b) e))
         go b bk (inr n) = inr n
 

@@ -1,4 +1,4 @@
--- The proof of `Control::begin`. Assumes nothing.
+-- One byte of the homes is set, and means the home of one transaction (`open-is`). Assumes nothing.
 use Rattle.control.proofs.Changes.{open-is}
 use borrow.Author.Needs.{needs}
 use Rattle.control.proofs.Control.begin.Statement.{statement}

@@ -1,4 +1,4 @@
--- The proof of `Control::close`. Assumes nothing.
+-- One byte of the homes is zeroed, and its transaction is closed (`close-is`). Assumes nothing.
 use Rattle.control.proofs.Changes.{close-is}
 use borrow.Author.Needs.{needs}
 use Rattle.control.proofs.Control.close.Statement.{statement}

@@ -1,4 +1,4 @@
--- The proof of `Control::dismiss`. Assumes nothing.
+-- With other working cards the struct means what the cards alone change (`cards-are`). Assumes nothing.
 use mathlib.Core.Path.{refl}
 use Rattle.control.specs.Meaning.{meaning}
 use Rattle.control.proofs.Changes.{cards-are}

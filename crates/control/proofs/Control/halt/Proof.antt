@@ -1,4 +1,4 @@
--- The proof of `Control::halt`. Assumes nothing.
+-- Zero homes mean that nothing is open (`halt-is`). Assumes nothing.
 use Rattle.control.proofs.Changes.{halt-is}
 use Rattle.control.proofs.Control.halt.Statement.{statement}
 use Rattle.control.proofs.Control.halt.Tie as tie

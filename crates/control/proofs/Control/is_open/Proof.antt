@@ -1,4 +1,4 @@
--- The proof of `Control::is_open`. Assumes nothing.
+-- Open is the highest bit of the transaction's byte (`open-bit`). Assumes nothing.
 use Prim.Native.Nat.{_-_}
 use lib.ListN.{getD}
 use borrow.Author.Needs.{needs}

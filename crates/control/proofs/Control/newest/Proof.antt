@@ -1,4 +1,4 @@
--- The proof of `Control::newest`. Assumes nothing.
+-- The placement of the last number that counts. Assumes nothing.
 use borrow.Author.Needs.{needs}
 use Rattle.control.specs.Meaning.{meaning}
 use Rattle.control.proofs.Control.newest.Statement.{statement}

@@ -1,4 +1,4 @@
--- The proof of `Control::placement`. Assumes nothing.
+-- A mark is asked by its bit (`mark-is`). Assumes nothing.
 use mathlib.Core.Path.{ap}
 use mathlib.Core.Bool.{Bool}
 use mir.Syntax.{w8}

@@ -1,4 +1,4 @@
--- The proof of `Control::retire`. Assumes nothing.
+-- The newest mask alone, with its mark in the first bit, means the newest placement (`retire-is`). Assumes nothing.
 use Rattle.control.proofs.Changes.{retire-is}
 use borrow.Author.Needs.{needs}
 use Rattle.control.proofs.Control.retire.Statement.{statement}

@@ -1,4 +1,4 @@
--- The proof of `codec::marks_byte`. Assumes nothing.
+-- The bits from the count on are taken off. Assumes nothing.
 use mathlib.Core.Path.{ap}
 use Prim.Native.Nat.{ℕ, _-_}
 use lib.Bits.{bitAnd}

@@ -1,4 +1,4 @@
--- The proof of `codec::no_marks`. Assumes nothing.
+-- A shift by the count is a division by its power of two. Assumes nothing.
 use mathlib.Core.Path.{refl}
 use borrow.Author.Needs.{needs}
 use Rattle.control.specs.Meaning.{bitsFrom}

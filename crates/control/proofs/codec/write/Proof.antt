@@ -1,4 +1,4 @@
--- The proof of `codec::write`. Assumes nothing.
+-- The bytes of the struct are spliced in at the front. Assumes nothing.
 use Rattle.control.specs.Meaning.{putControl}
 use borrow.Author.Needs.{needs}
 use Rattle.control.proofs.codec.write.Statement.{statement}

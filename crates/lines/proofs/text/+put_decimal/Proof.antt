@@ -1,4 +1,4 @@
--- The proof of the cycle of calls {put_decimal}: n falls, since a tenth of it is less. Assumes nothing.
+-- A cycle of calls that ends: n falls, since a tenth of it is less. Assumes nothing.
 use mathlib.Core.Path.{_∙_, _≡_, ap, subst, sym}
 use mathlib.Core.List.{_++_, _∷_, []}
 use native.Mathlib.Omega.{arith}

@@ -1,3 +1,4 @@
+-- By whether the sites are by rails. Assumes nothing.
 use mathlib.Core.Path.{ap}
 use lib.Bits.{bitAnd}
 use borrow.Author.Needs.{needs}

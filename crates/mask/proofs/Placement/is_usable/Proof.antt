@@ -1,3 +1,4 @@
+-- The count of bits is the number of members (`size-is`). Assumes nothing.
 use mathlib.Core.Path.{ap}
 use lib.Dec.{leb}
 use borrow.Author.Needs.{needs}

@@ -1,4 +1,4 @@
--- The proof of `Placement::next_member`: the members behind a card are those below its bit, computed for every mask and
+-- The members behind a card are those below its bit, computed for every mask and
 -- member. Assumes nothing.
 use mathlib.Core.Path.{_∙_, ap}
 use Prim.Native.Nat.{ℕ, _-_, _<_}

@@ -1,4 +1,4 @@
--- The proof of `Placement::second_site`: by whether there is a member across. Assumes nothing.
+-- By whether there is a member across. Assumes nothing.
 use mathlib.Core.Path.{_∙_, ap, sym}
 use mathlib.Core.List.{[], _∷_}
 use Prim.Native.Nat.{ℕ}

@@ -1,3 +1,5 @@
+-- The two cards in the rules' order are the list. Assumes nothing.
+use mathlib.Core.Path.{refl}
 use borrow.Author.Needs.{needs}
 use Rattle.mask.specs.Placements.{meant}
 use Rattle.mask.proofs.SiteLaws.{are-sites}
@@ -10,10 +12,13 @@ member-at-requires c κs = search needs
 second-site-requires : tie.Need-second-site-requires
 second-site-requires c κs = search needs
 
+cast-t5 : tie.Need-cast-t5
+cast-t5 c = search needs
+
 returns : tie.Need-returns
 returns c =
     let s = c .before .before in
-    are-sites _ (meant (s .args .self)) (s .args .block .0) (s .pre .0) (c .second-site .ensures)
+    are-sites _ (meant (s .args .self)) (s .args .block .0) (s .pre .0) refl (c .second-site .ensures)
 
 pub sites-spec : {M : Type 1} → statement M
-sites-spec = tie.close (tie.spec member-at-requires second-site-requires returns)
+sites-spec = tie.close (tie.spec member-at-requires second-site-requires cast-t5 returns)

@@ -9,12 +9,12 @@ use Rattle.mask.specs.Masks.{byte}
 use Rattle.mask.proofs.Masks.{size-members}
 use Rattle.mask.proofs.SiteLaws.{size-le}
 use Rattle.move_list.specs.declared.Move.{Move}
-use Rattle.move_list.proofs.MovePlans.{below-next, countBelow, move-beyond, move-here, none-below}
+use Rattle.move_list.proofs.MovePlans.{below-next, movesBelow, move-beyond, move-here, none-below}
 use Rattle.move_list.proofs.Plan.nth.Statement.{statement}
 use Rattle.move_list.proofs.Plan.nth.Tie as tie
 
 abbrev Inv-loop : tie.InvT-loop
-Inv-loop n origins left₀ b₀ left b = (b ≤ blockCount) × (n ≡ countBelow origins b + left)
+Inv-loop n origins left₀ b₀ left b = (b ≤ blockCount) × (n ≡ movesBelow origins b + left)
 
 abbrev μ-loop : tie.MeasureT-loop
 μ-loop n origins left₀ b₀ left b = blockCount - b

@@ -1,54 +1,44 @@
--- The moves of the blocks before b have been found and counted, and none of their copies has a lock; the place in the table of sites goes round with
--- b. Assumes nothing.
-use Prim.Native.Nat.{_%_, _*_, _+_, _-_, _<_, _≤_}
+-- The moves of the blocks before b have been found and counted, and none of their copies has a lock. Assumes nothing.
+use Prim.Native.Nat.{_*_, _+_, _-_, _≤_}
 use borrow.Author.Needs.{needs}
 use lib.ListN.{getD, length, length-set}
 use mathlib.Core.Bool.{false}
 use mathlib.Core.Path.{_∙_, _≡_, ap₂, refl, sym}
-use native.Mathlib.Nat.{zero-mod}
 use native.Mathlib.Omega.{arith}
 use Rattle.lists.specs.Tests.{anyBelow}
 use Rattle.lists.proofs.Counts.{any-more}
 use Rattle.image.specs.Layout.{blockCount, cardCount}
 use Rattle.mask.specs.Masks.{AreMembers, byte}
 use Rattle.mask.proofs.SiteLaws.{size-le}
-use Rattle.mask.proofs.SiteTables.{MasksBelow, masks-more}
+use Rattle.mask.specs.SiteMasks.{MasksBelow}
+use Rattle.mask.proofs.SiteMasks.{masks-more}
 use Rattle.promise.proofs.Finish.{given-whole}
-use Rattle.reorganise.proofs.Looks.{newest-at, newest-counts, newest-fits, newest-next, newest-usable}
+use Rattle.reorganise.proofs.Looks.{newest-usable}
 use Rattle.move_list.proofs.FoundMoves.{block-locked, count-more, count-none, finds-locked, finds-moves}
 use Rattle.move_list.proofs.FoundMoves.{lockedBlock, movesBelow, origin, origin-is}
 use Rattle.move_list.proofs.finding.find.Statement.{statement}
 use Rattle.move_list.proofs.finding.find.Tie as tie
 
 abbrev Inv-loop : tie.InvT-loop
-Inv-loop image k table origins₀ count₀ place₀ b₀ origins count place b = (b ≤ blockCount) × (length origins ≡ blockCount) × (count ≤ cardCount * b)
-    × (count ≡ length (movesBelow image b)) × MasksBelow (origin image) origins b × (anyBelow b (lockedBlock image) ≡ false) × (place ≡ b % table .count)
+Inv-loop image k sites origins₀ count₀ b₀ origins count b = (b ≤ blockCount) × (length origins ≡ blockCount) × (count ≤ cardCount * b)
+    × (count ≡ length (movesBelow image b)) × MasksBelow (origin image) origins b × (anyBelow b (lockedBlock image) ≡ false)
 
 abbrev μ-loop : tie.MeasureT-loop
-μ-loop image k table origins₀ count₀ place₀ b₀ origins count place b = blockCount - b
+μ-loop image k sites origins₀ count₀ b₀ origins count b = blockCount - b
 
-newest-table-requires : tie.Need-newest-table-requires Inv-loop μ-loop
-newest-table-requires c κs =
+newest-masks-requires : tie.Need-newest-masks-requires Inv-loop μ-loop
+newest-masks-requires c κs =
     let s = c .before in
     (s .pre .is .counted, newest-usable (s .args .k) (s .args .image .now) (s .pre))
 
 loop-holds : tie.Need-loop-holds Inv-loop μ-loop
-loop-holds c = (omega arith, refl, omega arith, count-none (c .before .before .args .image .now), (λ j h. absurd (omega arith)), refl, sym (zero-mod _))
+loop-holds c = (omega arith, refl, omega arith, count-none (c .before .before .args .image .now), (λ j h. absurd (omega arith)), refl)
 
 cast-of-block : tie.Need-cast-of-block Inv-loop μ-loop
 cast-of-block c = search needs
 
--- The place is one of the table's.
-fits : (l : tie.At-loop Inv-loop μ-loop) → l .loop .place < cardCount
-fits l =
-    let s = l .before .before .before in
-    newest-fits (s .args .k) (s .args .image .now) (s .pre) (l .before .newest-table .ensures) (l .loop .b) (l .loop .place) (l .loop .inv .6)
-
-cast-of-block-2 : tie.Need-cast-of-block-2 Inv-loop μ-loop
-cast-of-block-2 c = let h = fits (c .before) in omega (arith, h)
-
 element-copy-out-of-block : tie.Need-element-copy-out-of-block Inv-loop μ-loop
-element-copy-out-of-block c = let h = fits (c .before) in omega (arith, h)
+element-copy-out-of-block c = c .loop-test .taken
 
 of-block-requires : tie.Need-of-block-requires Inv-loop μ-loop
 of-block-requires c κs = (given-whole (c .before .before .before .before .before .pre), c .before .loop-test .taken)
@@ -61,8 +51,8 @@ found o =
     let n = l .before in
     let s = n .before .before in
     (λ x. o .of-block .ensures x
-    ∙ origin-is (s .args .k) (s .args .image .now) (s .pre) (l .loop .b) (getD (n .newest-table .result .masks) (l .loop .place) 0) (o .before .before .loop-test .taken)
-    (newest-at (s .args .k) (s .args .image .now) (s .pre) (n .newest-table .ensures) (l .loop .b) (l .loop .place) (l .loop .inv .6)) x)
+    ∙ origin-is (s .args .k) (s .args .image .now) (s .pre) (l .loop .b) (getD (n .newest-masks .result .masks) (l .loop .b) 0) (o .before .before .loop-test .taken)
+    (n .newest-masks .ensures (l .loop .b) (o .before .before .loop-test .taken)) x)
 
 any-locked-requires : tie.Need-any-locked-requires Inv-loop μ-loop
 any-locked-requires c κs = let l = c .before .before .before in (given-whole (l .before .before .before .pre), c .before .before .loop-test .taken)
@@ -92,12 +82,6 @@ add-count c =
     let l = o .before .before .before .loop in
     omega (arith, h, c .members .ensures, l .inv .2)
 
-next-place-requires : tie.Need-next-place-requires Inv-loop μ-loop
-next-place-requires c κs =
-    let l = c .before .before .before .before .before .before in
-    let s = l .before .before .before in
-    newest-counts (s .args .k) (s .args .image .now) (s .pre) (l .before .newest-table .ensures) (l .loop .b) (l .loop .place) (l .loop .inv .6)
-
 add-b : tie.Need-add-b Inv-loop μ-loop
 add-b c = search needs
 
@@ -106,8 +90,7 @@ loop-less c = search needs
 
 loop-again : tie.Need-loop-again Inv-loop μ-loop
 loop-again c =
-    let m = c .before in
-    let e = m .before in
+    let e = c .before in
     let t = e .before in
     let o = t .before in
     let i = o .before .before in
@@ -119,11 +102,10 @@ loop-again c =
     let free : lockedBlock g (l .loop .b) ≡ false = sym (block-locked g (l .loop .b) (o .of-block .result) (i .loop-test .taken) (found o)) ∙ sym (t .any-locked .ensures) ∙ e .if1 .left in (
       omega (arith, i .loop-test .taken),
       length-set (l .loop .origins) (l .loop .b) (o .of-block .result) ∙ l .loop .inv .1,
-      omega (arith, h, m .members .ensures, l .loop .inv .2),
-      ap₂ _+_ (l .loop .inv .3) (m .members .ensures) ∙ count-more g (l .loop .b) (o .of-block .result) (i .loop-test .taken) (found o),
+      omega (arith, h, c .members .ensures, l .loop .inv .2),
+      ap₂ _+_ (l .loop .inv .3) (c .members .ensures) ∙ count-more g (l .loop .b) (o .of-block .result) (i .loop-test .taken) (found o),
       masks-more (origin g) (l .loop .origins) (l .loop .b) (o .of-block .result) (omega (arith, l .loop .inv .1, i .loop-test .taken)) (l .loop .inv .4) (found o),
       any-more (lockedBlock g) (l .loop .b) free (l .loop .inv .5),
-      newest-next (s .args .k) g (s .pre) (n .newest-table .ensures) (l .loop .b) (l .loop .place) (l .loop .inv .6) (c .next-place .result) (c .next-place .ensures),
     )
 
 returns-2 : tie.Need-returns-2 Inv-loop μ-loop
@@ -137,10 +119,9 @@ find-spec =
     (tie.spec
     Inv-loop
     μ-loop
-    newest-table-requires
+    newest-masks-requires
     loop-holds
     cast-of-block
-    cast-of-block-2
     element-copy-out-of-block
     of-block-requires
     any-locked-requires
@@ -149,7 +130,6 @@ find-spec =
     members-requires
     cast-count
     add-count
-    next-place-requires
     add-b
     loop-less
     loop-again

@@ -8,14 +8,14 @@ use Rattle.lists.specs.Tests.{anyBelow}
 use Rattle.lists.proofs.Counts.{any-below, any-more}
 use Rattle.image.specs.Layout.{cardCount}
 use Rattle.mask.specs.Masks.{byte, hasCard}
-use Rattle.slot.specs.Blocks.{anyLocked}
+use Rattle.slot.specs.Blocks.{someLocked}
 use Rattle.cabinet_rules.specs.Images.{Image, blockIn}
 use Rattle.move_list.proofs.origins.any_locked.Statement.{statement}
 use Rattle.move_list.proofs.origins.any_locked.Tie as tie
 
 -- Whether card c is one of these and has a locked slot in its copy of block b.
 abbrev lockedAt : Image → ℕ → ℕ → ℕ → Bool
-lockedAt g from b c = hasCard (byte from) c && anyLocked (blockIn g c b)
+lockedAt g from b c = hasCard (byte from) c && someLocked (blockIn g c b)
 
 abbrev Inv-loop : tie.InvT-loop
 Inv-loop image from block c₀ c = (c ≤ cardCount) × (anyBelow c (lockedAt image from (block .0)) ≡ false)

@@ -3,7 +3,7 @@ use Prim.Native.Nat.{_+_, _-_}
 use mathlib.Core.Path.{_∙_, ap, sym}
 use native.Mathlib.Omega.{arith}
 use Rattle.image.specs.Layout.{blockSize}
-use Rattle.slot.specs.Blocks.{anyLocked}
+use Rattle.slot.specs.Blocks.{someLocked}
 use Rattle.promise.proofs.Laid.{of-part}
 use borrow.Author.Needs.{needs}
 use Rattle.move_list.proofs.origins.locked_at.Statement.{statement}
@@ -38,7 +38,7 @@ returns c =
     let a = s .args in
     let t = d .block-address .result in
     rw (sym (h .has .ensures) ∙ d .before .if1 .taken)
-    (c .any-locked .ensures ∙ ap anyLocked (of-part (a .image .now) (s .pre .0) (a .card .0) (a .block .0) (s .pre .1) (s .pre .2) t (t + blockSize - t) (d .block-address .ensures) (omega arith)))
+    (c .any-locked .ensures ∙ ap someLocked (of-part (a .image .now) (s .pre .0) (a .card .0) (a .block .0) (s .pre .1) (s .pre .2) t (t + blockSize - t) (d .block-address .ensures) (omega arith)))
 
 returns-2 : tie.Need-returns-2
 returns-2 c = rw (sym (c .before .has .ensures) ∙ c .if1 .left)

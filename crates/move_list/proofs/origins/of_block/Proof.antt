@@ -5,7 +5,7 @@ use mathlib.Core.Bool.{Bool}
 use mathlib.Core.Path.{_∙_, ap, fun-ext}
 use Rattle.image.specs.Layout.{cardCount}
 use Rattle.mask.specs.Masks.{byte, members}
-use Rattle.method.specs.BlockMoves.{originBy}
+use Rattle.method.specs.MoveList.{originBy}
 use Rattle.move_list.proofs.origins.of_block.Statement.{statement}
 use Rattle.move_list.proofs.origins.of_block.Tie as tie
 

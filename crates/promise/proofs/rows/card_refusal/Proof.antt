@@ -1,4 +1,4 @@
--- The proof of `rows::card_refusal`. Assumes nothing.
+-- Each return is the row whose test was taken, the rows above it left. Assumes nothing.
 use mathlib.Core.Path.{_∙_, sym}
 use borrow.Author.Tests.{le-ltb, lt-ltb, not-false, not-true}
 use Rattle.image.specs.Layout.{cardCount}

@@ -1,4 +1,4 @@
--- The proof of `rows::is_tran`. Assumes nothing.
+-- At most 15 is below 16; 0 is no transaction. Assumes nothing.
 use Prim.Native.Nat.{_<_, _≤_, ℕ}
 use borrow.Author.Needs.{needs}
 use borrow.Author.Tests.{le-leb, le-ltb, leb-true, lt-ltb, ltb-true}

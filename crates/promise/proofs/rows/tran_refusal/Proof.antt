@@ -1,4 +1,4 @@
--- The proof of `rows::tran_refusal`. Assumes nothing.
+-- Each return is the row whose test was taken, the rows above it left. Assumes nothing.
 use mathlib.Core.Path.{_∙_, sym}
 use native.Mathlib.Omega.{arith}
 use borrow.Author.Needs.{needs}

@@ -4,7 +4,7 @@ use mathlib.Core.Path.{_∙_, _≡_, ap, refl, sym}
 use Prim.Native.Nat.{_<_}
 use lib.ListN.{length}
 use borrow.Author.Needs.{needs}
-use Rattle.lists.specs.Tests.{any}
+use Rattle.lists.specs.Tests.{anyIn}
 use Rattle.mask.specs.Masks.{byte, members}
 use Rattle.mask.proofs.FirstMember.{no-members, one-fewer, some-members}
 use Rattle.records.specs.Slots.{lockedAt}
@@ -14,7 +14,7 @@ use Rattle.records.proofs.slots.locked_out.Tie as tie
 
 abbrev Inv-loop : tie.InvT-loop
 Inv-loop image tran rec left₀ left =
-    (left < 256) × (any (lockedAt image (tran .0) (rec .0)) (members (byte left)) ≡ any (lockedAt image (tran .0) (rec .0)) (members (byte left₀)))
+    (left < 256) × (anyIn (lockedAt image (tran .0) (rec .0)) (members (byte left)) ≡ anyIn (lockedAt image (tran .0) (rec .0)) (members (byte left₀)))
 
 abbrev μ-loop : tie.MeasureT-loop
 μ-loop image tran rec left₀ left = length (members (byte left))
@@ -63,7 +63,7 @@ loop-again c =
     let a = i .before .before .before .args in
     let at = lockedAt (a .image .now) (a .tran .0) (a .rec .0) in (
       search needs,
-      ap (any at) (c .without-first .ensures .0)
+      ap (anyIn at) (c .without-first .ensures .0)
           ∙ any-miss at (members (byte (l .left))) (some i) (sym (o .locked-on .ensures ∙ ap at (f .first-member .ensures .0)) ∙ e .if1 .left) ∙ l .inv .1,
     )
 
@@ -72,7 +72,7 @@ returns-2 c =
     let l = c .before .loop in
     let s = c .before .before .before in
     let a = s .args in
-    sym (ap (any (lockedAt (a .image .now) (a .tran .0) (a .rec .0))) (no-members (l .left) (c .loop-test .left)))
+    sym (ap (anyIn (lockedAt (a .image .now) (a .tran .0) (a .rec .0))) (no-members (l .left) (c .loop-test .left)))
     ∙ l .inv .1 ∙ locked-out-is (a .image .now) (a .tran .0) (a .rec .0) (s .pre .0 .1) (a .holders) (s .pre .1)
 
 pub locked-out-spec : {M : Type 1} → statement M

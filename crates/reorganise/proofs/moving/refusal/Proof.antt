@@ -8,7 +8,7 @@ use mathlib.Core.List.{List}
 use mathlib.Core.Path.{_∙_, _≡_, ap, refl}
 use native.Mathlib.Omega.{arith}
 use Rattle.image.specs.Layout.{blockSize}
-use Rattle.slot.specs.Blocks.{anyLocked, ofList}
+use Rattle.slot.specs.Blocks.{someLocked, ofList}
 use Rattle.method.specs.Rules.{move, row}
 use Rattle.control.specs.ControlBytes.{Part}
 use Rattle.promise.specs.Given.{rowsOn}
@@ -74,7 +74,7 @@ lent h =
     midOf t (t + blockSize - t) (d .before .before .before .before .before .before .args .image .now)
 
 -- rows 11 and 12 by the tests of it
-rows : (h : tie.After-is-held) (locked : Bool) → locked ≡ anyLocked (ofList (lent h))
+rows : (h : tie.After-is-held) (locked : Bool) → locked ≡ someLocked (ofList (lent h))
     → let a = h .before .before .before .before .before .before .before .before .args in row 11 (not (h .is-held .result)) (row 12 locked 0) ≡ rowsOn (move (a .card .0) (a .block .0)) (a .image .now)
 rows h locked e =
     let d = h .before .before in
@@ -86,7 +86,7 @@ rows h locked e =
     t (d .block-address .ensures) (t + blockSize - t) (omega arith) (h .is-held .result) locked (h .is-held .ensures) e
 
 returns-3 : tie.Need-returns-3
-returns-3 c = let h = c .before in rw (not-true (h .is-held .result) (c .if3 .taken)) at (rows h (anyLocked (ofList (lent h))) refl)
+returns-3 c = let h = c .before in rw (not-true (h .is-held .result) (c .if3 .taken)) at (rows h (someLocked (ofList (lent h))) refl)
 
 sub-any-locked : tie.Need-sub-any-locked
 sub-any-locked c = search needs

@@ -1,11 +1,10 @@
--- All blocks before b are settled, two more at each turn; the place in the table of sites goes round with b. Assumes nothing.
+-- All blocks before b are settled, two more at each turn. Assumes nothing.
 use Prim.Native.Nat.{_%_, _+_, _-_, _<_, _≤_, ℕ}
 use borrow.Author.Needs.{needs}
 use borrow.Author.Tests.{not-false, not-true}
 use lib.ListN.{getD}
 use mathlib.Core.Bool.{Bool, true}
 use mathlib.Core.Path.{_∙_, _≡_, ap, refl, sym}
-use native.Mathlib.Nat.{zero-mod}
 use native.Mathlib.Omega.{arith}
 use Rattle.lists.specs.Tests.{allBelow}
 use Rattle.lists.proofs.Counts.{all-more}
@@ -17,26 +16,25 @@ use Rattle.cabinet_rules.specs.Images.{controlIn}
 use Rattle.promise.specs.Given.{viewOf}
 use Rattle.promise.proofs.Finish.{given-whole}
 use Rattle.trail.specs.Trail.{holdsAt}
-use Rattle.method.specs.BlockMoves.{settledBy}
-use Rattle.reorganise.proofs.Looks.{newest-at, newest-counts, newest-fits, newest-next, newest-usable}
+use Rattle.method.specs.Rules.{settledBy}
+use Rattle.reorganise.proofs.Looks.{newest-usable}
 use Rattle.reorganise.proofs.Settles.{all-pass, block-is-settled, some-fails}
 use Rattle.reorganise.proofs.settling.settled.Statement.{statement}
 use Rattle.reorganise.proofs.settling.settled.Tie as tie
 
 abbrev Inv-loop : tie.InvT-loop
-Inv-loop image k table place₀ b₀ place b = (b ≤ blockCount) × (b % 2 ≡ 0) × (place ≡ b % table .count)
-    × (allBelow b (settledAt cabinet (controlIn image) (viewOf image)) ≡ true)
+Inv-loop image k sites b₀ b = (b ≤ blockCount) × (b % 2 ≡ 0) × (allBelow b (settledAt cabinet (controlIn image) (viewOf image)) ≡ true)
 
 abbrev μ-loop : tie.MeasureT-loop
-μ-loop image k table place₀ b₀ place b = blockCount - b
+μ-loop image k sites b₀ b = blockCount - b
 
-newest-table-requires : tie.Need-newest-table-requires Inv-loop μ-loop
-newest-table-requires c κs =
+newest-masks-requires : tie.Need-newest-masks-requires Inv-loop μ-loop
+newest-masks-requires c κs =
     let s = c .before in
     (s .pre .is .counted, newest-usable (s .args .k) (s .args .image .now) (s .pre))
 
 loop-holds : tie.Need-loop-holds Inv-loop μ-loop
-loop-holds c = (omega arith, refl, sym (zero-mod _), refl)
+loop-holds c = (omega arith, refl, refl)
 
 cast-block-settled : tie.Need-cast-block-settled Inv-loop μ-loop
 cast-block-settled c = search needs
@@ -48,40 +46,20 @@ both i = let e : i .before .loop .b % 2 ≡ 0 = i .before .loop .inv .1 in omega
 held-by-two-requires : tie.Need-held-by-two-requires Inv-loop μ-loop
 held-by-two-requires c κs = let h = both c in (given-whole (c .before .before .before .before .pre), omega (arith, h))
 
--- A place is one of the table's.
-module _ (l : tie.At-loop Inv-loop μ-loop) (b place : ℕ) (at : place ≡ b % l .before .newest-table .result .count) where
-  counts : place < l .before .newest-table .result .count
-  counts =
-      let s = l .before .before .before in
-      newest-counts (s .args .k) (s .args .image .now) (s .pre) (l .before .newest-table .ensures) b place at
-
-  fits : place < cardCount
-  fits =
-      let s = l .before .before .before in
-      newest-fits (s .args .k) (s .args .image .now) (s .pre) (l .before .newest-table .ensures) b place at
-
-  after : (next : ℕ) → next ≡ (place + 1) % l .before .newest-table .result .count → next ≡ (b + 1) % l .before .newest-table .result .count
-  after =
-      let s = l .before .before .before in
-      newest-next (s .args .k) (s .args .image .now) (s .pre) (l .before .newest-table .ensures) b place at
-
-  -- what is found of a block there is what the rules say of it
-  found : (held : ℕ) (r : Bool) → b < blockCount → AreMembers held (holdsAt (l .before .before .before .args .image .now) (byte (l .before .before .before .args .k .working)) b)
-      → r ≡ settledBy cardCount (members (byte (getD (l .before .newest-table .result .masks) place 0))) (hasCard (byte held))
-      → r ≡ settledAt cabinet (controlIn (l .before .before .before .args .image .now)) (viewOf (l .before .before .before .args .image .now)) b
-  found held r h m e =
-      let s = l .before .before .before in
-      e ∙ block-is-settled (s .args .k) (s .args .image .now) (s .pre) b held (getD (l .before .newest-table .result .masks) place 0) h m
-      (newest-at (s .args .k) (s .args .image .now) (s .pre) (l .before .newest-table .ensures) b place at)
-
-cast-block-settled-2 : tie.Need-cast-block-settled-2 Inv-loop μ-loop
-cast-block-settled-2 c = let l = c .before .before in let h = fits l (l .loop .b) (l .loop .place) (l .loop .inv .2) in omega (arith, h)
-
 element-copy-out-block-settled : tie.Need-element-copy-out-block-settled Inv-loop μ-loop
-element-copy-out-block-settled c = let l = c .before .before in let h = fits l (l .loop .b) (l .loop .place) (l .loop .inv .2) in omega (arith, h)
+element-copy-out-block-settled c = c .before .loop-test .taken
 
 block-settled-requires : tie.Need-block-settled-requires Inv-loop μ-loop
 block-settled-requires c κs = search needs
+
+-- What is found of a block is what the rules say of it.
+found : (l : tie.At-loop Inv-loop μ-loop) (b held : ℕ) (r : Bool) → b < blockCount
+    → AreMembers held (holdsAt (l .before .before .before .args .image .now) (byte (l .before .before .before .args .k .working)) b)
+    → r ≡ settledBy cardCount (members (byte (getD (l .before .newest-masks .result .masks) b 0))) (hasCard (byte held))
+    → r ≡ settledAt cabinet (controlIn (l .before .before .before .args .image .now)) (viewOf (l .before .before .before .args .image .now)) b
+found l b held r h m e =
+    let s = l .before .before .before in
+    e ∙ block-is-settled (s .args .k) (s .args .image .now) (s .pre) b held (getD (l .before .newest-masks .result .masks) b 0) h m (l .before .newest-masks .ensures b h)
 
 first-found : (t : tie.After-block-settled Inv-loop μ-loop) → let l = t .before .before .before .before in let g = l .before .before .before .args .image .now in
     t .block-settled .result ≡ settledAt cabinet (controlIn g) (viewOf g) (l .loop .b)
@@ -89,7 +67,7 @@ first-found t =
     let h = t .before .before in
     let i = h .before in
     let l = i .before in
-    found l (l .loop .b) (l .loop .place) (l .loop .inv .2) (h .held-by-two .result .first) (t .block-settled .result) (i .loop-test .taken) (h .held-by-two .ensures .0) (t .block-settled .ensures)
+    found l (l .loop .b) (h .held-by-two .result .first) (t .block-settled .result) (i .loop-test .taken) (h .held-by-two .ensures .0) (t .block-settled .ensures)
 
 returns : tie.Need-returns Inv-loop μ-loop
 returns c =
@@ -99,48 +77,30 @@ returns c =
     let g = l .before .before .before .args .image .now in
     some-fails (controlIn g) (viewOf g) (l .loop .b) (i .loop-test .taken) (sym (first-found t) ∙ not-true _ (c .if1 .taken))
 
-next-place-requires : tie.Need-next-place-requires Inv-loop μ-loop
-next-place-requires c κs = let l = c .before .before .before .before .before in counts l (l .loop .b) (l .loop .place) (l .loop .inv .2)
-
--- The place of the second block.
-next-is : (n : tie.After-next-place Inv-loop μ-loop) → let l = n .before .before .before .before .before .before in
-    n .next-place .result ≡ (l .loop .b + 1) % l .before .newest-table .result .count
-next-is n = let l = n .before .before .before .before .before .before in after l (l .loop .b) (l .loop .place) (l .loop .inv .2) (n .next-place .result) (n .next-place .ensures)
-
-next-fits : (n : tie.After-next-place Inv-loop μ-loop) → n .next-place .result < cardCount
-next-fits n = let l = n .before .before .before .before .before .before in fits l (l .loop .b + 1) (n .next-place .result) (next-is n)
-
-cast-block-settled-3 : tie.Need-cast-block-settled-3 Inv-loop μ-loop
-cast-block-settled-3 c = let h = next-fits c in omega (arith, h)
+add-block-settled : tie.Need-add-block-settled Inv-loop μ-loop
+add-block-settled c = search needs
 
 element-copy-out-block-settled-2 : tie.Need-element-copy-out-block-settled-2 Inv-loop μ-loop
-element-copy-out-block-settled-2 c = let h = next-fits c in omega (arith, h)
+element-copy-out-block-settled-2 c = both (c .before .before .before .before)
 
 block-settled-requires-2 : tie.Need-block-settled-requires-2 Inv-loop μ-loop
 block-settled-requires-2 c κs = search needs
 
-second-found : (u : tie.After-block-settled2 Inv-loop μ-loop) → let l = u .before .before .before .before .before .before .before .before in let g = l .before .before .before .args .image .now in
+second-found : (u : tie.After-block-settled2 Inv-loop μ-loop) → let l = u .before .before .before .before .before .before .before in let g = l .before .before .before .args .image .now in
     u .block-settled2 .result ≡ settledAt cabinet (controlIn g) (viewOf g) (l .loop .b + 1)
 second-found u =
-    let n = u .before .before in
-    let h = n .before .before .before .before in
+    let h = u .before .before .before .before .before in
     let i = h .before in
     let l = i .before in
-    found l (l .loop .b + 1) (n .next-place .result) (next-is n) (h .held-by-two .result .second) (u .block-settled2 .result) (both i) (h .held-by-two .ensures .1) (u .block-settled2 .ensures)
+    found l (l .loop .b + 1) (h .held-by-two .result .second) (u .block-settled2 .result) (both i) (h .held-by-two .ensures .1) (u .block-settled2 .ensures)
 
 returns-2 : tie.Need-returns-2 Inv-loop μ-loop
 returns-2 c =
     let u = c .before in
-    let i = u .before .before .before .before .before .before .before in
+    let i = u .before .before .before .before .before .before in
     let l = i .before in
     let g = l .before .before .before .args .image .now in
     some-fails (controlIn g) (viewOf g) (l .loop .b + 1) (both i) (sym (second-found u) ∙ not-true _ (c .if2 .taken))
-
-next-place-requires-2 : tie.Need-next-place-requires-2 Inv-loop μ-loop
-next-place-requires-2 c κs =
-    let n = c .before .before .before in
-    let l = n .before .before .before .before .before .before in
-    counts l (l .loop .b + 1) (n .next-place .result) (next-is n)
 
 add-b : tie.Need-add-b Inv-loop μ-loop
 add-b c = search needs
@@ -150,10 +110,8 @@ loop-less c = search needs
 
 loop-again : tie.Need-loop-again Inv-loop μ-loop
 loop-again c =
-    let e = c .before in
-    let u = e .before in
-    let n = u .before .before in
-    let d = n .before in
+    let u = c .before in
+    let d = u .before .before in
     let t = d .before in
     let i = t .before .before .before in
     let l = i .before in
@@ -164,16 +122,15 @@ loop-again c =
     let all : ℕ → Bool = settledAt cabinet (controlIn g) (viewOf g) in (
       omega (arith, h),
       omega (arith, even),
-      after l (l .loop .b + 1) (n .next-place .result) (next-is n) (c .next-place2 .result) (c .next-place2 .ensures) ∙ ap (λ (x : ℕ). x % l .before .newest-table .result .count) two,
-      ap (λ (x : ℕ). allBelow x all) (sym two) ∙ all-more all (l .loop .b + 1) (sym (second-found u) ∙ not-false _ (e .if2 .left))
-          (all-more all (l .loop .b) (sym (first-found t) ∙ not-false _ (d .if1 .left)) (l .loop .inv .3)),
+      ap (λ (x : ℕ). allBelow x all) (sym two) ∙ all-more all (l .loop .b + 1) (sym (second-found u) ∙ not-false _ (c .if2 .left))
+          (all-more all (l .loop .b) (sym (first-found t) ∙ not-false _ (d .if1 .left)) (l .loop .inv .2)),
     )
 
 returns-3 : tie.Need-returns-3 Inv-loop μ-loop
 returns-3 c =
     let l = c .before in
     let g = l .before .before .before .args .image .now in
-    all-pass (controlIn g) (viewOf g) (l .loop .b) (omega arith) (l .loop .inv .3)
+    all-pass (controlIn g) (viewOf g) (l .loop .b) (omega arith) (l .loop .inv .2)
 
 pub settled-spec : {M : Type 1} → statement M
 settled-spec =
@@ -181,20 +138,17 @@ settled-spec =
     (tie.spec
     Inv-loop
     μ-loop
-    newest-table-requires
+    newest-masks-requires
     loop-holds
     cast-block-settled
     held-by-two-requires
-    cast-block-settled-2
     element-copy-out-block-settled
     block-settled-requires
     returns
-    next-place-requires
-    cast-block-settled-3
+    add-block-settled
     element-copy-out-block-settled-2
     block-settled-requires-2
     returns-2
-    next-place-requires-2
     add-b
     loop-less
     loop-again

@@ -1,10 +1,10 @@
--- The table of sites, as the code makes it, is that of the placement. Assumes nothing.
-use mathlib.Core.Path.{_≡_, refl, sym, ap, _∙_}
-use mathlib.Core.Bool.{Bool, true, false, _||_, cond}
+-- The masks of sites, as the code makes them, are those of the placement. Assumes nothing.
+use mathlib.Core.Path.{_≡_, refl, sym, ap, fun-ext, _∙_}
+use mathlib.Core.Bool.{Bool, true, false, not, _&&_, _||_, and-false, and-true, cond}
 use mathlib.Core.List.{List, [], _∷_}
 use mathlib.Core.Logic.{_≢_, _⊎_, inl, inr}
-use Prim.Native.Nat.{ℕ, _+_, _%_, _≤_, _<_}
-use native.Mathlib.Nat.{add-zero, mod-add-mod, mod-eq-of-lt, mod-lt, mod-self}
+use Prim.Native.Nat.{ℕ, suc, zero, _+_, _-_, _%_, _≤_, _<_}
+use native.Mathlib.Nat.{add-mod-right, add-zero, zero-add, mod-eq-of-lt, mod-self}
 use native.Mathlib.Omega.{arith}
 use lib.Bits.{bitAnd}
 use lib.Count.{leadingZeros}
@@ -12,17 +12,18 @@ use lib.Dec.{eqb}
 use lib.ListN.{List·getD-eq-default, drop, getD, length, length-drop, set}
 use lib.Seq.{drop-drop, getD-drop, getD-set-other, getD-set-same}
 use borrow.Author.Tests.{eq-eqb, lt-ltb, ne-eqb}
-use Rattle.lists.specs.Tests.{elem}
+use Rattle.lists.specs.Tests.{allBelow, countBelow, countNot, distinct, elem, oneIf}
+use Rattle.lists.proofs.Bools.{and-l, and-r, eqb-self, not-is, or-l, or-r, split}
 use Rattle.lists.proofs.Cases.{by-eq, lt-or-ge}
+use Rattle.lists.proofs.Counts.{but, count-but}
 use Rattle.lists.proofs.Lists.{any-default}
 use Rattle.image.specs.Layout.{cardCount, copyCount}
 use Rattle.mask.specs.Masks.{AreMembers, Byte, byte, hasCard, members, size, withCard}
-use Rattle.mask.specs.Placements.{Placement, Usable, memberAt, otherRail, sitesOf}
-use Rattle.mask.specs.SiteTable.{SitesIn, isSite}
-use Rattle.mask.specs.declared.site_table.SiteTable.{SiteTable}
+use Rattle.mask.specs.Placements.{Placement, isSite, memberAt, otherRail, sitesOf}
+use Rattle.mask.specs.SiteMasks.{MasksBelow}
 use Rattle.mask.proofs.FirstMember.{first-is, some-members}
-use Rattle.mask.proofs.Masks.{has-none, has-with, size-members}
-use Rattle.mask.proofs.SiteLaws.{site-round, sites-found, size-le}
+use Rattle.mask.proofs.Masks.{elem-members, every-mask, has-card, has-none, has-with}
+use Rattle.mask.proofs.SiteLaws.{site-round, sites-found}
 
 -- ---- two cards
 pub pair-is : (a b m r : ℕ) → a < cardCount → b < cardCount → byte m ≡ withCard (byte 0) a → byte r ≡ withCard (byte m) b → AreMembers r (λ c. elem c (a ∷ b ∷ []))
@@ -86,34 +87,56 @@ module _ (n : ℕ) (rails : Bool) (left first across : ℕ) (small : n < 256) (u
       → AreMembers r (isSite placement i)
   entry-next z rest t s = entry (s ∙ ap (λ (l : List ℕ). getD l 0 (getD (members (byte n)) 0 0)) t ∙ next-left (byte n) i left from some ∙ sym (rw (eq-eqb across 0 z)))
 
--- ---- a list of masks, entry by entry
-abbrev pub MasksBelow : (ℕ → ℕ → Bool) → List ℕ → ℕ → Type 0
-MasksBelow f masks n = (j : ℕ) → j < n → AreMembers (getD masks j 0) (f j)
-
+-- ---- a list of masks, block by block
 pub masks-more : (f : ℕ → ℕ → Bool) (masks : List ℕ) (n r : ℕ) → n < length masks → MasksBelow f masks n → AreMembers r (f n) → MasksBelow f (set masks n r) (n + 1)
 masks-more f masks n r long below m j h c = by-eq (hasCard (byte (getD (set masks n r) j 0)) c ≡ f j c) j n
     (λ e. rw (e, getD-set-same masks n r 0 long) (m c))
     (λ d. rw (getD-set-other masks n j r 0 d) (below j (omega arith) c))
 
--- ---- the table
-pub table-is : (t : SiteTable) (p : Placement) → Usable p → t .count ≡ length (members (p .mask)) → MasksBelow (isSite p) (t .masks) (t .count) → SitesIn t p
-table-is t p u e below = record {
-  count-is = e ∙ size-members (p .mask);
-  entry-is = λ b c. below (b % t .count) (mod-lt b (omega (arith, u, e, size-members (p .mask)))) c
-      ∙ ap (elem c) (ap (λ (n : ℕ). sitesOf p (b % n)) e ∙ site-round p b);
-}
+-- the sites of a block are those of the block a round before it
+pub masks-again : (p : Placement) (masks : List ℕ) (n b : ℕ) → n ≡ length (members (p .mask)) → 0 < n → n ≤ b → MasksBelow (isSite p) masks b
+    → AreMembers (getD masks (b - n) 0) (isSite p b)
+masks-again p masks n b e some h below c = below (b - n) (omega arith) c ∙ ap (elem c) (sym (site-round p (b - n)) ∙ ap (sitesOf p) same ∙ site-round p b)
+  where
+    same : (b - n) % length (members (p .mask)) ≡ b % length (members (p .mask))
+    same = rw (sym e) (sym (add-mod-right (b - n) n) ∙ ap (λ (i : ℕ). i % n) (omega arith))
 
--- The place of block b in it, and of the block after.
-module _ {t : SiteTable} {p : Placement} (u : Usable p) (is : SitesIn t p) (b place : ℕ) (at : place ≡ b % t .count) where
-  pub place-counts : place < t .count
-  place-counts = rw at (mod-lt b (omega (arith, u, is .count-is)))
+-- ---- how many cards of a mask, or of a list of different cards, the test does not pick
+count-list : (n : ℕ) (f : ℕ → Bool) (l : List ℕ) → distinct l ≡ true → ((x : ℕ) → elem x l ≡ true → x < n) → countBelow n (λ c. elem c l && not (f c)) ≡ countNot f l
+count-list n f [] d cards = none n
+  where
+    none : (n : ℕ) → countBelow n (λ c. false) ≡ 0
+    none zero = refl
+    none (suc n) = zero-add (countBelow n (λ c. false)) ∙ none n
+count-list n f (x ∷ l) d cards = go (count-list n f l (and-r (not (elem x l)) (distinct l) d) (λ y h. cards y (or-r (eqb y x) (elem y l) h))) (split (f x))
+  where
+    apart : elem x l ≡ false
+    apart = not-is (elem x l) (and-l (not (elem x l)) (distinct l) d)
 
-  pub place-fits : place < cardCount
-  place-fits = omega (arith, place-counts, is .count-is, size-le (p .mask))
+    -- card x is not picked
+    kept : f x ≡ true → (c : ℕ) → ((eqb c x || elem c l) && not (f c)) ≡ (elem c l && not (f c))
+    kept on c = by-eq (((eqb c x || elem c l) && not (f c)) ≡ (elem c l && not (f c))) c x
+        (λ e. rw (e, eqb-self x, apart, on))
+        (λ n. rw (ne-eqb c x n))
 
-  pub place-next : (next : ℕ) → next ≡ (place + 1) % t .count → next ≡ (b + 1) % t .count
-  place-next next e = e ∙ ap (λ (i : ℕ). (i + 1) % t .count) at ∙ mod-add-mod b (t .count) 1
+    -- and without card x
+    others : (c : ℕ) → but (λ c. (eqb c x || elem c l) && not (f c)) x c ≡ (elem c l && not (f c))
+    others c = by-eq (but (λ c. (eqb c x || elem c l) && not (f c)) x c ≡ (elem c l && not (f c))) c x
+        (λ e. rw (e, eqb-self x, apart) (and-false (not (f x))))
+        (λ n. rw (ne-eqb c x n) (and-true (elem c l && not (f c))))
 
-  -- what stands there are its sites
-  pub sites-at : AreMembers (getD (t .masks) place 0) (isSite p b)
-  sites-at = rw at (is .entry-is b)
+    go : countBelow n (λ c. elem c l && not (f c)) ≡ countNot f l → (f x ≡ true) ⊎ (f x ≡ false) → countBelow n (λ c. (eqb c x || elem c l) && not (f c)) ≡ oneIf (not (f x)) + countNot f l
+    go rest (inl on) = ap (countBelow n) (fun-ext (kept on)) ∙ rest ∙ rw on (sym (zero-add (countNot f l)))
+    go rest (inr off) = count-but n (λ c. (eqb c x || elem c l) && not (f c)) x (rw (eqb-self x, off)) (cards x (or-l (eqb x x) (elem x l) (eqb-self x)))
+        ∙ ap suc (ap (countBelow n) (fun-ext others) ∙ rest) ∙ rw off (omega arith)
+
+test-members : allBelow 256 (λ n. distinct (members (byte n))) ≡ true
+unfolding members hasCard
+test-members = refl
+
+-- by its members or by the list, in whatever order
+pub count-members : (m : ℕ) (l : List ℕ) (f : ℕ → Bool) → distinct l ≡ true → AreMembers m (λ c. elem c l) → countNot f (members (byte m)) ≡ countNot f l
+count-members m l f d are =
+    sym (count-list cardCount f (members (byte m)) (every-mask (λ x. distinct (members x)) test-members (byte m)) (λ x h. has-card (byte m) x (sym (elem-members (byte m) x) ∙ h)))
+    ∙ ap (countBelow cardCount) (fun-ext (λ c. ap (λ (t : Bool). t && not (f c)) (elem-members (byte m) c ∙ are c)))
+    ∙ count-list cardCount f l d (λ x h. has-card (byte m) x (are x ∙ h))

@@ -1,13 +1,13 @@
--- The proof of `site_table::sites_from`. Assumes nothing.
+-- The first of the members that are left, and the second site that the code finds to it. Assumes nothing.
 use Prim.Native.Nat.{_<_}
 use native.Mathlib.Omega.{arith}
 use borrow.Author.Needs.{needs}
 use Rattle.mask.specs.Masks.{byte}
 use Rattle.mask.proofs.FirstMember.{some-members}
 use Rattle.mask.proofs.Masks.{size-members}
-use Rattle.mask.proofs.SiteTables.{entry-across, entry-next}
-use Rattle.mask.proofs.site_table.sites_from.Statement.{statement}
-use Rattle.mask.proofs.site_table.sites_from.Tie as tie
+use Rattle.mask.proofs.SiteMasks.{entry-across, entry-next}
+use Rattle.mask.proofs.site_masks.sites_from.Statement.{statement}
+use Rattle.mask.proofs.site_masks.sites_from.Tie as tie
 
 -- The mask is a byte.
 small : (s : tie.Start) → s .args .placement .mask < 256

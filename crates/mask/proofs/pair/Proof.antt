@@ -1,8 +1,8 @@
--- The proof of `site_table::pair`. Assumes nothing.
+-- One card and then the other is put into the empty mask. Assumes nothing.
 use borrow.Author.Needs.{needs}
-use Rattle.mask.proofs.SiteTables.{pair-is}
-use Rattle.mask.proofs.site_table.pair.Statement.{statement}
-use Rattle.mask.proofs.site_table.pair.Tie as tie
+use Rattle.mask.proofs.SiteMasks.{pair-is}
+use Rattle.mask.proofs.pair.Statement.{statement}
+use Rattle.mask.proofs.pair.Tie as tie
 
 with-card-requires : tie.Need-with-card-requires
 with-card-requires c κs = search needs
