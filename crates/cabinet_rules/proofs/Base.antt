@@ -9,9 +9,10 @@ use Rattle.image.specs.Layout.{valueBound}
 use Rattle.mask.specs.Masks.{Byte}
 use Rattle.mask.specs.Placements.{chainedSites, olderFromMask, sitesOf}
 use Rattle.mask.proofs.SiteLaws.{site-count, site-distinct, site-member}
+use Rattle.method.specs.ControlPart.{partBy}
 use Rattle.control.specs.ControlBytes.{controlByte, marksAt, marksFrom}
 use Rattle.cabinet_rules.specs.Delivery.{PartOf, twoRails}
-use Rattle.cabinet_rules.specs.Retired.{base, beforeMarks, partBy}
+use Rattle.cabinet_rules.specs.Retired.{base, beforeMarks}
 use Rattle.cabinet_rules.specs.GoesOn.{fromBase}
 use Rattle.cabinet_rules.proofs.GoesOn.{Carries, carries-same}
 use Rattle.cabinet_rules.proofs.Lawful.{DeliveryLaws, RuleLaws, mask-few, mask-members, mask-working, no-stamps, not-numbered}
@@ -48,13 +49,13 @@ no-marks : (l : List Byte) (m : Byte) (i : ℕ) → marksFrom i (map olderFromMa
 no-marks [] m i = refl
 no-marks (x ∷ l) m i = ap (λ (n : ℕ). 0 + n) (no-marks l m (suc i))
 
-marks-zero : (k : PartOf base) (n : ℕ) → eqb n marksAt ≡ true → 0 ≡ controlByte (partBy olderFromMask (λ ν. ν) k) n
+marks-zero : (k : PartOf base) (n : ℕ) → eqb n marksAt ≡ true → 0 ≡ controlByte (partBy olderFromMask (λ σ. σ) (λ ν. ν) k) n
 unfolding controlByte
 marks-zero k n e = rw (eqb-true n marksAt e) (sym (no-marks (k .older) (k .newest) 0))
 
 -- A.1 writes of an older control part what the base wrote
 same-bytes : (k : PartOf base) (n : ℕ) → (a : Bool) → eqb n marksAt ≡ a
-    → cond a 0 (controlByte (partBy olderFromMask (λ ν. ν) k) n) ≡ controlByte (partBy olderFromMask (λ ν. ν) k) n
+    → cond a 0 (controlByte (partBy olderFromMask (λ σ. σ) (λ ν. ν) k) n) ≡ controlByte (partBy olderFromMask (λ σ. σ) (λ ν. ν) k) n
 same-bytes k n true e = marks-zero k n e
 same-bytes k n false e = refl
 

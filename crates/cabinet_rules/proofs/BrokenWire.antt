@@ -17,7 +17,7 @@ use Rattle.method.specs.Rules.{isStart, Answer, Call, Plan, View, act, anyLocke
 use Rattle.method.specs.Rules.{fail, fit, get, holders, isProtected, layBlock, load, lockHolders, lockedOut, look, lostOf}
 use Rattle.method.specs.Rules.{clearStamp, stampAll, stamped}
 use Rattle.method.specs.Rules.{move, moveWrites, place, refusal, refused, rollback, row, seenSlot, settle, settled}
-use Rattle.method.specs.Rules.{start, state, stopping, store, trail, withdraw}
+use Rattle.method.specs.Rules.{start, state, stopping, store, trail, withdraw, unlessRefused}
 use Rattle.method.specs.Slots.{isNone, readBy}
 use Rattle.control.specs.ControlBytes.{Part}
 use Rattle.control_form.specs.ControlForm.{formRowsOf}
@@ -25,7 +25,7 @@ use Rattle.cabinet_rules.specs.BrokenWire.{BrokenWireRefused, ElseAsBefo
 use Rattle.cabinet_rules.specs.Cabinet.{placeRows, rulesOf, tranOk}
 use Rattle.cabinet_rules.specs.Delivery.{anyValue, belowWire, brokenWire, storable, twoRails}
 use Rattle.cabinet_rules.specs.Images.{Image, after, answerBy, controlBy, nextBy, planBy, refusalBy, stateBy}
-use Rattle.cabinet_rules.specs.Images.{afterPlan, formBy, unlessRefusedImage}
+use Rattle.cabinet_rules.specs.Images.{afterPlan, formBy}
 
 -- The rules of A.5, and of the delivery before.
 abbrev since : Parameters
@@ -107,7 +107,7 @@ unfolding ElseAsBefore answerBy nextBy
 else-as-before c d g =
     let p = same-planned c d g in (
       ap₂ (orRefused since) (same-refusal c d g) (p .0) ∙ same-refused (refusalBy twoRails c g) (planBy twoRails c g .answer),
-      ap₂ (λ (n : ℕ) (x : Image). unlessRefusedImage n g x) (same-refusal c d g) (λ i. afterPlan belowWire (record { answer = p .0 i; after = p .1 i; write = p .2 i; stamps = p .3 i }) g),
+      ap₂ (λ (n : ℕ) (x : Image). unlessRefused n g x) (same-refusal c d g) (λ i. afterPlan belowWire (record { answer = p .0 i; after = p .1 i; write = p .2 i; stamps = p .3 i }) g),
     )
 
 -- ---- a store of 65,535
@@ -120,7 +120,7 @@ unfolding refusalBy refusal
 wire-rows t r g = rw (never (tranOk t && ltb r recordCount))
 
 always-refused : (a b : Bool) (x : Answer since) (g y : Image)
-    → (orRefused since (row 1 a (row 2 b 3)) x ≡ refused (row 1 a (row 2 b 3))) × (unlessRefusedImage (row 1 a (row 2 b 3)) g y ≡ g)
+    → (orRefused since (row 1 a (row 2 b 3)) x ≡ refused (row 1 a (row 2 b 3))) × (unlessRefused (row 1 a (row 2 b 3)) g y ≡ g)
 always-refused true b x g y = (refl, refl)
 always-refused false true x g y = (refl, refl)
 always-refused false false x g y = (refl, refl)

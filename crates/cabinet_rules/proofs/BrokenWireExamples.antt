@@ -11,7 +11,7 @@ use Rattle.mask.specs.Placements.{acrossRails, memberAt, membersAfter, railSite
 use Rattle.slot.specs.Blocks.{endSlots, endedByte, isHeld, lockSlot, putSlot, wordAt}
 use Rattle.slot.specs.Words.{slotOf, wordOf}
 use Rattle.method.specs.Rules.{settledBy}
-use Rattle.method.specs.Growth.{plainAfter, rulesAfter}
+use Rattle.method.specs.OneRecordList.{plainAfter, rulesAfter}
 use Rattle.method.specs.OneRecordList.{Observation, client, plainObserve, quiet, runPlain, settleAccepted}
 use Rattle.method.specs.Parameters.{Parameters}
 use Rattle.method.specs.PlainList.{plainAct, plainNext, plainRefusal}

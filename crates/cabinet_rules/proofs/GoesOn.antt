@@ -21,7 +21,7 @@ use Rattle.method.proofs.Legal.{Legal}
 use Rattle.method.proofs.Run.{Ready}
 use Rattle.cabinet_rules.specs.Cabinet.{rulesOf}
 use Rattle.cabinet_rules.specs.Delivery.{Delivery, PartOf}
-use Rattle.cabinet_rules.specs.GoesOn.{BegunBy, ImageLeftBy, LeftBy, StoreBy, Succession, TakenOver, growthOf}
+use Rattle.cabinet_rules.specs.GoesOn.{BegunBy, ImageLeftBy, LeftBy, StoreBy, Succession, TakenOver, partNow}
 use Rattle.cabinet_rules.specs.Images.{Image, blockBy, controlBy, endBy, isThere, stateBy, tailBy}
 use Rattle.cabinet_rules.proofs.Lawful.{DeliveryLaws, lawfulBy}
 use Rattle.cabinet_rules.proofs.Noisy.{WroteIn}
@@ -56,30 +56,61 @@ module _ (D : Delivery) (W : DeliveryLaws D) where
 
 -- ---- a later delivery goes on
 module _ (E D : Delivery) (S : Succession E D) where
-  -- What E's control part is by D.
-  abbrev pub partNow : PartOf E → PartOf D
-  partNow k = grownControl (rulesOf E) (growthOf E D S) k
+  -- What D changes of the rules by E: they become the rules by D.
+  abbrev pub growthOf : Growth (rulesOf E)
+  growthOf = record {
+    Placement = Parameters.Placement (rulesOf D);
+    Setting = Parameters.Setting (rulesOf D);
+    Stamp = Parameters.Stamp (rulesOf D);
+    Serial = Parameters.Serial (rulesOf D);
+    firstSerial = Parameters.firstSerial (rulesOf D);
+    nextSerial = Parameters.nextSerial (rulesOf D);
+    numbered = Parameters.numbered (rulesOf D);
+    noStamp = Parameters.noStamp (rulesOf D);
+    stampOf = Parameters.stampOf (rulesOf D);
+    StartArgument = Parameters.StartArgument (rulesOf D);
+    PlaceArgument = Parameters.PlaceArgument (rulesOf D);
+    copies = Parameters.copies (rulesOf D);
+    blocks = Parameters.blocks (rulesOf D);
+    recInRange = Parameters.recInRange (rulesOf D);
+    valueInRange = Parameters.valueInRange (rulesOf D);
+    mask = Parameters.mask (rulesOf D);
+    sites = Parameters.sites (rulesOf D);
+    without = Parameters.without (rulesOf D);
+    usable = Parameters.usable (rulesOf D);
+    starts = Parameters.starts (rulesOf D);
+    startSetting = Parameters.startSetting (rulesOf D);
+    startRefusal = Parameters.startRefusal (rulesOf D);
+    places = Parameters.places (rulesOf D);
+    placeInRange = Parameters.placeInRange (rulesOf D);
+    placeRefusal = Parameters.placeRefusal (rulesOf D);
+    placeLimit = Parameters.placeLimit (rulesOf D);
+    older = S .older;
+    olderSetting = λ σ. σ;
+    olderSerial = S .olderSerial;
+    olderStamps = S .olderStamps;
+  }
 
   -- What is asked of a later delivery: an older placement keeps its cards and its sites, and serials still fit.
   pub record Follows : Type 0 where
     pub same-mask : (p : E .Placement) → D .mask (S .older p) ≡ E .mask p
     pub same-sites : (p : E .Placement) (b : ℕ) → D .sites (S .older p) b ≡ E .sites p b
     pub still-usable : (p : E .Placement) → E .usable p → D .usable (S .older p)
-    pub still-numbered : (k : PartOf E) → suc (length (k .older)) < mostPlaced + copyCount → E .numbered k → D .numbered (partNow k)
+    pub still-numbered : (k : PartOf E) → suc (length (k .older)) < mostPlaced + copyCount → E .numbered k → D .numbered (partNow E D S k)
 
   -- The stamp of a card as D has it.
   abbrev pub stampNow : Image → ℕ → D .memory .Stamp
-  stampNow g = S .olderStamps (partNow (controlBy E g)) (stateBy E g .stamp)
+  stampNow g = S .olderStamps (partNow E D S (controlBy E g)) (stateBy E g .stamp)
 
   -- What is asked of the image that D goes on with: of the right length, with the blocks of the earlier image, the control bytes of what
   -- the earlier control part is now, and its stamps; a card that is not there has none.
   pub record Carries (W : DeliveryLaws D) : Type 0 where
     pub long : (g : Image) → length g ≡ imageSizeOf (E .memory .layout) → length (S .carry g) ≡ imageSizeOf (D .memory .layout)
     pub wrote : (g : Image) (k : PartOf E) → length g ≡ imageSizeOf (E .memory .layout) → controlBy E g ≡ k → WroteIn E g k
-        → WroteIn D (S .carry g) (partNow k)
+        → WroteIn D (S .carry g) (partNow E D S k)
     pub blocks : (g : Image) (c b : ℕ) → c < cardCount → b < blockCount
         → blockBy (D .memory .layout) (S .carry g) c b ≡ blockBy (E .memory .layout) g c b
-    pub stamps : (g : Image) → Legal (rulesOf D) (lawfulBy D (W .rules)) (partNow (controlBy E g)) → (c : ℕ) → c < cardCount
+    pub stamps : (g : Image) → Legal (rulesOf D) (lawfulBy D (W .rules)) (partNow E D S (controlBy E g)) → (c : ℕ) → c < cardCount
         → D .memory .stampIn (endBy (D .memory .layout) (S .carry g) c) ≡ stampNow g c
     pub outside : (g : Image) (c : ℕ) → ltb c cardCount ≡ false → stampNow g c ≡ D .memory .noStamp
 

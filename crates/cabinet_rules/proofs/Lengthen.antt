@@ -10,10 +10,10 @@ use Rattle.image.specs.Layout.{blockCount, cardCount, controlSize, imageSizeOf}
 use Rattle.method.proofs.Legal.{Legal}
 use Rattle.cabinet_rules.specs.Cabinet.{rulesOf}
 use Rattle.cabinet_rules.specs.Delivery.{Delivery, PartOf}
-use Rattle.cabinet_rules.specs.GoesOn.{Succession}
+use Rattle.cabinet_rules.specs.GoesOn.{Succession, partNow}
 use Rattle.cabinet_rules.specs.Images.{Ends, Image, Writes, afterBy, blockBy, controlBy, endBy, tailBy}
 use Rattle.cabinet_rules.proofs.After.{after-block, after-control, after-end, after-tail, length-after}
-use Rattle.cabinet_rules.proofs.GoesOn.{Carries, partNow, stampNow}
+use Rattle.cabinet_rules.proofs.GoesOn.{Carries, stampNow}
 use Rattle.cabinet_rules.proofs.Lawful.{DeliveryLaws, ShowsStamp, lawfulBy}
 use Rattle.cabinet_rules.proofs.Noisy.{WroteIn}
 

@@ -6,9 +6,8 @@ use mathlib.Core.Bool.{Bool, cond, false, true}
 use mathlib.Core.List.{List, [], _∷_}
 use mathlib.Core.Path.{_∙_, _≡_, ap, ap₂, refl, subst, sym}
 use native.Mathlib.Omega.{arith}
-use Rattle.method.specs.Growth.{plainAfter, rulesAfter}
+use Rattle.method.specs.OneRecordList.{plainAfter, rulesAfter, zeroed}
 use Rattle.method.specs.MoveList.{Entry, ListAnswer, anyMoveLocked, asMove, listAnswer, listed, noList, notListed}
-use Rattle.method.specs.OneRecordList.{zeroed}
 use Rattle.method.specs.PlainList.{PlainList, plainStart}
 use Rattle.method.specs.Rules.{Answer, Call, State, View, look, refused, retired, settle, settled, start}
 use Rattle.method.proofs.MoveCounts.{fewest}

@@ -12,8 +12,7 @@ use Rattle.lists.proofs.Counts.{below-all, count-none, count-some}
 use Rattle.image.specs.Layout.{cardCount}
 use Rattle.mask.specs.Masks.{hasCard}
 use Rattle.mask.proofs.Masks.{has-card}
-use Rattle.method.specs.Growth.{plainAfter, rulesAfter}
-use Rattle.method.specs.OneRecordList.{isStop, zeroed}
+use Rattle.method.specs.OneRecordList.{plainAfter, rulesAfter, isStop, zeroed}
 use Rattle.method.specs.PlainList.{PlainList, orRefused, plainProtected, plainStart}
 use Rattle.method.specs.Protection.{ProtectedByFails, noFailStops, protection}
 use Rattle.method.specs.Rules.{Call, State, answerOf, fail, look, protected, refusal, start, state, stopping, unprotected}

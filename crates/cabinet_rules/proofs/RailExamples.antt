@@ -8,8 +8,8 @@ use Rattle.mask.specs.Placements.{acrossRails, chainedSites, memberAt, membersA
 use Rattle.slot.specs.Blocks.{endSlots, endedByte, isHeld, lockSlot, putSlot, wordAt}
 use Rattle.slot.specs.Words.{slotOf, wordOf}
 use Rattle.method.specs.Rules.{settledBy}
-use Rattle.method.specs.Growth.{grownState, rulesAfter}
-use Rattle.method.specs.OneRecordList.{zeroed}
+use Rattle.method.specs.Growth.{grownState}
+use Rattle.method.specs.OneRecordList.{rulesAfter, zeroed}
 use Rattle.method.specs.Rules.{Call, State, act, answerOf, anyLocked, apply, begin, clearCard, commit, dropHeld, endHeld}
 use Rattle.method.specs.Rules.{fail, get, holders, isProtected, layBlock, lockHolders, look, lostOf, move, moveWrites}
 use Rattle.method.specs.Rules.{nextState, place, plan, refusal, settle, settled, start, stopping, store, trail}
@@ -17,7 +17,8 @@ use Rattle.control.specs.ControlBytes.{controlByte}
 use Rattle.cabinet_rules.specs.Cabinet.{cabinet, placeRows, rulesOf, startRow}
 use Rattle.cabinet_rules.specs.Delivery.{belowWire, twoRails}
 use Rattle.cabinet_rules.specs.Retired.{base}
-use Rattle.cabinet_rules.specs.GoesOn.{fromBase, fromRails, growthOf}
+use Rattle.cabinet_rules.specs.GoesOn.{fromBase, fromRails}
+use Rattle.cabinet_rules.proofs.GoesOn.{growthOf}
 use Rattle.cabinet_rules.proofs.Examples.{answers, answersBy}
 
 -- An older store: the base's start with cards 0, 1, 4 and 5, and record 0, in block 0, stored as 4660 and committed.

@@ -10,7 +10,7 @@ use Rattle.lists.specs.Tests.{allBelow}
 use Rattle.lists.proofs.Bools.{and-in}
 use Rattle.lists.proofs.Counts.{all-below}
 use Rattle.image.specs.Layout.{controlSize}
-use Rattle.method.specs.ControlPart.{part}
+use Rattle.method.specs.ControlPart.{part, partBy}
 use Rattle.method.specs.Growth.{Growth}
 use Rattle.method.specs.Parameters.{Parameters}
 use Rattle.method.proofs.Capacity.{ControlInv}
@@ -20,9 +20,9 @@ use Rattle.method.proofs.Laws.{Laws}
 use Rattle.method.proofs.Stopped.{Rests}
 use Rattle.cabinet_rules.specs.Cabinet.{rulesOf}
 use Rattle.cabinet_rules.specs.Delivery.{Delivery, PartOf}
-use Rattle.cabinet_rules.specs.Retired.{Retirement, shownBytes, partBy, retiredBytes, retiredForm, retiredPart}
-use Rattle.cabinet_rules.specs.GoesOn.{Succession, growthOf}
-use Rattle.cabinet_rules.proofs.GoesOn.{Follows, keeps, partNow}
+use Rattle.cabinet_rules.specs.Retired.{Retirement, shownBytes, retiredBytes, retiredForm, retiredPart}
+use Rattle.cabinet_rules.specs.GoesOn.{Succession, partNow}
+use Rattle.cabinet_rules.proofs.GoesOn.{Follows, growthOf, keeps}
 use Rattle.cabinet_rules.proofs.Lawful.{ControlLaws, DeliveryLaws, RuleLaws, Wrote, lawfulBy}
 
 -- E is retired, D its successor.
@@ -98,7 +98,7 @@ map-back older back e (x ∷ l) = λ i. e x i ∷ map-back older back e l i
 
 module _ (E D : Delivery) (S : Succession E D) (R : Retirement (E .Placement) (E .Serial) (D .Placement) (D .Serial)) where
   abbrev old : PartOf E → PartOf D
-  old = partBy (R .older) (R .olderSerial)
+  old = partBy (R .older) (λ σ. σ) (R .olderSerial)
 
   -- What is asked: the memory is the construction's; what was told is told back; of an older control part D writes the filled bytes in those
   -- added, and zero behind the tables.
@@ -114,7 +114,7 @@ module _ (E D : Delivery) (S : Succession E D) (R : Retirement (E .Placement) (E
     pub no-tail : (k : PartOf E) (n : ℕ) → 0 ≡ D .memory .tail (old k) n
 
   module _ (O : Over) where
-    back-is : (k : PartOf E) → partBy (R .back) (R .backSerial) (old k) ≡ k
+    back-is : (k : PartOf E) → partBy (R .back) (λ σ. σ) (R .backSerial) (old k) ≡ k
     back-is k = λ i. part (k .stopped) (map-back (R .older) (R .back) (O .back-placement) (k .older) i) (O .back-placement (k .newest) i) (k .working)
         (k .failed) (k .home) (k .setting) (O .back-serial (k .serial) i)
 
@@ -141,8 +141,8 @@ module _ (E D : Delivery) (S : Succession E D) (R : Retirement (E .Placement) (E
     pub retired-over : Retired E D S
     retired-over = record {
       follows = O .follows;
-      back = partBy (R .back) (R .backSerial);
-      back-older = λ k. ap (partBy (R .back) (R .backSerial)) (sym (O .told k)) ∙ back-is k;
+      back = partBy (R .back) (λ σ. σ) (R .backSerial);
+      back-older = λ k. ap (partBy (R .back) (λ σ. σ) (R .backSerial)) (sym (O .told k)) ∙ back-is k;
       front = shownBytes (D .memory) R;
       behind = λ t n. 0;
       wrote = λ k g t w. record {

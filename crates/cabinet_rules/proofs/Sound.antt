@@ -5,8 +5,7 @@ use mathlib.Core.Bool.{false}
 use mathlib.Core.List.{List, [], _∷_}
 use mathlib.Core.Path.{_∙_, _≡_, ap, subst, sym}
 use Rattle.mask.specs.Masks.{Byte}
-use Rattle.method.specs.Growth.{plainAfter, rulesAfter}
-use Rattle.method.specs.OneRecordList.{isLast, observe, plainObserve, settleAccepted, zeroed}
+use Rattle.method.specs.OneRecordList.{plainAfter, rulesAfter, isLast, observe, plainObserve, settleAccepted, zeroed}
 use Rattle.method.specs.Parameters.{Parameters}
 use Rattle.method.specs.PlainList.{PlainList, plainNext, plainStart}
 use Rattle.method.specs.Rules.{Call, State, answerOf, nextState, ok, start}
@@ -19,9 +18,8 @@ use Rattle.cabinet_rules.specs.Delivery.{Delivery}
 use Rattle.cabinet_rules.specs.Images.{Image, answerBy, nextBy, stateBy}
 use Rattle.cabinet_rules.proofs.Lawful.{DeliveryLaws, lawfulBy}
 use Rattle.cabinet_rules.proofs.Shows.{Shows}
-use Rattle.cabinet_rules.proofs.Legible.{Legible, legible-noise}
+use Rattle.cabinet_rules.proofs.Legible.{Legible, legible-noise, state-noise}
 use Rattle.cabinet_rules.proofs.Transport.{answer-legible, legible-next, legible-start, start-long}
-use Rattle.cabinet_rules.proofs.Legible.{state-noise}
 use Rattle.cabinet_rules.proofs.Transport.{start-row, state-next, state-start}
 
 module _ (D : Delivery) (W : DeliveryLaws D) where

@@ -15,8 +15,7 @@ use Rattle.image.specs.Layout.{Layout, blockCount, cardCount, imageSizeOf}
 use Rattle.mask.specs.Masks.{Byte}
 use Rattle.slot.specs.Blocks.{emptyBlock}
 use Rattle.method.specs.Changes.{startedBy}
-use Rattle.method.specs.Growth.{stateAfter}
-use Rattle.method.specs.OneRecordList.{Observation, callsOf, isLast, observe, runStore}
+use Rattle.method.specs.OneRecordList.{stateAfter, Observation, callsOf, isLast, observe, runStore}
 use Rattle.method.specs.Parameters.{Parameters}
 use Rattle.method.specs.PlainList.{orRefused}
 use Rattle.method.specs.Rules.{isStart, Answer, Call, Plan, act, answerOf, apply, guarded, look, nextState, ok, plan, refusal, row, start, updated}

@@ -6,11 +6,9 @@ use mathlib.Core.Path.{_∙_, _≡_, ap, refl, sym}
 use Rattle.image.specs.Layout.{valueBound}
 use Rattle.mask.specs.Placements.{Placement}
 use Rattle.method.specs.ControlPart.{part}
-use Rattle.method.specs.Growth.{grownControl}
 use Rattle.control.specs.ControlBytes.{Part, controlByte}
-use Rattle.cabinet_rules.specs.Cabinet.{rulesOf}
 use Rattle.cabinet_rules.specs.Delivery.{anyValue, belowWire, twoRails}
-use Rattle.cabinet_rules.specs.GoesOn.{fromRails, growthOf}
+use Rattle.cabinet_rules.specs.GoesOn.{fromRails, partNow}
 use Rattle.cabinet_rules.proofs.Form.{wireLaws}
 use Rattle.cabinet_rules.proofs.GoesOn.{Carries, carries-same}
 use Rattle.cabinet_rules.proofs.Lawful.{DeliveryLaws, RuleLaws, no-stamps, railedRules}
@@ -24,10 +22,10 @@ same-list : (l : List Placement) → map (λ (p : Placement). p) l ≡ l
 same-list [] = refl
 same-list (p ∷ l) = ap (λ (t : List Placement). p ∷ t) (same-list l)
 
-same-part : (k : Part) → grownControl (rulesOf twoRails) (growthOf twoRails belowWire fromRails) k ≡ k
+same-part : (k : Part) → partNow twoRails belowWire fromRails k ≡ k
 same-part k = ap (λ (l : List Placement). part (k .stopped) l (k .newest) (k .working) (k .failed) (k .home) (k .setting) (k .serial)) (same-list (k .older))
 
-same-byte : (k : Part) (n : ℕ) → controlByte k n ≡ controlByte (grownControl (rulesOf twoRails) (growthOf twoRails belowWire fromRails) k) n
+same-byte : (k : Part) (n : ℕ) → controlByte k n ≡ controlByte (partNow twoRails belowWire fromRails k) n
 same-byte k n = ap (λ (x : Part). controlByte x n) (sym (same-part k))
 
 pub rails-retired : Retired twoRails belowWire fromRails

@@ -6,8 +6,7 @@ use mathlib.Core.List.{List, [], _∷_}
 use mathlib.Core.Path.{_≡_}
 use Rattle.image.specs.Layout.{blockAddressOf, endStartOf}
 use Rattle.slot.specs.Blocks.{blockOfBytes, emptyBlock}
-use Rattle.method.specs.Growth.{stateAfter}
-use Rattle.method.specs.OneRecordList.{Noise, runStore}
+use Rattle.method.specs.OneRecordList.{stateAfter, Noise, runStore}
 use Rattle.method.specs.Rules.{Call, answerOf, isStart, nextState}
 use Rattle.control_form.specs.ControlForm.{controlForm, formRefusal, formRows}
 use Rattle.cabinet_rules.specs.Cabinet.{cabinet, rulesOf}

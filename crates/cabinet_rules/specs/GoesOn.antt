@@ -6,9 +6,8 @@ use mathlib.Core.Logic.{_⊎_}
 use mathlib.Core.Path.{_≡_}
 use Rattle.mask.specs.Masks.{Byte}
 use Rattle.mask.specs.Placements.{olderFromMask}
-use Rattle.method.specs.Growth.{Growth, grownPlain, grownState, plainAfter, rulesAfter}
-use Rattle.method.specs.OneRecordList.{runPlain, zeroed}
-use Rattle.method.specs.Parameters.{Parameters}
+use Rattle.method.specs.ControlPart.{partBy}
+use Rattle.method.specs.OneRecordList.{plainAfter, rulesAfter, runPlain, zeroed}
 use Rattle.method.specs.PlainList.{PlainList, plainStart}
 use Rattle.method.specs.Rules.{State, ok, start}
 use Rattle.control_form.specs.ControlForm.{formRefusal}
@@ -74,47 +73,20 @@ pub record Succession (E D : Delivery) : Type 0 where
   pub carry : Image → Image
 
 module _ (E D : Delivery) (S : Succession E D) where
-  -- What D changes of the rules by E: they become the rules by D.
-  abbrev pub growthOf : Growth (rulesOf E)
-  growthOf = record {
-    Placement = Parameters.Placement (rulesOf D);
-    Setting = Parameters.Setting (rulesOf D);
-    Stamp = Parameters.Stamp (rulesOf D);
-    Serial = Parameters.Serial (rulesOf D);
-    firstSerial = Parameters.firstSerial (rulesOf D);
-    nextSerial = Parameters.nextSerial (rulesOf D);
-    numbered = Parameters.numbered (rulesOf D);
-    noStamp = Parameters.noStamp (rulesOf D);
-    stampOf = Parameters.stampOf (rulesOf D);
-    StartArgument = Parameters.StartArgument (rulesOf D);
-    PlaceArgument = Parameters.PlaceArgument (rulesOf D);
-    copies = Parameters.copies (rulesOf D);
-    blocks = Parameters.blocks (rulesOf D);
-    recInRange = Parameters.recInRange (rulesOf D);
-    valueInRange = Parameters.valueInRange (rulesOf D);
-    mask = Parameters.mask (rulesOf D);
-    sites = Parameters.sites (rulesOf D);
-    without = Parameters.without (rulesOf D);
-    usable = Parameters.usable (rulesOf D);
-    starts = Parameters.starts (rulesOf D);
-    startSetting = Parameters.startSetting (rulesOf D);
-    startRefusal = Parameters.startRefusal (rulesOf D);
-    places = Parameters.places (rulesOf D);
-    placeInRange = Parameters.placeInRange (rulesOf D);
-    placeRefusal = Parameters.placeRefusal (rulesOf D);
-    placeLimit = Parameters.placeLimit (rulesOf D);
-    older = S .older;
-    olderSetting = λ σ. σ;
-    olderSerial = S .olderSerial;
-    olderStamps = S .olderStamps;
-  }
+  -- E's control part as D has it.
+  abbrev pub partNow : PartOf E → PartOf D
+  partNow = partBy (S .older) (λ σ. σ) (S .olderSerial)
 
-  -- E's store as D goes on with it: no record of the plain record list changes.
+  -- E's store as D goes on with it: no block and no record changes.
   abbrev pub takenOver : StoreBy E → StoreBy D
   takenOver s = record {
     image = S .carry (s .image);
-    rules = grownState (rulesOf E) growthOf (s .rules);
-    plain = grownPlain (rulesOf E) growthOf (s .plain);
+    rules = record {
+      control = partNow (s .rules .control);
+      block = s .rules .block;
+      stamp = S .olderStamps (partNow (s .rules .control)) (s .rules .stamp);
+    };
+    plain = record { records = s .plain .records; control = partNow (s .plain .control) };
   }
 
   -- A store that D has from E.

@@ -1,5 +1,5 @@
 -- The rules on images of any length and contents: what a call answers, and the whole image after it. Assumes nothing.
-use Prim.Native.Nat.{_%_, _+_, _-_, _/_, suc, zero, ℕ}
+use Prim.Native.Nat.{_%_, _+_, _-_, _/_, ℕ}
 use lib.Dec.{ltb}
 use lib.ListN.{getD}
 use mathlib.Core.Bool.{Bool, _&&_, cond}
@@ -10,8 +10,7 @@ use Rattle.image.specs.Layout.{Layout, blockAddressOf, blockCount, blockSize, b
 use Rattle.image.specs.Layout.{imageSizeOf, layout, tableSizeOf, tailStartOf}
 use Rattle.slot.specs.Blocks.{BlockBytes, blockOfBytes, byteIn, emptyBlock}
 use Rattle.method.specs.PlainList.{orRefused}
-use Rattle.method.specs.Rules.{Answer, Call, Plan, State, act}
-use Rattle.method.specs.Rules.{isStart, look, refusal, updated}
+use Rattle.method.specs.Rules.{Answer, Call, Plan, State, act, isStart, look, refusal, unlessRefused, updated}
 use Rattle.control.specs.ControlBytes.{Part}
 use Rattle.control_form.specs.ControlForm.{formRowsOf}
 use Rattle.cabinet_rules.specs.Cabinet.{cabinet, rulesOf}
@@ -76,11 +75,6 @@ endIn = endBy layout
 abbrev pub after : (ℕ → ℕ) → (ℕ → ℕ) → Writes → Ends → Image → Image
 after = afterBy layout
 
--- A refused call leaves the image as found.
-abbrev pub unlessRefusedImage : ℕ → Image → Image → Image
-unlessRefusedImage zero found changed = changed
-unlessRefusedImage (suc n) found changed = found
-
 -- ---- by a delivery
 -- There is such a card with such a block; what is not there is as if empty.
 abbrev pub isThere : ℕ → ℕ → Bool
@@ -125,9 +119,9 @@ module _ (D : Delivery) where
   afterPlan p g =
       afterBy (D .memory .layout) (D .memory .bytes (p .after)) (D .memory .tail (p .after)) (p .write) (λ c. endOf (p .stamps c)) g
 
-  -- The image after the call.
+  -- The image after the call: a refused one leaves it as found.
   unfoldable pub nextBy : Call (rulesOf D) → Image → Image
-  nextBy c g = unlessRefusedImage (refusalBy c g) g (afterPlan (planBy c g) g)
+  nextBy c g = unlessRefused (refusalBy c g) g (afterPlan (planBy c g) g)
 
 -- ---- by the delivery in force
 -- What an image shows.

@@ -6,8 +6,7 @@ use mathlib.Core.Path.{_≡_}
 use Rattle.lists.specs.Tests.{allBelow}
 use Rattle.image.specs.Layout.{cardCount}
 use Rattle.mask.specs.Masks.{Byte}
-use Rattle.method.specs.Growth.{plainAfter}
-use Rattle.method.specs.OneRecordList.{isStop, zeroed}
+use Rattle.method.specs.OneRecordList.{plainAfter, isStop, zeroed}
 use Rattle.method.specs.PlainList.{plainProtected, plainStart}
 use Rattle.method.specs.Protection.{protection}
 use Rattle.method.specs.Rules.{fail, ok, start, state}

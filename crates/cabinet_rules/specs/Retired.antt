@@ -2,22 +2,16 @@
 use Prim.Native.Nat.{_≤_, ℕ}
 use lib.Dec.{eqb}
 use mathlib.Core.Bool.{Bool, _&&_, cond, true}
-use mathlib.Core.List.{map}
 use Rattle.lists.specs.Tests.{allBelow}
 use Rattle.image.specs.Layout.{controlSize, copyCount}
 use Rattle.mask.specs.Masks.{Byte, size}
 use Rattle.mask.specs.Placements.{Placement, chainedSites, olderFromMask}
-use Rattle.method.specs.ControlPart.{ControlPart, part}
+use Rattle.method.specs.ControlPart.{ControlPart, partBy}
 use Rattle.control.specs.ControlBytes.{Serial, Setting, marksAt}
 use Rattle.cabinet_rules.specs.Delivery.{Delivery, Memory, anyValue, bare, railMemory}
 use Rattle.cabinet_rules.specs.Places.{placeRows}
 
 -- ---- a memory that a later one replaced
--- A control part whose placements and serial are told by f and s.
-abbrev pub partBy : {A B S T : Type 0} → (A → B) → (S → T) → ControlPart Byte A Setting S → ControlPart Byte B Setting T
-partBy f s k =
-    part (k .stopped) (map f (k .older)) (f (k .newest)) (k .working) (k .failed) (k .home) (k .setting) (s (k .serial))
-
 -- The later memory is M. It tells older placements and serials by older and olderSerial, and back and backSerial give
 -- them again. It added some bytes to the front of the control part; those that a retired control part is told with there
 -- are filled.
@@ -32,14 +26,14 @@ pub record Retirement (A S B T : Type 0) : Type 0 where
 module _ {A S B T : Type 0} (M : Memory B T) (R : Retirement A S B T) where
   -- The control bytes that it wrote: those that M writes of what the control part is now, and zero in those added.
   abbrev pub retiredBytes : ControlPart Byte A Setting S → ℕ → ℕ
-  retiredBytes k n = cond (R .added n) 0 (M .bytes (partBy (R .older) (R .olderSerial) k) n)
+  retiredBytes k n = cond (R .added n) 0 (M .bytes (partBy (R .older) (λ σ. σ) (R .olderSerial) k) n)
 
   -- What M is shown in their place, with nothing behind the tables; the control part that this shows.
   abbrev pub shownBytes : (ℕ → ℕ) → ℕ → ℕ
   shownBytes g n = cond (R .added n) (R .filled n) (g n)
 
   abbrev pub retiredPart : (ℕ → ℕ) → ControlPart Byte A Setting S
-  retiredPart g = partBy (R .back) (R .backSerial) (M .part (shownBytes g) (λ n. 0))
+  retiredPart g = partBy (R .back) (λ σ. σ) (R .backSerial) (M .part (shownBytes g) (λ n. 0))
 
   -- It has M's form, and the bytes are those that were written of that control part.
   unfoldable pub retiredForm : (ℕ → ℕ) → Bool

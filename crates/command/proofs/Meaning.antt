@@ -14,11 +14,10 @@ use Rattle.image.specs.Layout.{blockCount, imageSize}
 use Rattle.control_form.specs.ControlForm.{controlForm, formRows}
 use Rattle.method.specs.Changes.{Control}
 use Rattle.method.specs.PlainList.{orRefused}
-use Rattle.method.specs.Rules.{View, move, refusal, refused, row}
+use Rattle.method.specs.Rules.{View, move, refusal, refused, row, unlessRefused}
 use Rattle.cabinet_rules.specs.Cabinet.{cabinet}
 use Rattle.cabinet_rules.specs.Delivery.{current}
 use Rattle.cabinet_rules.specs.Images.{Image, afterPlan, answer, answerBy, next, nextBy, planOn, refusalBy, refusalOn}
-use Rattle.cabinet_rules.specs.Images.{unlessRefusedImage}
 use Rattle.promise.specs.Promise.{Done, asked}
 use Rattle.promise.specs.declared.Answer.{Answer}
 use Rattle.promise.specs.declared.Answer.the-variants.{Refused}
@@ -66,7 +65,7 @@ refused-answer c b g h =
 pub refused-next : (c b : ℕ) (g : Image) → blockCount ≤ b → next (move c b) g ≡ g
 unfolding nextBy
 refused-next c b g h =
-    ap (λ (n : ℕ). unlessRefusedImage n g (afterPlan current (planOn (move c b) g) g))
+    ap (λ (n : ℕ). unlessRefused n g (afterPlan current (planOn (move c b) g) g))
     (move-row c b g h ∙ refused-row g .1)
 
 -- a move of the block that stands for a number is a move of the number

@@ -12,9 +12,8 @@ use Rattle.lists.specs.Tests.{In, elem}
 use Rattle.lists.proofs.Lists.{in-map, map-in, map-reverse}
 use Rattle.method.specs.Changes.{Control}
 use Rattle.method.specs.ControlPart.{active}
-use Rattle.method.specs.Growth.{GoesOn, Growth, grown, grownControl, grownPlain, grownState, plainAfter, rulesAfter}
-use Rattle.method.specs.Growth.{stateAfter}
-use Rattle.method.specs.OneRecordList.{callsOf, zeroed}
+use Rattle.method.specs.Growth.{GoesOn, Growth, grown, grownControl, grownPlain, grownState}
+use Rattle.method.specs.OneRecordList.{plainAfter, rulesAfter, stateAfter, callsOf, zeroed}
 use Rattle.method.specs.Parameters.{Parameters}
 use Rattle.method.specs.PlainList.{PlainList, plainStart}
 use Rattle.method.specs.Rules.{State, View, look, lost, lostOf, nextState, start, visible}

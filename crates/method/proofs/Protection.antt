@@ -10,8 +10,7 @@ use Rattle.lists.specs.Tests.{allBelow}
 use Rattle.lists.proofs.Bools.{and-when, split}
 use Rattle.method.specs.Changes.{Control, marked}
 use Rattle.method.specs.ControlPart.{halted, isOpen}
-use Rattle.method.specs.Growth.{plainAfter, rulesAfter, stateAfter}
-use Rattle.method.specs.OneRecordList.{callsOf, disturb, isStop, zeroed}
+use Rattle.method.specs.OneRecordList.{plainAfter, rulesAfter, stateAfter, callsOf, disturb, isStop, zeroed}
 use Rattle.method.specs.Parameters.{Parameters}
 use Rattle.method.specs.PlainList.{PlainList, plainProtected, plainStart, stopsNow}
 use Rattle.method.specs.Protection.{ProtectedByFails, ProtectedByFields, ProtectedByPlainList, noFailStops, protection}

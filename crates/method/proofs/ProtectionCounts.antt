@@ -24,13 +24,13 @@ module _ (P : Parameters) (L : Laws P) (k : Control P) where
   open Laws L using (has-card, has-insert, has-remove)
 
   -- how many members of a placement are among these cards
-  abbrev within : Placement → Mask → ℕ
-  within p m = countBelow cards (λ x. has (mask p) x && has m x)
+  abbrev among : Placement → Mask → ℕ
+  among p m = countBelow cards (λ x. has (mask p) x && has m x)
 
   -- ---- a card that fails: what becomes of the two counts
   module _ (p : Placement) (c : ℕ) (c-ok : ltb c cards ≡ true) where
     -- a member that worked: one failed more, one working less
-    failed-more : has (mask p) c ≡ true → has (k .failed) c ≡ false → within p (insert (k .failed) c) ≡ suc (within p (k .failed))
+    failed-more : has (mask p) c ≡ true → has (k .failed) c ≡ false → among p (insert (k .failed) c) ≡ suc (among p (k .failed))
     failed-more m off = count-but cards f c (rw (has-insert (k .failed) c c c-ok) (and-in (has (mask p) c) _ m (or-l (eqb c c) (has (k .failed) c) (eqb-self c)))) (ltb-true c cards c-ok)
         ∙ ap (λ (g : ℕ → Bool). suc (countBelow cards g)) (fun-ext same)
       where
@@ -48,7 +48,7 @@ module _ (P : Parameters) (L : Laws P) (k : Control P) where
             go (inl e) = rw e (out (has (mask p) x) (has (k .failed) x) (ap (has (k .failed)) (eqb-true x c e) ∙ off))
             go (inr e) = rw e (and-true (has (mask p) x && has (k .failed) x))
 
-    works-less : has (mask p) c ≡ true → has (k .working) c ≡ true → within p (k .working) ≡ suc (within p (remove (k .working) c))
+    works-less : has (mask p) c ≡ true → has (k .working) c ≡ true → among p (k .working) ≡ suc (among p (remove (k .working) c))
     works-less m on = count-but cards f c (and-in (has (mask p) c) (has (k .working) c) m on) (ltb-true c cards c-ok)
         ∙ ap (λ (g : ℕ → Bool). suc (countBelow cards g)) (fun-ext (λ x. rw (has-remove (k .working) c x) (assoc (has (mask p) x) (has (k .working) x) (not (eqb x c)))))
       where
@@ -68,15 +68,15 @@ module _ (P : Parameters) (L : Laws P) (k : Control P) where
           go i (inl e) = let n : has (mask p) i ≡ false = ap (has (mask p)) (eqb-true i c e) ∙ m in rw n
           go i (inr e) = ap (λ (b : Bool). has (mask p) i && b) (same i e)
 
-      failed-same : within p (insert (k .failed) c) ≡ within p (k .failed)
+      failed-same : among p (insert (k .failed) c) ≡ among p (k .failed)
       failed-same = other (has (insert (k .failed) c)) (has (k .failed)) (λ i e. rw (has-insert (k .failed) c i c-ok, e))
 
-      works-same : within p (remove (k .working) c) ≡ within p (k .working)
+      works-same : among p (remove (k .working) c) ≡ among p (k .working)
       works-same = other (has (remove (k .working) c)) (has (k .working)) (λ i e. rw (has-remove (k .working) c i, e) (and-true (has (k .working) i)))
 
   -- ---- a placement that withstands, and the failure of a working card
   abbrev Stands : Placement → Type 0
-  Stands p = (suc (within p (k .failed)) < copies (k .setting)) × (copies (k .setting) < within p (k .working))
+  Stands p = (suc (among p (k .failed)) < copies (k .setting)) × (copies (k .setting) < among p (k .working))
 
   module _ (apart : (c : ℕ) → has (k .working) c ≡ true → has (k .failed) c ≡ false) (p : Placement) (c : ℕ) (on : has (k .working) c ≡ true) where
     c-ok : ltb c cards ≡ true
@@ -108,22 +108,22 @@ module _ (P : Parameters) (L : Laws P) (k : Control P) where
   -- the test, and what it says
   stands-is : (p : Placement) → Stands p → withstands P (k .setting) (k .working) (k .failed) (mask p) ≡ true
   unfolding withstands
-  stands-is p s = and-in _ _ (lt-ltb (suc (within p (k .failed))) (copies (k .setting)) (s .0)) (lt-ltb (copies (k .setting)) (within p (k .working)) (s .1))
+  stands-is p s = and-in _ _ (lt-ltb (suc (among p (k .failed))) (copies (k .setting)) (s .0)) (lt-ltb (copies (k .setting)) (among p (k .working)) (s .1))
 
   is-stands : (p : Placement) → withstands P (k .setting) (k .working) (k .failed) (mask p) ≡ true → Stands p
   unfolding withstands
   is-stands p e =
-      let few : Bool = ltb (suc (within p (k .failed))) (copies (k .setting)) in
-      let spare : Bool = ltb (copies (k .setting)) (within p (k .working)) in
-      (ltb-true (suc (within p (k .failed))) (copies (k .setting)) (and-l few spare e), ltb-true (copies (k .setting)) (within p (k .working)) (and-r few spare e))
+      let few : Bool = ltb (suc (among p (k .failed))) (copies (k .setting)) in
+      let spare : Bool = ltb (copies (k .setting)) (among p (k .working)) in
+      (ltb-true (suc (among p (k .failed))) (copies (k .setting)) (and-l few spare e), ltb-true (copies (k .setting)) (among p (k .working)) (and-r few spare e))
 
   -- ---- the whole control part
   module _ (apart : (c : ℕ) → has (k .working) c ≡ true → has (k .failed) c ≡ false) (safe : (p : Placement) → In p (active k) → lost P k p ≡ false) where
     -- an active placement has a member that works
     some-member : (p : Placement) → In p (active k) → (c : ℕ) × (has (mask p) c ≡ true) × (has (k .working) c ≡ true)
     some-member p m =
-        let few : within p (k .failed) < copies (k .setting) = few-failed P (k .setting) (k .working) (k .failed) (mask p) (safe p m) in
-        let enough : copies (k .setting) ≤ within p (k .working) = enough-work P (k .setting) (k .working) (k .failed) (mask p) (safe p m) in
+        let few : among p (k .failed) < copies (k .setting) = few-failed P (k .setting) (k .working) (k .failed) (mask p) (safe p m) in
+        let enough : copies (k .setting) ≤ among p (k .working) = enough-work P (k .setting) (k .working) (k .failed) (mask p) (safe p m) in
         let t = count-some cards (λ x. has (mask p) x && has (k .working) x) (omega arith) in
         (t .0, and-l (has (mask p) (t .0)) (has (k .working) (t .0)) (t .2), and-r (has (mask p) (t .0)) (has (k .working) (t .0)) (t .2))
 

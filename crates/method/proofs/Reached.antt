@@ -2,7 +2,7 @@
 -- Assumes nothing.
 use mathlib.Core.List.{List, [], _∷_}
 use mathlib.Core.Path.{_∙_, _≡_, ap, sym}
-use Rattle.method.specs.Growth.{NoStop, plainAfter, rulesAfter, stateAfter}
+use Rattle.method.specs.OneRecordList.{NoStop, plainAfter, rulesAfter, stateAfter}
 use Rattle.method.specs.OneRecordList.{Noise, callsOf, disturb, isLast, settleAccepted, zeroed}
 use Rattle.method.specs.Parameters.{Parameters}
 use Rattle.method.specs.PlainList.{PlainList, plainNext, plainStart}

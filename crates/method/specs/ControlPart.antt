@@ -2,7 +2,7 @@
 -- records. Every change yields a whole new control part; those that both sides make stand here. Assumes nothing.
 use mathlib.Core.Bool.{Bool, true, false, cond}
 use mathlib.Core.Option.{Option, some, none}
-use mathlib.Core.List.{List, [], _∷_, _++_}
+use mathlib.Core.List.{List, [], _∷_, _++_, map}
 use Prim.Native.Nat.{ℕ}
 use lib.Dec.{eqb}
 use Rattle.method.specs.Slots.{isSome}
@@ -76,3 +76,8 @@ module _ {Mask Placement Setting Serial : Type 0} where
   -- The stopped bit is set and no transaction is open.
   abbrev pub halted : ControlPart Mask Placement Setting Serial → ControlPart Mask Placement Setting Serial
   halted k = part true (k .older) (k .newest) (k .working) (k .failed) (λ t. none) (k .setting) (k .serial)
+
+-- The same control part where f, σ and ν tell what its placements, its setting and its serial are.
+abbrev pub partBy : {M A B X Y S T : Type 0} → (A → B) → (X → Y) → (S → T) → ControlPart M A X S → ControlPart M B Y T
+partBy f σ ν k =
+    part (k .stopped) (map f (k .older)) (f (k .newest)) (k .working) (k .failed) (k .home) (σ (k .setting)) (ν (k .serial))

@@ -1,15 +1,14 @@
 -- Demand 3 where the list of calls goes on under a later paper: what such a paper may change, what an older store is
 -- then, and the statement. Assumes nothing.
 use Prim.Native.Nat.{ℕ}
-use mathlib.Core.Bool.{Bool, false}
-use mathlib.Core.List.{List, [], _∷_, map}
+use mathlib.Core.Bool.{Bool}
+use mathlib.Core.List.{List}
 use mathlib.Core.Path.{_≡_}
 use Rattle.method.specs.Changes.{Control}
-use Rattle.method.specs.ControlPart.{ControlPart, part}
-use Rattle.method.specs.OneRecordList.{Noise, callsOf, disturb, isLast, observe, runPlain, runStore}
-use Rattle.method.specs.OneRecordList.{settleAccepted, zeroed}
+use Rattle.method.specs.ControlPart.{ControlPart, partBy}
+use Rattle.method.specs.OneRecordList.{NoStop, Noise, callsOf, plainAfter, rulesAfter, runPlain, runStore, stateAfter, zeroed}
 use Rattle.method.specs.Parameters.{Parameters}
-use Rattle.method.specs.PlainList.{PlainList, plainNext, plainStart}
+use Rattle.method.specs.PlainList.{PlainList, plainStart}
 use Rattle.method.specs.Rules.{Call, State, answerOf, nextState, ok, start}
 
 -- ---- what a later paper changes
@@ -106,9 +105,7 @@ grown P G = record {
 module _ (P : Parameters) (G : Growth P) where
   -- A control part: each of its placements, and its setting, is what it is now.
   abbrev pub grownControl : Control P → Control (grown P G)
-  grownControl k =
-      part (k .stopped) (map (G .older) (k .older)) (G .older (k .newest)) (k .working) (k .failed) (k .home)
-      (G .olderSetting (k .setting)) (G .olderSerial (k .serial))
+  grownControl = partBy (G .older) (G .olderSetting) (G .olderSerial)
 
   -- A state: no block changes.
   abbrev pub grownState : State P → State (grown P G)
@@ -121,30 +118,6 @@ module _ (P : Parameters) (G : Growth P) where
   -- A plain record list: no record changes.
   abbrev pub grownPlain : PlainList P → PlainList (grown P G)
   grownPlain q = record { records = q .records; control = grownControl (q .control) }
-
--- ---- what a list of calls leaves
-module _ (P : Parameters) where
-  -- The state after a list of calls, each with the noise before it.
-  unfoldable pub stateAfter : List (Noise P × Call P) → State P → State P
-  stateAfter [] s = s
-  stateAfter (e ∷ l) s = stateAfter l (nextState P (e .1) (disturb P (e .0) s))
-
-  -- None of these calls stopped the store.
-  unfoldable pub NoStop : List (Noise P × Call P) → State P → Type 0
-  NoStop [] s = Unit {0}
-  NoStop (e ∷ l) s =
-      (isLast P (observe P (e .1) (answerOf P (e .1) (disturb P (e .0) s))) ≡ false)
-      × NoStop l (nextState P (e .1) (disturb P (e .0) s))
-
-  -- The state after the calls alone, with no noise: the run of the rules beside the plain record list.
-  unfoldable pub rulesAfter : List (Call P) → State P → State P
-  rulesAfter [] z = z
-  rulesAfter (c ∷ l) z = rulesAfter l (nextState P c z)
-
-  -- The plain record list after the calls, beside the run of the rules from z.
-  unfoldable pub plainAfter : List (Call P) → State P → PlainList P → PlainList P
-  plainAfter [] z q = q
-  plainAfter (c ∷ l) z q = plainAfter l (nextState P c z) (plainNext P (settleAccepted P z) c q)
 
 -- DEMAND 3, going on. After an accepted start on memory of any contents come any calls of before the paper, none of
 -- which stops the store, and then any calls under the paper: these the store answers as the plain record list does

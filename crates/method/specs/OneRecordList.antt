@@ -122,6 +122,29 @@ module _ (P : Parameters) where
   callsOf [] = []
   callsOf (e ∷ l) = e .1 ∷ callsOf l
 
+  -- ---- what a list of calls leaves
+  -- The state after a list of calls, each with the noise before it.
+  unfoldable pub stateAfter : List (Noise × Call P) → State P → State P
+  stateAfter [] s = s
+  stateAfter (e ∷ l) s = stateAfter l (nextState P (e .1) (disturb (e .0) s))
+
+  -- None of these calls stopped the store.
+  unfoldable pub NoStop : List (Noise × Call P) → State P → Type 0
+  NoStop [] s = Unit {0}
+  NoStop (e ∷ l) s =
+      (isLast (observe (e .1) (answerOf P (e .1) (disturb (e .0) s))) ≡ false)
+      × NoStop l (nextState P (e .1) (disturb (e .0) s))
+
+  -- The state after the calls alone, with no noise: the run of the rules beside the plain record list.
+  unfoldable pub rulesAfter : List (Call P) → State P → State P
+  rulesAfter [] z = z
+  rulesAfter (c ∷ l) z = rulesAfter l (nextState P c z)
+
+  -- The plain record list after the calls, beside the run of the rules from z.
+  unfoldable pub plainAfter : List (Call P) → State P → PlainList P → PlainList P
+  plainAfter [] z q = q
+  plainAfter (c ∷ l) z q = plainAfter l (nextState P c z) (plainNext P (settleAccepted z) c q)
+
   -- What a start leaves.
   abbrev pub zeroed : StartArgument → State P
   zeroed a = record {

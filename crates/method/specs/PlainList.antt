@@ -9,7 +9,7 @@ use Rattle.method.specs.Changes.{Control, addedBy, replaced, startedBy}
 use Rattle.method.specs.ControlPart.{active, begunAt, closed, isOpen, onlyNewest, opened, withCards}
 use Rattle.method.specs.Parameters.{Parameters}
 use Rattle.method.specs.Rules.{Answer, Call, View, begin, commit, delete, fail, fit, get, load, move, place}
-use Rattle.method.specs.Rules.{refusal, refused, rollback, row, settle, start, state, store, withdraw}
+use Rattle.method.specs.Rules.{refusal, refused, rollback, row, settle, start, state, store, unlessRefused, withdraw}
 use Rattle.method.specs.Slots.{Slot, blank, ended, isNone, locked, lockedByOther, readBy}
 
 module _ (P : Parameters) where
@@ -65,12 +65,8 @@ module _ (P : Parameters) where
       row 3 (not (tranInRange t && recInRange (q .control .setting) r)) (
       row 5 (not (isOpen (q .control) t)) (
       row 7 (lockedByOther t (q .records r)) 0))
-  plainRefusal s (commit t) q =
-      row 3 (not (tranInRange t)) (
-      row 5 (not (isOpen (q .control) t)) 0)
-  plainRefusal s (rollback t) q =
-      row 3 (not (tranInRange t)) (
-      row 5 (not (isOpen (q .control) t)) 0)
+  plainRefusal s (commit t) q = row 3 (not (tranInRange t)) (row 5 (not (isOpen (q .control) t)) 0)
+  plainRefusal s (rollback t) q = row 3 (not (tranInRange t)) (row 5 (not (isOpen (q .control) t)) 0)
   plainRefusal s (fit c) q = refusal P (fit c) (q .control) noBlocks
   plainRefusal s (withdraw c) q = refusal P (withdraw c) (q .control) noBlocks
   plainRefusal s (place a) q = refusal P (place a) (q .control) noBlocks
@@ -100,10 +96,6 @@ module _ (P : Parameters) where
   plainAct (load c) q = q
 
   -- A refused call changes nothing in it.
-  abbrev pub unlessRefused : ℕ → PlainList → PlainList → PlainList
-  unlessRefused zero q changed = changed
-  unlessRefused (suc n) q changed = q
-
   unfoldable pub plainNext : Bool → Call P → PlainList → PlainList
   plainNext s c q = unlessRefused (plainRefusal s c q) q (plainAct c q)
 

@@ -7,8 +7,7 @@ use mathlib.Core.Path.{_≡_}
 use Rattle.lists.specs.Tests.{allIn, allBelow, countBelow}
 use Rattle.method.specs.Changes.{Control}
 use Rattle.method.specs.ControlPart.{active}
-use Rattle.method.specs.Growth.{NoStop, plainAfter, stateAfter}
-use Rattle.method.specs.OneRecordList.{Noise, callsOf, disturb, isStop, zeroed}
+use Rattle.method.specs.OneRecordList.{NoStop, plainAfter, stateAfter, Noise, callsOf, disturb, isStop, zeroed}
 use Rattle.method.specs.Parameters.{Parameters}
 use Rattle.method.specs.PlainList.{PlainList, plainProtected, plainStart}
 use Rattle.method.specs.Rules.{Answer, Call, State, answerOf, fail, isProtected, nextState, ok, protected}

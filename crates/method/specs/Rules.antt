@@ -7,8 +7,7 @@ use mathlib.Core.List.{List, [], _∷_}
 use mathlib.Core.Option.{Option, none, some}
 use Rattle.lists.specs.Tests.{allIn, allBelow, anyIn, anyBelow, concatMap, countBelow, countNot, elem, keepIf, sumBelow}
 use Rattle.method.specs.Changes.{Control, addedBy, marked, replaced, startedBy}
-use Rattle.method.specs.ControlPart.{active, begunAt, closed, halted, isOpen, onlyNewest, opened}
-use Rattle.method.specs.ControlPart.{withCards}
+use Rattle.method.specs.ControlPart.{active, begunAt, closed, halted, isOpen, onlyNewest, opened, withCards}
 use Rattle.method.specs.Parameters.{Parameters}
 use Rattle.method.specs.Slots.{Slot, blank, isNone, isSome, lockedByOther, readBy}
 
@@ -16,6 +15,11 @@ use Rattle.method.specs.Slots.{Slot, blank, isNone, isSome, lockedByOthe
 abbrev pub row : ℕ → Bool → ℕ → ℕ
 row n true below = n
 row n false below = below
+
+-- A refused call leaves what it found. The number is its refusal.
+abbrev pub unlessRefused : {A : Type 0} → ℕ → A → A → A
+unlessRefused zero found changed = changed
+unlessRefused (suc n) found changed = found
 
 -- A block as a call leaves it: what it writes there, else as found.
 abbrev pub updated : {A : Type 0} → Option A → A → A

@@ -12,7 +12,7 @@ use Rattle.lists.proofs.Bools.{not-not-is}
 use Rattle.image.specs.Layout.{imageSize}
 use Rattle.image.specs.Parts.{Whole}
 use Rattle.method.specs.PlainList.{orRefused}
-use Rattle.method.specs.Rules.{isStart, Call, Plan, row, stamping, unwritten, writing}
+use Rattle.method.specs.Rules.{isStart, Call, Plan, row, stamping, unwritten, writing, unlessRefused}
 use Rattle.method.proofs.Refusals.{row-clear}
 use Rattle.control.specs.ControlBytes.{Part}
 use Rattle.control_form.specs.ControlForm.{controlForm, formRefusal}
@@ -23,7 +23,7 @@ use Rattle.control_form.specs.declared.Found.{Found}
 use Rattle.cabinet_rules.specs.Cabinet.{cabinet}
 use Rattle.cabinet_rules.specs.Delivery.{current}
 use Rattle.cabinet_rules.specs.Images.{Image, Writes, afterPlan, answer, answerBy, controlIn, nextBy, planOn}
-use Rattle.cabinet_rules.specs.Images.{refusalBy, refusalOn, unlessRefusedImage}
+use Rattle.cabinet_rules.specs.Images.{refusalBy, refusalOn}
 use Rattle.promise.specs.Given.{Given, rowsOn}
 use Rattle.promise.specs.Promise.{Done, shown}
 use Rattle.promise.specs.Laid.{laid}
@@ -84,7 +84,7 @@ module _ (c : Call cabinet) (late : isStart c ≡ false) (g : Image) where
         let r : refusalOn c g ≡ 0 = refusal-rules ∙ sym e in
         record {
           answers = s ∙ sym (ap₂ (λ (n : ℕ) (p : Plan cabinet). orRefused cabinet n (p .answer)) r q);
-          leaves = l ∙ sym (ap₂ (λ (n : ℕ) (p : Plan cabinet). unlessRefusedImage n g (afterPlan current p g)) r q);
+          leaves = l ∙ sym (ap₂ (λ (n : ℕ) (p : Plan cabinet). unlessRefused n g (afterPlan current p g)) r q);
         }
 
     -- accepted, blocks are written and the control part stays

@@ -16,17 +16,14 @@ use Rattle.method.specs.MoveList.{noList}
 use Rattle.method.specs.OneRecordList.{isLast, isStop, observe}
 use Rattle.method.specs.Rules.{Answer, Call, begin, commit, delete, fail, fit, get, load, move}
 use Rattle.method.specs.Rules.{absent, copied, loaded, ok, place, placed, protected, refusal, refused, retired, rollback, row, settle, start, state, stops}
-use Rattle.method.specs.Rules.{store, unplaced, unprotected, value, withdraw}
+use Rattle.method.specs.Rules.{store, unplaced, unprotected, value, withdraw, unlessRefused}
 use Rattle.cabinet_rules.specs.Cabinet.{cabinet}
 use Rattle.cabinet_rules.specs.Claims.{NoStopBy, NoisyCall, imageAfter, imageAfterBy, noisy, noisyBy, noisyByte}
 use Rattle.cabinet_rules.specs.Delivery.{current}
-use Rattle.cabinet_rules.specs.Images.{Image, answer, cardBy, controlIn, formBy, next, nextBy, refusalBy, unlessRefusedImage}
-use Rattle.cabinet_rules.specs.MoveLists.{NeverSettles, NoneIsFinal, NoneIsFinalFromEarlier}
-use Rattle.cabinet_rules.specs.MoveLists.{listAnswerOn, listRefusal}
-use Rattle.cabinet_rules.proofs.MoveLists.{none-clear, none-is-final}
-use Rattle.cabinet_rules.proofs.MoveLists.{none-is-final-from-earlier}
-use Rattle.store.specs.MoveList.{NoneGoesOnOfCalls}
-use Rattle.store.specs.MoveList.{NoneIsFinalOfCalls, NoneIsFinalOn}
+use Rattle.cabinet_rules.specs.Images.{Image, answer, cardBy, controlIn, formBy, next, nextBy, refusalBy}
+use Rattle.cabinet_rules.specs.MoveLists.{NeverSettles, NoneIsFinal, NoneIsFinalFromEarlier, listAnswerOn, listRefusal}
+use Rattle.cabinet_rules.proofs.MoveLists.{none-clear, none-is-final, none-is-final-from-earlier}
+use Rattle.store.specs.MoveList.{NoneGoesOnOfCalls, NoneIsFinalOfCalls, NoneIsFinalOn}
 use Rattle.store.specs.Runs.{IsRun, NeverStopped, NoneStops, RunCall, memoryLeft, meantCalls, memoryAfter, runCalls, runSteps}
 use Rattle.store.proofs.OneRecordList.{Stepwise, kept-steps}
 use Rattle.store.proofs.MoveRuns.{given}
@@ -40,7 +37,7 @@ idle-leaves : (g : Image) → next idle g ≡ g
 unfolding nextBy refusalBy refusal
 idle-leaves g = leaves (not (eqb (length g) imageSize)) (not (formBy current g)) _
   where
-    leaves : (a b : Bool) (changed : Image) → unlessRefusedImage (row 1 a (row 2 b 3)) g changed ≡ g
+    leaves : (a b : Bool) (changed : Image) → unlessRefused (row 1 a (row 2 b 3)) g changed ≡ g
     leaves true b changed = refl
     leaves false true changed = refl
     leaves false false changed = refl

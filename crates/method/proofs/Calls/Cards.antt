@@ -15,7 +15,8 @@ use Rattle.method.specs.Changes.{Control, addedBy, startedBy}
 use Rattle.method.specs.ControlPart.{active, withCards}
 use Rattle.method.specs.OneRecordList.{plainObserve, quiet}
 use Rattle.method.specs.Parameters.{Parameters}
-use Rattle.method.specs.PlainList.{plainAct, plainNext, plainRefusal, plainStart, unlessRefused}
+use Rattle.method.specs.PlainList.{plainAct, plainNext, plainRefusal, plainStart}
+use Rattle.method.specs.Rules.{unlessRefused}
 use Rattle.method.specs.Rules.{View, act, clearCard, fit, guarded, inActive, ok, place, plan, refusal, refused}
 use Rattle.method.specs.Rules.{start, updated, withdraw}
 use Rattle.method.specs.Slots.{Slot, blank}
@@ -52,7 +53,7 @@ module _ (P : Parameters) (L : Laws P) where
     unfolding plan refusal act plainObserve plainNext plainRefusal plainAct
     step-start a = go (startRefusal a) refl
       where
-        go : (n : ℕ) → startRefusal a ≡ n → Good P L v (start a) (guarded P n k (act P (start a) k v)) quiet (unlessRefused P n (plainOf P k records) (plainStart P a))
+        go : (n : ℕ) → startRefusal a ≡ n → Good P L v (start a) (guarded P n k (act P (start a) k v)) quiet (unlessRefused n (plainOf P k records) (plainStart P a))
         go zero e = record { sight = refl; goes = λ z. (refl, start-inv v a e) }
         go (suc n) e = idle-still P L k v records i (start a) (refused (suc n)) quiet refl
 
@@ -93,7 +94,7 @@ module _ (P : Parameters) (L : Laws P) where
     unfolding plan refusal act plainObserve plainNext plainRefusal plainAct
     step-fit c = go (refusal P (fit c) k v) refl
       where
-        go : (n : ℕ) → refusal P (fit c) k v ≡ n → Good P L v (fit c) (guarded P n k (act P (fit c) k v)) quiet (unlessRefused P n (plainOf P k records) (plainAct P (fit c) (plainOf P k records)))
+        go : (n : ℕ) → refusal P (fit c) k v ≡ n → Good P L v (fit c) (guarded P n k (act P (fit c) k v)) quiet (unlessRefused n (plainOf P k records) (plainAct P (fit c) (plainOf P k records)))
         go zero e =
             let a = row-3 (ltb c cards) e in
             let b = row-clear (has (k .working) c || inActive P k c) 7 (row-clear (k .stopped) 3 (a .1) .1) .0 in
@@ -122,7 +123,7 @@ module _ (P : Parameters) (L : Laws P) where
     step-withdraw c = go (refusal P (withdraw c) k v) refl
       where
         go : (n : ℕ) → refusal P (withdraw c) k v ≡ n → Good P L v (withdraw c) (guarded P n k (act P (withdraw c) k v)) quiet
-            (unlessRefused P n (plainOf P k records) (plainAct P (withdraw c) (plainOf P k records)))
+            (unlessRefused n (plainOf P k records) (plainAct P (withdraw c) (plainOf P k records)))
         go zero e =
             let a = row-3 (ltb c cards) e in
             let b = row-clear (not (has (k .working) c) || inActive P k c) 7 (row-clear (k .stopped) 3 (a .1) .1) .0 in
@@ -143,6 +144,6 @@ module _ (P : Parameters) (L : Laws P) where
         }
 
         go : (n : ℕ) → refusal P (place a) k v ≡ n → Good P L v (place a) (guarded P n k (act P (place a) k v)) quiet
-            (unlessRefused P n (plainOf P k records) (plainAct P (place a) (plainOf P k records)))
+            (unlessRefused n (plainOf P k records) (plainAct P (place a) (plainOf P k records)))
         go zero e = record { sight = refl; goes = λ z. (refl, inv (row-clear (k .stopped) 3 (row-clear (not (placeInRange a)) 2 e .1) .1)) }
         go (suc n) e = idle-still P L k v records i (place a) (refused (suc n)) quiet refl

@@ -18,7 +18,8 @@ use Rattle.method.specs.Changes.{Control, addedBy, marked, replaced}
 use Rattle.method.specs.ControlPart.{active, begunAt, closed, halted, isOpen}
 use Rattle.method.specs.OneRecordList.{Observation, failing, isStop, plainObserve}
 use Rattle.method.specs.Parameters.{Parameters}
-use Rattle.method.specs.PlainList.{endRecords, plainAct, plainNext, plainRefusal, stopsNow, unlessRefused}
+use Rattle.method.specs.PlainList.{endRecords, plainAct, plainNext, plainRefusal, stopsNow}
+use Rattle.method.specs.Rules.{unlessRefused}
 use Rattle.method.specs.Rules.{View, act, dropHeld, fail, failPlan, guarded, lost, placed, plan, refusal}
 use Rattle.method.specs.Rules.{refused, row, stopping, stops, unplaced, updated, visible, writing}
 use Rattle.method.specs.Slots.{Slot, ended}
@@ -148,7 +149,7 @@ module _ (P : Parameters) (L : Laws P) where
       where
         Goal : ℕ → Type 0
         Goal n = Good P L v (fail c) (guarded P n k (act P (fail c) k v)) (failing (has (k .working) c && stopsNow P k c))
-            (unlessRefused P (row 8 (not (has (k .working) c)) 0) (plainOf P k records) (plainAct P (fail c) (plainOf P k records)))
+            (unlessRefused (row 8 (not (has (k .working) c)) 0) (plainOf P k records) (plainAct P (fail c) (plainOf P k records)))
 
         branch : has (k .working) c ≡ true → (b : Bool) → stopping P k c ≡ b
             → Good P L v (fail c) (cond b

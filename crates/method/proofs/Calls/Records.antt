@@ -14,7 +14,8 @@ use Rattle.method.specs.Changes.{Control}
 use Rattle.method.specs.ControlPart.{active, isOpen}
 use Rattle.method.specs.OneRecordList.{client, plainObserve}
 use Rattle.method.specs.Parameters.{Parameters}
-use Rattle.method.specs.PlainList.{lockRecord, orRefused, plainAct, plainNext, plainRefusal, unlessRefused}
+use Rattle.method.specs.PlainList.{lockRecord, orRefused, plainAct, plainNext, plainRefusal}
+use Rattle.method.specs.Rules.{unlessRefused}
 use Rattle.method.specs.Rules.{View, absent, act, delete, get, guarded, holders, layBlock, lockHolders, lockedOut}
 use Rattle.method.specs.Rules.{newestSites, ok, plan, refusal, refused, reply, row, store, storeWrites, unwritten}
 use Rattle.method.specs.Rules.{updated, writing}
@@ -53,14 +54,14 @@ module _ (P : Parameters) (L : Laws P) where
     pub step-get : (t r : ℕ) → Agrees P L k v records (get t r)
     unfolding plan refusal act plainObserve plainNext plainRefusal plainAct
     step-get t r = subst (λ (m : ℕ). Good P L v (get t r) (guarded P (refusal P (get t r) k v) k (act P (get t r) k v)) (client (orRefused P m (reply P (readBy t (records r)))))
-        (unlessRefused P m (plainOf P k records) (plainOf P k records)))
+        (unlessRefused m (plainOf P k records) (plainOf P k records)))
         (get-same t r) (go (refusal P (get t r) k v) refl)
       where
         range : refusal P (get t r) k v ≡ 0 → recInRange (k .setting) r ≡ true
         range e = and-r (tranInRange t) (recInRange (k .setting) r) (row-3 (tranInRange t && recInRange (k .setting) r) e .0)
 
         go : (n : ℕ) → refusal P (get t r) k v ≡ n → Good P L v (get t r) (guarded P n k (act P (get t r) k v)) (client (orRefused P n (reply P (readBy t (records r)))))
-            (unlessRefused P n (plainOf P k records) (plainOf P k records))
+            (unlessRefused n (plainOf P k records) (plainOf P k records))
         go zero e = idle-still P L k v records i (get t r) _ (client (reply P (readBy t (records r)))) (rw (seen-is P L k v records i r (range e)))
         go (suc n) e = idle-still P L k v records i (get t r) (refused (suc n)) (client (refused (suc n))) refl
 
@@ -159,14 +160,14 @@ module _ (P : Parameters) (L : Laws P) where
     pub step-store : (t r n : ℕ) → Agrees P L k v records (store t r n)
     unfolding plan refusal act plainObserve plainNext plainRefusal plainAct
     step-store t r n = subst (λ (m : ℕ). Good P L v (store t r n) (guarded P (refusal P (store t r n) k v) k (act P (store t r n) k v)) (client (orRefused P m ok))
-        (unlessRefused P m (plainOf P k records) (plainAct P (store t r n) (plainOf P k records))))
+        (unlessRefused m (plainOf P k records) (plainAct P (store t r n) (plainOf P k records))))
         (store-same t r n) (go (refusal P (store t r n) k v) refl)
       where
         range : refusal P (store t r n) k v ≡ 0 → (tranInRange t && recInRange (k .setting) r && valueInRange n) ≡ true
         range e = row-3 (tranInRange t && recInRange (k .setting) r && valueInRange n) e .0
 
         go : (m : ℕ) → refusal P (store t r n) k v ≡ m → Good P L v (store t r n) (guarded P m k (act P (store t r n) k v)) (client (orRefused P m ok))
-            (unlessRefused P m (plainOf P k records) (plainAct P (store t r n) (plainOf P k records)))
+            (unlessRefused m (plainOf P k records) (plainAct P (store t r n) (plainOf P k records)))
         go zero e = record {
           sight = refl;
           goes = λ z. (
@@ -182,7 +183,7 @@ module _ (P : Parameters) (L : Laws P) where
     pub step-delete : (t r : ℕ) → Agrees P L k v records (delete t r)
     unfolding plan refusal act plainObserve plainNext plainRefusal plainAct
     step-delete t r = subst (λ (m : ℕ). Good P L v (delete t r) (guarded P (refusal P (delete t r) k v) k (act P (delete t r) k v))
-        (client (orRefused P m (cond (isNone (readBy t (records r))) absent ok))) (unlessRefused P m (plainOf P k records) (plainAct P (delete t r) (plainOf P k records))))
+        (client (orRefused P m (cond (isNone (readBy t (records r))) absent ok))) (unlessRefused m (plainOf P k records) (plainAct P (delete t r) (plainOf P k records))))
         (delete-same t r) (go (refusal P (delete t r) k v) refl)
       where
         range : refusal P (delete t r) k v ≡ 0 → (tranInRange t && recInRange (k .setting) r) ≡ true
@@ -202,6 +203,6 @@ module _ (P : Parameters) (L : Laws P) where
         branch o false e = record { sight = refl; goes = λ z. (refl, lock-inv t r none (unfold Locks in (λ y j. slot-delete y r t j (and-l (tranInRange t) (recInRange (k .setting) r) o))) (alive e)) }
 
         go : (m : ℕ) → refusal P (delete t r) k v ≡ m → Good P L v (delete t r) (guarded P m k (act P (delete t r) k v))
-            (client (orRefused P m (cond (isNone (readBy t (records r))) absent ok))) (unlessRefused P m (plainOf P k records) (plainAct P (delete t r) (plainOf P k records)))
+            (client (orRefused P m (cond (isNone (readBy t (records r))) absent ok))) (unlessRefused m (plainOf P k records) (plainAct P (delete t r) (plainOf P k records)))
         go zero e = rw (seen-is P L k v records i r (and-r (tranInRange t) (recInRange (k .setting) r) (range e))) (branch (range e) (isNone (readBy t (records r))) refl)
         go (suc m) e = idle-still P L k v records i (delete t r) (refused (suc m)) (client (refused (suc m))) refl

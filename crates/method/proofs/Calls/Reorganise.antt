@@ -12,12 +12,12 @@ use Rattle.lists.specs.Tests.{allIn, elem}
 use Rattle.lists.proofs.Bools.{and-l, and-r, not-not-is, split, tf}
 use Rattle.lists.proofs.Counts.{below-all}
 use Rattle.lists.proofs.Lists.{all-out, elem-in}
-use Rattle.method.specs.Rules.{settledBy}
+use Rattle.method.specs.Rules.{settledBy, unlessRefused}
 use Rattle.method.specs.Changes.{Control}
 use Rattle.method.specs.ControlPart.{active, onlyNewest}
 use Rattle.method.specs.OneRecordList.{isZero, plainObserve, quiet}
 use Rattle.method.specs.Parameters.{Parameters}
-use Rattle.method.specs.PlainList.{plainAct, plainNext, plainRefusal, unlessRefused}
+use Rattle.method.specs.PlainList.{plainAct, plainNext, plainRefusal}
 use Rattle.method.specs.Rules.{View, act, guarded, load, move, moveWrites, newestSites, plan, refusal, refused}
 use Rattle.method.specs.Rules.{row, settle, settled, state, updated}
 use Rattle.method.specs.Slots.{Slot}
@@ -130,7 +130,7 @@ module _ (P : Parameters) (L : Laws P) where
     step-settle = go (refusal P settle k v) refl
       where
         go : (n : ℕ) → refusal P settle k v ≡ n → Good P L v settle (guarded P n k (act P settle k v)) quiet
-            (unlessRefused P (row 13 (not (isZero n)) 0) (plainOf P k records) (plainAct P settle (plainOf P k records)))
+            (unlessRefused (row 13 (not (isZero n)) 0) (plainOf P k records) (plainAct P settle (plainOf P k records)))
         go zero e = record { sight = refl; goes = λ z. (refl, settle-inv (not-not-is (settled P k v) (row-clear (not (settled P k v)) 12 (row-clear (k .stopped) 3 e .1) .0))) }
         go (suc n) e = idle-still P L k v records i settle (refused (suc n)) quiet refl
 

@@ -12,7 +12,8 @@ use Rattle.method.specs.Changes.{Control}
 use Rattle.method.specs.ControlPart.{isOpen, withHome}
 use Rattle.method.specs.OneRecordList.{client, plainObserve, quiet}
 use Rattle.method.specs.Parameters.{Parameters}
-use Rattle.method.specs.PlainList.{orRefused, plainAct, plainNext, plainRefusal, unlessRefused}
+use Rattle.method.specs.PlainList.{orRefused, plainAct, plainNext, plainRefusal}
+use Rattle.method.specs.Rules.{unlessRefused}
 use Rattle.method.specs.Rules.{View, act, begin, commit, endHeld, guarded, ok, plan, refusal, refused, rollback}
 use Rattle.method.specs.Rules.{row, updated}
 use Rattle.method.specs.Slots.{Slot, ended}
@@ -41,7 +42,7 @@ module _ (P : Parameters) (L : Laws P) where
     step-begin t h = go (refusal P (begin t h) k v) refl
       where
         go : (n : ℕ) → refusal P (begin t h) k v ≡ n → Good P L v (begin t h) (guarded P n k (act P (begin t h) k v)) quiet
-            (unlessRefused P n (plainOf P k records) (plainAct P (begin t h) (plainOf P k records)))
+            (unlessRefused n (plainOf P k records) (plainAct P (begin t h) (plainOf P k records)))
         go zero e = record { sight = refl; goes = λ z. (refl, home-inv (λ x. cond (eqb x t) (some h) (k .home x))) }
         go (suc n) e = idle-still P L k v records i (begin t h) (refused (suc n)) quiet refl
 
@@ -67,7 +68,7 @@ module _ (P : Parameters) (L : Laws P) where
     step-commit t = rw (← (end-same t)) (go (row 3 (not (tranInRange t)) (row 4 (k .stopped) (row 5 (not (isOpen k t)) 0))) refl)
       where
         go : (n : ℕ) → row 3 (not (tranInRange t)) (row 4 (k .stopped) (row 5 (not (isOpen k t)) 0)) ≡ n
-            → Good P L v (commit t) (guarded P n k (act P (commit t) k v)) (client (orRefused P n ok)) (unlessRefused P n (plainOf P k records) (plainAct P (commit t) (plainOf P k records)))
+            → Good P L v (commit t) (guarded P n k (act P (commit t) k v)) (client (orRefused P n ok)) (unlessRefused n (plainOf P k records) (plainAct P (commit t) (plainOf P k records)))
         go zero e = record { sight = refl; goes = λ z. (refl, end-inv true (λ x. eqb x t) (λ x. cond (eqb x t) none (k .home x))) }
         go (suc n) e = idle-still P L k v records i (commit t) (refused (suc n)) (client (refused (suc n))) refl
 
@@ -76,6 +77,6 @@ module _ (P : Parameters) (L : Laws P) where
     step-rollback t = rw (← (end-same t)) (go (row 3 (not (tranInRange t)) (row 4 (k .stopped) (row 5 (not (isOpen k t)) 0))) refl)
       where
         go : (n : ℕ) → row 3 (not (tranInRange t)) (row 4 (k .stopped) (row 5 (not (isOpen k t)) 0)) ≡ n
-            → Good P L v (rollback t) (guarded P n k (act P (rollback t) k v)) (client (orRefused P n ok)) (unlessRefused P n (plainOf P k records) (plainAct P (rollback t) (plainOf P k records)))
+            → Good P L v (rollback t) (guarded P n k (act P (rollback t) k v)) (client (orRefused P n ok)) (unlessRefused n (plainOf P k records) (plainAct P (rollback t) (plainOf P k records)))
         go zero e = record { sight = refl; goes = λ z. (refl, end-inv false (λ x. eqb x t) (λ x. cond (eqb x t) none (k .home x))) }
         go (suc n) e = idle-still P L k v records i (rollback t) (refused (suc n)) (client (refused (suc n))) refl
