@@ -19,7 +19,7 @@ use Rattle.cabinet_rules.specs.Images.{Image, controlIn, planOn}
 use Rattle.promise.specs.Given.{Given, rowsOn, viewOf}
 use Rattle.promise.specs.Promise.{Done}
 use Rattle.promise.specs.declared.Answer.the-variants.{Ok, Refused}
-use Rattle.promise.proofs.Finish.{by-both, by-control, by-rules, given-whole}
+use Rattle.promise.proofs.Finish.{by-stamps, by-stamps-alone, by-rules, given-whole}
 use Rattle.promise.specs.Laid.{laid}
 use Rattle.cards.proofs.Rows.{fit-range, fit-rows, place-few, place-rows, rowsOf, withdraw-range, withdraw-rows}
 
@@ -66,7 +66,7 @@ module _ {k : Struct} {g : Image} (is : Given k g) where
       → behind ≡ putControl (laid (clearCard cabinet c) g) (meaning x) → Done (fit c) g Ok behind
   fit-done c n x behind e z ix l =
       let p : meaning x ≡ fitted g c = ix .means ∙ ap (λ (q : Part). withCards q (withCard (q .working) c) (withoutCard (q .failed) c)) (is .is .means) in
-      by-both (fit c) refl g (is .formed) Ok (fitted g c) (clearCard cabinet c) behind (rows-on (fit c) (fit-rows (controlIn g) (viewOf g) c) (sym z ∙ e)) (fit-plan g c)
+      by-stamps (fit c) refl g (is .formed) refl Ok (fitted g c) (clearCard cabinet c) behind (rows-on (fit c) (fit-rows (controlIn g) (viewOf g) c) (sym z ∙ e)) (fit-plan g c)
       (l ∙ ap (putControl (laid (clearCard cabinet c) g)) p)
 
   pub withdraw-done : (c n : ℕ) (x : Struct) (behind : Image) → n ≡ rowsOf (withdraw c) (meaning k) → n ≡ 0
@@ -74,14 +74,14 @@ module _ {k : Struct} {g : Image} (is : Given k g) where
       → behind ≡ putControl (laid (clearCard cabinet c) g) (meaning x) → Done (withdraw c) g Ok behind
   withdraw-done c n x behind e z ix l =
       let p : meaning x ≡ withdrawn g c = ix .means ∙ ap (λ (q : Part). withCards q (withoutCard (q .working) c) (q .failed)) (is .is .means) in
-      by-both (withdraw c) refl g (is .formed) Ok (withdrawn g c) (clearCard cabinet c) behind
+      by-stamps (withdraw c) refl g (is .formed) refl Ok (withdrawn g c) (clearCard cabinet c) behind
       (rows-on (withdraw c) (withdraw-rows (controlIn g) (viewOf g) c) (sym z ∙ e)) (withdraw-plan g c) (l ∙ ap (putControl (laid (clearCard cabinet c) g)) p)
 
   pub place-done : (m : Byte) (p : Placement) (n : ℕ) (x : Struct) (behind : Image) → p ≡ fromMask m → n ≡ rowsOf (place m) (meaning k) → n ≡ 0
       → Is x (added (meaning k) p tt) → behind ≡ putControl g (meaning x) → Done (place m) g Ok behind
   place-done m p n x behind q e z ix l =
       let is-added : meaning x ≡ placedOn g m = ix .means ∙ ap₂ (λ (k : Part) (p : Placement). added k p tt) (is .is .means) q in
-      by-control (place m) refl g (is .formed) Ok (placedOn g m) behind (rows-on (place m) (place-rows (controlIn g) (viewOf g) m) (sym z ∙ e)) (place-plan g m)
+      by-stamps-alone (place m) refl g (is .formed) refl Ok (placedOn g m) behind (rows-on (place m) (place-rows (controlIn g) (viewOf g) m) (sym z ∙ e)) (place-plan g m)
       (l ∙ ap (putControl g) is-added)
 
   -- what the functions below an accepted call ask

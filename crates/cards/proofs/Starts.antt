@@ -5,7 +5,7 @@ use lib.Dec.{leb}
 use lib.ListN.{length}
 use mathlib.Core.Bool.{Bool, false, true}
 use mathlib.Core.Option.{some}
-use mathlib.Core.Path.{_∙_, _≡_, ap, ap₂, sym}
+use mathlib.Core.Path.{_∙_, _≡_, ap, ap₂, refl, sym}
 use native.Mathlib.Omega.{arith}
 use Rattle.image.specs.Layout.{controlSize, imageSize, leastMembers}
 use Rattle.image.specs.Parts.{Whole}
@@ -21,7 +21,7 @@ use Rattle.cabinet_rules.specs.Cabinet.{cabinet, startRow}
 use Rattle.cabinet_rules.specs.Images.{Image, answerBy, nextBy, refusalBy}
 use Rattle.promise.specs.Promise.{Done}
 use Rattle.promise.specs.declared.Answer.the-variants.{Ok, Refused}
-use Rattle.promise.proofs.Laid.{whole-laid, write-control}
+use Rattle.promise.proofs.Laid.{whole-laid, write-stamped}
 use Rattle.cards.specs.Clearing.{cleared}
 
 module _ (g : Image) (m : Byte) where
@@ -48,7 +48,7 @@ module _ (g : Image) (m : Byte) where
         record {
           answers = rw (eq-eqb (length g) imageSize w, some-members);
           leaves = l ∙ ap₂ putControl o part
-              ∙ rw (eq-eqb (length g) imageSize w, some-members) (write-control (λ c b. some emptyBlock) g (startedBy cabinet m) _);
+              ∙ rw (eq-eqb (length g) imageSize w, some-members) (write-stamped (λ c b. some emptyBlock) g (startedBy cabinet m) _ refl);
         }
 
 -- there is room for the control part

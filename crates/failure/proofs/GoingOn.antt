@@ -4,7 +4,6 @@ use Prim.Native.Nat.{_-_, _<_, ℕ}
 use lib.ListN.{getD, length, length-reverse}
 use mathlib.Core.Bool.{Bool, false, true}
 use mathlib.Core.List.{[], _∷_, reverse}
-use mathlib.Core.Option.{none}
 use mathlib.Core.Path.{_∙_, _≡_, ap, ap₂, refl, sym}
 use native.Mathlib.Omega.{arith}
 use Rattle.lists.specs.Tests.{In}
@@ -29,7 +28,7 @@ use Rattle.promise.specs.Promise.{Done}
 use Rattle.promise.specs.declared.Answer.the-variants.{Placed, Unplaced}
 use Rattle.promise.proofs.Finish.{by-both, by-plan, form-good}
 use Rattle.promise.specs.Laid.{laid}
-use Rattle.promise.proofs.Laid.{whole-laid, write-control}
+use Rattle.promise.proofs.Laid.{whole-laid, write-stamped}
 use Rattle.tables.specs.Tables.{endWrites, setOf}
 use Rattle.failure.specs.Failing.{Failing}
 use Rattle.failure.proofs.Room.{room-for}
@@ -76,7 +75,7 @@ module _ {m x : Struct} {g out : Image} {c : ℕ} (f : Failing m g c) (s : stopp
 
   -- ---- the card was not in the newest placement
   unplaced-plan : hasCard newest c ≡ false
-      → planOn (fail c) g ≡ stamping cabinet (writing cabinet unplaced closedPart (dropHeld cabinet (begunAt (controlIn g) c) c (viewOf g))) (λ x. none)
+      → planOn (fail c) g ≡ writing cabinet unplaced closedPart (dropHeld cabinet (begunAt (controlIn g) c) c (viewOf g))
   unfolding act
   unplaced-plan h = rw (s, h)
 
@@ -104,7 +103,7 @@ module _ {m x : Struct} {g out : Image} {c : ℕ} (f : Failing m g c) (s : stopp
       let q : byte mask ≡ withoutCard newest c = without ∙ ap (λ (b : Byte). withoutCard b c) (newest-is e) in
       let is : meaning y ≡ addedPart = iy .means ∙ ap₂ (λ (k : Part) (p : Placement). added k p tt) closed-is (from ∙ ap (λ (b : Byte). fromMask b) q) in
       by-plan (fail c) refl g (f .formed) (Placed mask) _ behind (f .accepted) (placed-plan (had e h ∙ z)) (ap (λ (b : Byte). placed b) q)
-      (l ∙ ap₂ putControl out-dropped is ∙ write-control w g addedPart _)
+      (l ∙ ap₂ putControl out-dropped is ∙ write-stamped w g addedPart _ refl)
 
   older-active : (p : Placement) → In p (reverse (controlIn g .older)) → In p (active (controlIn g))
   older-active p i = in-left (controlIn g .older) (controlIn g .newest ∷ []) p (in-reverse (controlIn g .older) p i)

@@ -1,11 +1,11 @@
 -- The sites of every block of a placement, as masks. Assumes nothing.
-use mathlib.Core.Path.{_≡_}
-use mathlib.Core.Bool.{Bool}
-use Prim.Native.Nat.{ℕ, _<_}
-use mathlib.Core.List.{List}
+use lib.Dec.{ltb}
 use lib.ListN.{drop, getD}
+use mathlib.Core.Bool.{Bool, cond}
+use mathlib.Core.List.{List}
+use mathlib.Core.Path.{_≡_}
+use Prim.Native.Nat.{ℕ, _+_, _<_}
 use Rattle.image.specs.Layout.{blockCount}
-use Rattle.mask.specs.declared.site_masks.SiteMasks.{SiteMasks}
 use Rattle.mask.specs.Masks.{AreMembers, byte, members}
 use Rattle.mask.specs.Placements.{Placement, isSite}
 
@@ -18,5 +18,14 @@ abbrev pub MasksBelow : (ℕ → ℕ → Bool) → List ℕ → ℕ → Type 0
 MasksBelow f masks n = (b : ℕ) → b < n → AreMembers (getD masks b 0) (f b)
 
 -- The mask of each block is of its sites.
-abbrev pub SitesIn : SiteMasks → Placement → Type 0
-SitesIn t p = MasksBelow (isSite p) (t .masks) blockCount
+abbrev pub SitesIn : List ℕ → Placement → Type 0
+SitesIn masks p = MasksBelow (isSite p) masks blockCount
+
+-- Twice as many blocks, or all.
+abbrev pub twice : ℕ → ℕ
+twice n = cond (ltb (n + n) blockCount) (n + n) blockCount
+
+-- Where f picks the same cards again after n blocks, the masks of the first n stay and those behind them are right too.
+abbrev pub Repeats : List ℕ → ℕ → List ℕ → Type 0
+Repeats before n behind =
+    (f : ℕ → ℕ → Bool) → ((b c : ℕ) → f (b + n) c ≡ f b c) → MasksBelow f before n → MasksBelow f behind (twice n)

@@ -1,6 +1,10 @@
 // What the call finds in an image.
 ghost use mathlib.Core.Path.{_≡_};
 ghost use mathlib.Core.Bool.{false};
+ghost use lib.ListN.{length};
+ghost use Rattle.image.specs.Layout.{blockCount};
+ghost use Rattle.mask.specs.SiteMasks.{SitesIn};
+ghost use Rattle.control.specs.Meaning.{meaning};
 ghost use Rattle.promise.specs.Given.{Given};
 ghost use Rattle.move_list.specs.Plans.{Finds, refusedPlan};
 use crate::Plan;
@@ -22,18 +26,18 @@ pub fn refused(refusal: u8) -> Plan
     }
 }
 
-// Block by block: the cards that it must move from, until one of them is locked.
-pub fn find(image: &[u8], k: Control) -> Plan
+// Block by block, by the masks of the newest sites: the cards that it must move from, until one of them is locked.
+fn find_by(image: &[u8], k: Control, sites: &[u8]) -> Plan
     requires { ⌜ Given k (now image) ⌝ }
+    requires { ⌜ (length (now sites) ≡ blockCount) × SitesIn (now sites) (meaning k .newest) ⌝ }
     ensures { λ r. ⌜ Finds r (now (image .entry)) ⌝ }
 {
-    let sites = looking::newest_masks(k);
     let mut origins = [0u8; BLOCK_COUNT];
     let mut count: u16 = 0;
     let mut b: usize = 0;
     while b < BLOCK_COUNT {
         let block = Block(b as u8);
-        let from = origins::of_block(image, k.working, sites.masks[b], block);
+        let from = origins::of_block(image, k.working, sites[b], block);
         if origins::any_locked(image, from, block) {
             return Plan {
                 refusal: 0,
@@ -52,4 +56,14 @@ pub fn find(image: &[u8], k: Control) -> Plan
         count: count,
         origins: origins,
     }
+}
+
+// The same, the masks worked out first.
+pub fn find(image: &[u8], k: Control) -> Plan
+    requires { ⌜ Given k (now image) ⌝ }
+    ensures { λ r. ⌜ Finds r (now (image .entry)) ⌝ }
+{
+    let mut sites = [0u8; BLOCK_COUNT];
+    looking::newest_masks(&mut sites, k);
+    find_by(image, k, &sites)
 }

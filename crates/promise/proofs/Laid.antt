@@ -135,12 +135,14 @@ module _ (w : Writes) (g : Image) where
           ∙ ap (λ (o : Option BlockBytes). updated o (blockIn g d e) .0) (sym (put-elsewhere w c b x d e n)))
 
 -- ---- the control part is written over the blocks
--- its bytes behind the tables are the ones that are there
-pub write-front : (w : Writes) (g : Image) (k : Part) → ((n : ℕ) → n < layout .imageTail → current .memory .tail k n ≡ tailIn g n)
-    → putControl (laid w g) k ≡ after (controlByte k) (current .memory .tail k) w (λ c. none) g
-write-front w g k keeps = after-ext layout (controlByte k) (current .memory .tail k) w (λ c. none) g (putControl (laid w g) k) long
+-- its bytes behind the tables are the ones that are there: no byte lies there
+behind-kept : (k : Part) (g : Image) (n : ℕ) → n < layout .imageTail → current .memory .tail k n ≡ tailIn g n
+behind-kept k g n h = absurd (omega arith)
+
+pub write-control : (w : Writes) (g : Image) (k : Part) → putControl (laid w g) k ≡ after (controlByte k) (current .memory .tail k) w (λ c. none) g
+write-control w g k = after-ext layout (controlByte k) (current .memory .tail k) w (λ c. none) g (putControl (laid w g) k) long
     (λ n h. put-in (laid w g) k fits n h)
-    (λ n h. put-after (laid w g) k fits (tailStartOf layout + n) (omega arith) ∙ laid-tail w g n h ∙ sym (keeps n h))
+    (λ n h. put-after (laid w g) k fits (tailStartOf layout + n) (omega arith) ∙ laid-tail w g n h ∙ sym (behind-kept k g n h))
     (λ c b hc hb. is-block (putControl (laid w g) k) long c b hc hb (updated (w c b) (blockIn g c b)) (put-blocks (laid w g) k fits (whole-laid w g) c hc b hb ∙ laid-block w g c b hc hb))
     (λ c j hc hj. put-after (laid w g) k fits (endStartOf layout c + j) (omega arith) ∙ laid-end w g c j hc hj)
   where
@@ -151,7 +153,7 @@ write-front w g k keeps = after-ext layout (controlByte k) (current .memory .tai
     long = length-put (laid w g) k fits ∙ whole-laid w g
 
 -- no stamp is written where no byte lies behind the blocks
-pub no-ends : (k : Part) (w : Writes) (e : Ends) (g : Image) → layout .tableTail ≡ 0
+no-ends : (k : Part) (w : Writes) (e : Ends) (g : Image) → layout .tableTail ≡ 0
     → after (controlByte k) (current .memory .tail k) w (λ c. none) g ≡ after (controlByte k) (current .memory .tail k) w e g
 no-ends k w e g z = after-ext layout (controlByte k) (current .memory .tail k) w e g (after (controlByte k) (current .memory .tail k) w (λ c. none) g)
     (length-after layout (controlByte k) (current .memory .tail k) w (λ c. none) g)
@@ -160,9 +162,8 @@ no-ends k w e g z = after-ext layout (controlByte k) (current .memory .tail k) w
     (after-block layout (controlByte k) (current .memory .tail k) w (λ c. none) g)
     (λ c j hc hj. absurd (omega arith))
 
--- so with neither
-pub write-control : (w : Writes) (g : Image) (k : Part) (e : Ends) → putControl (laid w g) k ≡ after (controlByte k) (current .memory .tail k) w e g
-write-control w g k e = write-front w g k (λ n h. absurd (omega arith)) ∙ no-ends k w e g refl
+pub write-stamped : (w : Writes) (g : Image) (k : Part) (e : Ends) → layout .tableTail ≡ 0 → putControl (laid w g) k ≡ after (controlByte k) (current .memory .tail k) w e g
+write-stamped w g k e z = write-control w g k ∙ no-ends k w e g z
 
 -- a control part that is written as it was read stays
 pub kept-control : (w : Writes) (g : Image) → controlForm g ≡ true → after (controlByte (controlIn g)) (current .memory .tail (controlIn g)) w (λ c. none) g ≡ laid w g
@@ -170,6 +171,6 @@ unfolding laid
 kept-control w g form = after-ext layout (λ n. getD g n 0) (tailIn g) w (λ c. none) g (after (controlByte (controlIn g)) (current .memory .tail (controlIn g)) w (λ c. none) g)
     (length-after layout (controlByte (controlIn g)) (current .memory .tail (controlIn g)) w (λ c. none) g)
     (λ n h. after-control layout (controlByte (controlIn g)) (current .memory .tail (controlIn g)) w (λ c. none) g n h ∙ control-back (λ n. getD g n 0) form n h)
-    (λ n h. absurd (omega arith))
+    (λ n h. after-tail layout (controlByte (controlIn g)) (current .memory .tail (controlIn g)) w (λ c. none) g n h ∙ behind-kept (controlIn g) g n h)
     (after-block layout (controlByte (controlIn g)) (current .memory .tail (controlIn g)) w (λ c. none) g)
     (after-end layout (controlByte (controlIn g)) (current .memory .tail (controlIn g)) w (λ c. none) g)

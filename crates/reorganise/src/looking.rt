@@ -1,6 +1,7 @@
 // The newest sites of blocks as masks, and whether a block lies at them.
 ghost use mathlib.Core.Path.{_≡_};
 ghost use Prim.Native.Nat.{_<_};
+ghost use lib.ListN.{length};
 ghost use Rattle.image.specs.Layout.{blockCount, cardCount};
 ghost use Rattle.mask.specs.Masks.{AreMembers, byte, hasCard, members};
 ghost use Rattle.mask.specs.Placements.{Usable, isSite};
@@ -9,7 +10,7 @@ ghost use Rattle.control.specs.Meaning.{Counted, meaning};
 ghost use Rattle.method.specs.Rules.{settledBy};
 use control::Control;
 use image::Block;
-use mask::site_masks::SiteMasks;
+use mask::site_masks;
 
 // The sites of a block in the newest placement.
 pub fn newest_sites(k: Control, block: Block) -> u8
@@ -22,13 +23,14 @@ pub fn newest_sites(k: Control, block: Block) -> u8
     newest.site_mask(block)
 }
 
-// Those of every block.
-pub fn newest_masks(k: Control) -> SiteMasks
+// Those of every block, in a lent list.
+pub fn newest_masks(masks: &mut [u8], k: Control)
+    requires { ⌜ length (now masks) ≡ blockCount ⌝ }
     requires { ⌜ Counted k ⌝ }
     requires { ⌜ Usable (meaning k .newest) ⌝ }
-    ensures { λ r. ⌜ SitesIn r (meaning k .newest) ⌝ }
+    ensures { λ _. ⌜ SitesIn (now (masks .exit)) (meaning k .newest) ⌝ }
 {
-    SiteMasks::of(k.newest())
+    site_masks::fill(masks, k.newest());
 }
 
 // Whether a block held on some card is held by all its sites and by no other card: of the masks of the cards that hold

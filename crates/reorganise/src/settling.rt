@@ -1,5 +1,9 @@
 // The condition of a settle.
 ghost use mathlib.Core.Path.{_≡_};
+ghost use lib.ListN.{length};
+ghost use Rattle.image.specs.Layout.{blockCount};
+ghost use Rattle.mask.specs.SiteMasks.{SitesIn};
+ghost use Rattle.control.specs.Meaning.{meaning};
 ghost use Rattle.method.specs.Rules.{settle, settled};
 ghost use Rattle.cabinet_rules.specs.Cabinet.{cabinet};
 ghost use Rattle.cabinet_rules.specs.Images.{controlIn};
@@ -11,23 +15,34 @@ use image::Block;
 
 // Whether every block lies where the newest placement has it: one pass over the working cards' tables, two blocks at a
 // time, beside the masks of the newest sites.
-fn settled(image: &[u8], k: Control) -> bool
+fn settled_by(image: &[u8], k: Control, sites: &[u8]) -> bool
     requires { ⌜ Given k (now image) ⌝ }
+    requires { ⌜ (length (now sites) ≡ blockCount) × SitesIn (now sites) (meaning k .newest) ⌝ }
     ensures { λ r. ⌜ r ≡ settled cabinet (controlIn (now (image .entry))) (viewOf (now (image .entry))) ⌝ }
 {
-    let sites = looking::newest_masks(k);
     let mut b = 0;
     while b < BLOCK_COUNT {
         let held = trail::held_by_two(image, k.working, Block(b as u8));
-        if !looking::block_settled(held.first, sites.masks[b]) {
+        if !looking::block_settled(held.first, sites[b]) {
             return false;
         }
-        if !looking::block_settled(held.second, sites.masks[b + 1]) {
+        if !looking::block_settled(held.second, sites[b + 1]) {
             return false;
         }
         b += 2;
     }
     true
+}
+
+// The same, the masks worked out first. They are lent on and not passed by value: a copy of them would wait until the
+// last is written.
+fn settled(image: &[u8], k: Control) -> bool
+    requires { ⌜ Given k (now image) ⌝ }
+    ensures { λ r. ⌜ r ≡ settled cabinet (controlIn (now (image .entry))) (viewOf (now (image .entry))) ⌝ }
+{
+    let mut sites = [0u8; BLOCK_COUNT];
+    looking::newest_masks(&mut sites, k);
+    settled_by(image, k, &sites)
 }
 
 // Rows 4 and 13.

@@ -9,11 +9,18 @@ use Rattle.reorganise.proofs.looking.newest_masks.Tie as tie
 newest-requires : tie.Need-newest-requires
 newest-requires c κs = search needs
 
-of-requires : tie.Need-of-requires
-of-requires c κs = subst Usable (sym (c .newest .ensures)) (c .before .pre .1)
+fill-requires : tie.Need-fill-requires
+fill-requires c κs =
+    let s = c .before .before .before in
+    (s .pre .0, subst Usable (sym (c .newest .ensures)) (s .pre .1 .1))
+
+same-length : tie.Need-same-length
+same-length c = search needs
 
 returns : tie.Need-returns
-returns c = subst (λ (p : Placement). SitesIn (c .of .result) p) (c .before .newest .ensures) (c .of .ensures)
+returns c =
+    let f = c .before .before in
+    subst (λ (p : Placement). SitesIn (f .fill .last .0) p) (f .before .newest .ensures) (f .fill .ensures)
 
 pub newest-masks-spec : {M : Type 1} → statement M
-newest-masks-spec = tie.close (tie.spec newest-requires of-requires returns)
+newest-masks-spec = tie.close (tie.spec newest-requires fill-requires same-length returns)
