@@ -3,15 +3,15 @@ use mathlib.Core.Path.{_≡_, refl, sym, ap, fun-ext, _∙_}
 use mathlib.Core.Bool.{Bool, true, false, not, _&&_, _||_, and-false, and-true, cond}
 use mathlib.Core.List.{List, [], _∷_}
 use mathlib.Core.Logic.{_≢_, _⊎_, inl, inr}
-use Prim.Native.Nat.{ℕ, suc, zero, _+_, _-_, _%_, _≤_, _<_}
-use native.Mathlib.Nat.{add-mod-right, add-zero, zero-add, mod-eq-of-lt, mod-self}
+use Prim.Native.Nat.{ℕ, suc, zero, _+_, _%_, _≤_, _<_}
+use native.Mathlib.Nat.{add-zero, zero-add, mod-add-mod, mod-eq-of-lt, mod-lt, mod-self}
 use native.Mathlib.Omega.{arith}
 use lib.Bits.{bitAnd}
 use lib.Count.{leadingZeros}
-use lib.Dec.{eqb, ltb}
+use lib.Dec.{eqb}
 use lib.ListN.{List·getD-eq-default, drop, getD, length, length-drop, set}
 use lib.Seq.{drop-drop, getD-drop, getD-set-other, getD-set-same}
-use borrow.Author.Tests.{eq-eqb, lt-ltb, ltb-true, ne-eqb}
+use borrow.Author.Tests.{eq-eqb, lt-ltb, ne-eqb}
 use Rattle.lists.specs.Tests.{allBelow, countBelow, countNot, distinct, elem, oneIf}
 use Rattle.lists.proofs.Bools.{and-l, and-r, eqb-self, not-is, or-l, or-r, split}
 use Rattle.lists.proofs.Cases.{by-eq, lt-or-ge}
@@ -20,7 +20,7 @@ use Rattle.lists.proofs.Lists.{any-default}
 use Rattle.image.specs.Layout.{blockCount, cardCount, copyCount}
 use Rattle.mask.specs.Masks.{AreMembers, Byte, byte, hasCard, members, size, withCard}
 use Rattle.mask.specs.Placements.{Placement, isSite, memberAt, otherRail, sitesOf}
-use Rattle.mask.specs.SiteMasks.{MasksBelow, twice}
+use Rattle.mask.specs.SiteMasks.{MasksBelow, SitesIn}
 use Rattle.mask.proofs.FirstMember.{first-is, some-members}
 use Rattle.mask.proofs.Masks.{elem-members, every-mask, has-card, has-none, has-with}
 use Rattle.mask.proofs.SiteLaws.{site-round, sites-found}
@@ -93,45 +93,27 @@ masks-more f masks n r long below m j h c = by-eq (hasCard (byte (getD (set mask
     (λ e. rw (e, getD-set-same masks n r 0 long) (m c))
     (λ d. rw (getD-set-other masks n j r 0 d) (below j (omega arith) c))
 
--- ---- the same cards again after n blocks
-abbrev pub ComesAgain : (ℕ → ℕ → Bool) → ℕ → Type 0
-ComesAgain f n = (b c : ℕ) → f (b + n) c ≡ f b c
+-- ---- masks of so many blocks, after which the sites come again
+pub masks-round : (p : Placement) (masks : List ℕ) (n : ℕ) → n ≡ length (members (p .mask)) → 0 < n → n ≤ cardCount → MasksBelow (isSite p) masks n → SitesIn masks n p
+masks-round p masks n e some few below = record {
+  some = some;
+  few = omega arith;
+  sites-are = λ b h c. below (b % n) (mod-lt b some) c ∙ ap (elem c) (ap (λ (m : ℕ). sitesOf p (b % m)) e ∙ site-round p b);
+}
 
--- so the cards of a block are those of the block so far before it
-pub masks-again : (f : ℕ → ℕ → Bool) (masks : List ℕ) (n b : ℕ) → ComesAgain f n → 0 < n → n ≤ b → MasksBelow f masks b → AreMembers (getD masks (b - n) 0) (f b)
-masks-again f masks n b again some h below c =
-    below (b - n) (omega arith) c ∙ sym (again (b - n) c) ∙ ap (λ (i : ℕ). f i c) (omega arith)
+-- the place of a block among them, and of the next block
+module _ {masks : List ℕ} {n : ℕ} {p : Placement} (is : SitesIn masks n p) (b place : ℕ) (at : place ≡ b % n) where
+  pub place-counts : place < n
+  place-counts = rw at (mod-lt b (is .some))
 
--- and so it is after twice as many
-pub again-twice : (f : ℕ → ℕ → Bool) (n : ℕ) → ComesAgain f n → ComesAgain f (n + n)
-again-twice f n again b c = ap (λ (i : ℕ). f i c) (omega arith) ∙ again (b + n) c ∙ again b c
+  pub place-fits : place < blockCount
+  place-fits = omega (arith, place-counts, is .few)
 
-pub twice-bounds : (n : ℕ) → n ≤ blockCount → (n ≤ twice n) × (twice n ≤ blockCount)
-twice-bounds n h = go (split (ltb (n + n) blockCount))
-  where
-    go : (ltb (n + n) blockCount ≡ true) ⊎ (ltb (n + n) blockCount ≡ false) → (n ≤ twice n) × (twice n ≤ blockCount)
-    go (inl e) = let l = ltb-true (n + n) blockCount e in rw e (omega arith, omega (arith, l))
-    go (inr e) = rw e (h, omega arith)
+  pub place-next : (next : ℕ) → next ≡ (place + 1) % n → next ≡ (b + 1) % n
+  place-next next e = e ∙ ap (λ (i : ℕ). (i + 1) % n) at ∙ mod-add-mod b n 1
 
--- of more blocks, while there are more
-pub twice-more : (n : ℕ) → 0 < n → n < blockCount → n < twice n
-twice-more n some h = go (split (ltb (n + n) blockCount))
-  where
-    go : (ltb (n + n) blockCount ≡ true) ⊎ (ltb (n + n) blockCount ≡ false) → n < twice n
-    go (inl e) = rw e (omega arith)
-    go (inr e) = rw e h
-
--- and the cards come again after so many, if that is not all
-pub twice-again : (f : ℕ → ℕ → Bool) (n : ℕ) → ComesAgain f n → twice n < blockCount → ComesAgain f (twice n)
-twice-again f n again less = go (split (ltb (n + n) blockCount))
-  where
-    go : (ltb (n + n) blockCount ≡ true) ⊎ (ltb (n + n) blockCount ≡ false) → ComesAgain f (twice n)
-    go (inl e) = rw e (again-twice f n again)
-    go (inr e) = let all : twice n ≡ blockCount = rw e refl in absurd (omega (arith, all, less))
-
--- the sites come again after a round of the members
-pub round-again : (p : Placement) (n : ℕ) → n ≡ length (members (p .mask)) → ComesAgain (isSite p) n
-round-again p n e b c = ap (elem c) (sym (site-round p (b + n)) ∙ ap (sitesOf p) (rw (sym e) (add-mod-right b n)) ∙ site-round p b)
+  pub sites-at : b < blockCount → AreMembers (getD masks place 0) (isSite p b)
+  sites-at h = rw at (is .sites-are b h)
 
 -- ---- how many cards of a mask, or of a list of different cards, the test does not pick
 count-list : (n : ℕ) (f : ℕ → Bool) (l : List ℕ) → distinct l ≡ true → ((x : ℕ) → elem x l ≡ true → x < n) → countBelow n (λ c. elem c l && not (f c)) ≡ countNot f l

@@ -1,10 +1,9 @@
--- The sites of every block of a placement, as masks. Assumes nothing.
-use lib.Dec.{ltb}
+-- The sites of the blocks of a placement, as masks. Assumes nothing.
 use lib.ListN.{drop, getD}
-use mathlib.Core.Bool.{Bool, cond}
+use mathlib.Core.Bool.{Bool}
 use mathlib.Core.List.{List}
 use mathlib.Core.Path.{_≡_}
-use Prim.Native.Nat.{ℕ, _+_, _<_}
+use Prim.Native.Nat.{ℕ, _%_, _<_, _≤_}
 use Rattle.image.specs.Layout.{blockCount}
 use Rattle.mask.specs.Masks.{AreMembers, byte, members}
 use Rattle.mask.specs.Placements.{Placement, isSite}
@@ -17,15 +16,9 @@ SitesFrom p left r = (i : ℕ) → members (byte left) ≡ drop i (members (p .m
 abbrev pub MasksBelow : (ℕ → ℕ → Bool) → List ℕ → ℕ → Type 0
 MasksBelow f masks n = (b : ℕ) → b < n → AreMembers (getD masks b 0) (f b)
 
--- The mask of each block is of its sites.
-abbrev pub SitesIn : List ℕ → Placement → Type 0
-SitesIn masks p = MasksBelow (isSite p) masks blockCount
-
--- Twice as many blocks, or all.
-abbrev pub twice : ℕ → ℕ
-twice n = cond (ltb (n + n) blockCount) (n + n) blockCount
-
--- Where f picks the same cards again after n blocks, the masks of the first n stay and those behind them are right too.
-abbrev pub Repeats : List ℕ → ℕ → List ℕ → Type 0
-Repeats before n behind =
-    (f : ℕ → ℕ → Bool) → ((b c : ℕ) → f (b + n) c ≡ f b c) → MasksBelow f before n → MasksBelow f behind (twice n)
+-- A list of masks for the blocks, whatever the kind of placement: n of them, after which the sites come again. The mask
+-- of block b, at b mod n, is of its sites.
+pub record SitesIn (masks : List ℕ) (n : ℕ) (p : Placement) : Type 0 where
+  pub some : 0 < n
+  pub few : n ≤ blockCount
+  pub sites-are : (b : ℕ) → b < blockCount → AreMembers (getD masks (b % n) 0) (isSite p b)

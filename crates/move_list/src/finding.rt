@@ -12,6 +12,7 @@ use crate::origins;
 use control::Control;
 use image::BLOCK_COUNT;
 use image::Block;
+use mask::site_masks::next_place;
 use reorganise::looking;
 
 // The call is refused: nothing is looked at.
@@ -27,17 +28,18 @@ pub fn refused(refusal: u8) -> Plan
 }
 
 // Block by block, by the masks of the newest sites: the cards that it must move from, until one of them is locked.
-fn find_by(image: &[u8], k: Control, sites: &[u8]) -> Plan
+fn find_by(image: &[u8], k: Control, sites: &[u8], round: usize) -> Plan
     requires { ⌜ Given k (now image) ⌝ }
-    requires { ⌜ (length (now sites) ≡ blockCount) × SitesIn (now sites) (meaning k .newest) ⌝ }
+    requires { ⌜ (length (now sites) ≡ blockCount) × SitesIn (now sites) round (meaning k .newest) ⌝ }
     ensures { λ r. ⌜ Finds r (now (image .entry)) ⌝ }
 {
     let mut origins = [0u8; BLOCK_COUNT];
     let mut count: u16 = 0;
+    let mut place: usize = 0;
     let mut b: usize = 0;
     while b < BLOCK_COUNT {
         let block = Block(b as u8);
-        let from = origins::of_block(image, k.working, sites[b], block);
+        let from = origins::of_block(image, k.working, sites[place], block);
         if origins::any_locked(image, from, block) {
             return Plan {
                 refusal: 0,
@@ -48,6 +50,7 @@ fn find_by(image: &[u8], k: Control, sites: &[u8]) -> Plan
         }
         origins[b] = from;
         count += mask::members(from) as u16;
+        place = next_place(round, place);
         b += 1;
     }
     Plan {
@@ -64,6 +67,6 @@ pub fn find(image: &[u8], k: Control) -> Plan
     ensures { λ r. ⌜ Finds r (now (image .entry)) ⌝ }
 {
     let mut sites = [0u8; BLOCK_COUNT];
-    looking::newest_masks(&mut sites, k);
-    find_by(image, k, &sites)
+    let round = looking::newest_masks(&mut sites, k);
+    find_by(image, k, &sites, round)
 }

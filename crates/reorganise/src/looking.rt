@@ -23,14 +23,14 @@ pub fn newest_sites(k: Control, block: Block) -> u8
     newest.site_mask(block)
 }
 
-// Those of every block, in a lent list.
-pub fn newest_masks(masks: &mut [u8], k: Control)
+// Those of the blocks in a lent list, until they come again: of how many blocks.
+pub fn newest_masks(masks: &mut [u8], k: Control) -> usize
     requires { ⌜ length (now masks) ≡ blockCount ⌝ }
     requires { ⌜ Counted k ⌝ }
     requires { ⌜ Usable (meaning k .newest) ⌝ }
-    ensures { λ _. ⌜ SitesIn (now (masks .exit)) (meaning k .newest) ⌝ }
+    ensures { λ r. ⌜ SitesIn (now (masks .exit)) r (meaning k .newest) ⌝ }
 {
-    site_masks::fill(masks, k.newest());
+    site_masks::fill(masks, k.newest())
 }
 
 // Whether a block held on some card is held by all its sites and by no other card: of the masks of the cards that hold

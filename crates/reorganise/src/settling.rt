@@ -12,37 +12,40 @@ use crate::looking;
 use control::Control;
 use image::BLOCK_COUNT;
 use image::Block;
+use mask::site_masks::next_place;
 
 // Whether every block lies where the newest placement has it: one pass over the working cards' tables, two blocks at a
 // time, beside the masks of the newest sites.
-fn settled_by(image: &[u8], k: Control, sites: &[u8]) -> bool
+fn settled_by(image: &[u8], k: Control, sites: &[u8], round: usize) -> bool
     requires { ⌜ Given k (now image) ⌝ }
-    requires { ⌜ (length (now sites) ≡ blockCount) × SitesIn (now sites) (meaning k .newest) ⌝ }
+    requires { ⌜ (length (now sites) ≡ blockCount) × SitesIn (now sites) round (meaning k .newest) ⌝ }
     ensures { λ r. ⌜ r ≡ settled cabinet (controlIn (now (image .entry))) (viewOf (now (image .entry))) ⌝ }
 {
+    let mut place: usize = 0;
     let mut b = 0;
     while b < BLOCK_COUNT {
         let held = trail::held_by_two(image, k.working, Block(b as u8));
-        if !looking::block_settled(held.first, sites[b]) {
+        if !looking::block_settled(held.first, sites[place]) {
             return false;
         }
-        if !looking::block_settled(held.second, sites[b + 1]) {
+        let next = next_place(round, place);
+        if !looking::block_settled(held.second, sites[next]) {
             return false;
         }
+        place = next_place(round, next);
         b += 2;
     }
     true
 }
 
-// The same, the masks worked out first. They are lent on and not passed by value: a copy of them would wait until the
-// last is written.
+// The same, the masks worked out first.
 fn settled(image: &[u8], k: Control) -> bool
     requires { ⌜ Given k (now image) ⌝ }
     ensures { λ r. ⌜ r ≡ settled cabinet (controlIn (now (image .entry))) (viewOf (now (image .entry))) ⌝ }
 {
     let mut sites = [0u8; BLOCK_COUNT];
-    looking::newest_masks(&mut sites, k);
-    settled_by(image, k, &sites)
+    let round = looking::newest_masks(&mut sites, k);
+    settled_by(image, k, &sites, round)
 }
 
 // Rows 4 and 13.

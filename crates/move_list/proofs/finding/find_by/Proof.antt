@@ -1,9 +1,10 @@
 -- The moves of the blocks before b have been found and counted, and none of their copies has a lock. Assumes nothing.
-use Prim.Native.Nat.{_*_, _+_, _-_, _≤_}
+use Prim.Native.Nat.{_%_, _*_, _+_, _-_, _≤_}
 use borrow.Author.Needs.{needs}
 use lib.ListN.{getD, length, length-set}
 use mathlib.Core.Bool.{false}
 use mathlib.Core.Path.{_∙_, _≡_, ap₂, refl, sym}
+use native.Mathlib.Nat.{zero-mod}
 use native.Mathlib.Omega.{arith}
 use Rattle.lists.specs.Tests.{anyBelow}
 use Rattle.lists.proofs.Counts.{any-more}
@@ -11,7 +12,7 @@ use Rattle.image.specs.Layout.{blockCount, cardCount}
 use Rattle.mask.specs.Masks.{AreMembers, byte}
 use Rattle.mask.proofs.SiteLaws.{size-le}
 use Rattle.mask.specs.SiteMasks.{MasksBelow}
-use Rattle.mask.proofs.SiteMasks.{masks-more}
+use Rattle.mask.proofs.SiteMasks.{masks-more, place-counts, place-fits, place-next, sites-at}
 use Rattle.promise.proofs.Finish.{given-whole}
 use Rattle.move_list.proofs.FoundMoves.{block-locked, count-more, count-none, finds-locked, finds-moves}
 use Rattle.move_list.proofs.FoundMoves.{lockedBlock, movesBelow, origin, origin-is}
@@ -19,22 +20,23 @@ use Rattle.move_list.proofs.finding.find_by.Statement.{statement}
 use Rattle.move_list.proofs.finding.find_by.Tie as tie
 
 abbrev Inv-loop : tie.InvT-loop
-Inv-loop image k sites origins₀ count₀ b₀ origins count b = (b ≤ blockCount) × (length origins ≡ blockCount) × (count ≤ cardCount * b)
-    × (count ≡ length (movesBelow image b)) × MasksBelow (origin image) origins b × (anyBelow b (lockedBlock image) ≡ false)
+Inv-loop image k sites round origins₀ count₀ place₀ b₀ origins count place b = (b ≤ blockCount) × (length origins ≡ blockCount) × (count ≤ cardCount * b)
+    × (count ≡ length (movesBelow image b)) × MasksBelow (origin image) origins b × (anyBelow b (lockedBlock image) ≡ false) × (place ≡ b % round)
 
 abbrev μ-loop : tie.MeasureT-loop
-μ-loop image k sites origins₀ count₀ b₀ origins count b = blockCount - b
+μ-loop image k sites round origins₀ count₀ place₀ b₀ origins count place b = blockCount - b
 
 loop-holds : tie.Need-loop-holds Inv-loop μ-loop
-loop-holds c = (omega arith, refl, omega arith, count-none (c .before .before .args .image .now), (λ j h. absurd (omega arith)), refl)
+loop-holds c = (omega arith, refl, omega arith, count-none (c .before .before .args .image .now), (λ j h. absurd (omega arith)), refl, sym (zero-mod _))
 
 cast-of-block : tie.Need-cast-of-block Inv-loop μ-loop
 cast-of-block c = search needs
 
 shared-slice-read-of-block : tie.Need-shared-slice-read-of-block Inv-loop μ-loop
 shared-slice-read-of-block c =
-    let i = c .before in
-    omega (arith, i .loop-test .taken, i .before .before .before .before .pre .1 .0)
+    let l = c .before .before in
+    let s = l .before .before .before in
+    omega (arith, place-fits (s .pre .1 .1) (l .loop .b) (l .loop .place) (l .loop .inv .6), s .pre .1 .0)
 
 of-block-requires : tie.Need-of-block-requires Inv-loop μ-loop
 of-block-requires c κs = (given-whole (c .before .before .before .before .before .pre .0), c .before .loop-test .taken)
@@ -47,8 +49,8 @@ found o =
     let n = l .before in
     let s = n .before .before in
     (λ x. o .of-block .ensures x
-    ∙ origin-is (s .args .k) (s .args .image .now) (s .pre .0) (l .loop .b) (getD (s .args .sites .now) (l .loop .b) 0) (o .before .before .loop-test .taken)
-    (s .pre .1 .1 (l .loop .b) (o .before .before .loop-test .taken)) x)
+    ∙ origin-is (s .args .k) (s .args .image .now) (s .pre .0) (l .loop .b) (getD (s .args .sites .now) (l .loop .place) 0) (o .before .before .loop-test .taken)
+    (sites-at (s .pre .1 .1) (l .loop .b) (l .loop .place) (l .loop .inv .6) (o .before .before .loop-test .taken)) x)
 
 any-locked-requires : tie.Need-any-locked-requires Inv-loop μ-loop
 any-locked-requires c κs = let l = c .before .before .before in (given-whole (l .before .before .before .pre .0), c .before .before .loop-test .taken)
@@ -78,6 +80,12 @@ add-count c =
     let l = o .before .before .before .loop in
     omega (arith, h, c .members .ensures, l .inv .2)
 
+next-place-requires : tie.Need-next-place-requires Inv-loop μ-loop
+next-place-requires c κs =
+    let l = c .before .before .before .before .before .before in
+    let s = l .before .before .before in
+    place-counts (s .pre .1 .1) (l .loop .b) (l .loop .place) (l .loop .inv .6)
+
 add-b : tie.Need-add-b Inv-loop μ-loop
 add-b c = search needs
 
@@ -86,7 +94,8 @@ loop-less c = search needs
 
 loop-again : tie.Need-loop-again Inv-loop μ-loop
 loop-again c =
-    let e = c .before in
+    let m = c .before in
+    let e = m .before in
     let t = e .before in
     let o = t .before in
     let i = o .before .before in
@@ -98,10 +107,11 @@ loop-again c =
     let free : lockedBlock g (l .loop .b) ≡ false = sym (block-locked g (l .loop .b) (o .of-block .result) (i .loop-test .taken) (found o)) ∙ sym (t .any-locked .ensures) ∙ e .if1 .left in (
       omega (arith, i .loop-test .taken),
       length-set (l .loop .origins) (l .loop .b) (o .of-block .result) ∙ l .loop .inv .1,
-      omega (arith, h, c .members .ensures, l .loop .inv .2),
-      ap₂ _+_ (l .loop .inv .3) (c .members .ensures) ∙ count-more g (l .loop .b) (o .of-block .result) (i .loop-test .taken) (found o),
+      omega (arith, h, m .members .ensures, l .loop .inv .2),
+      ap₂ _+_ (l .loop .inv .3) (m .members .ensures) ∙ count-more g (l .loop .b) (o .of-block .result) (i .loop-test .taken) (found o),
       masks-more (origin g) (l .loop .origins) (l .loop .b) (o .of-block .result) (omega (arith, l .loop .inv .1, i .loop-test .taken)) (l .loop .inv .4) (found o),
       any-more (lockedBlock g) (l .loop .b) free (l .loop .inv .5),
+      place-next (s .pre .1 .1) (l .loop .b) (l .loop .place) (l .loop .inv .6) (c .next-place .result) (c .next-place .ensures),
     )
 
 returns-2 : tie.Need-returns-2 Inv-loop μ-loop
@@ -125,6 +135,7 @@ find-by-spec =
     members-requires
     cast-count
     add-count
+    next-place-requires
     add-b
     loop-less
     loop-again

@@ -20,7 +20,7 @@ same-length c = search needs
 returns : tie.Need-returns
 returns c =
     let f = c .before .before in
-    subst (λ (p : Placement). SitesIn (f .fill .last .0) p) (f .before .newest .ensures) (f .fill .ensures)
+    subst (λ (p : Placement). SitesIn (f .fill .last .0) (f .fill .result) p) (f .before .newest .ensures) (f .fill .ensures)
 
 pub newest-masks-spec : {M : Type 1} → statement M
 newest-masks-spec = tie.close (tie.spec newest-requires fill-requires same-length returns)
