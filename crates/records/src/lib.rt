@@ -2,7 +2,7 @@
 ghost use Rattle.promise.specs.Promise.{Done, asked};
 ghost use Rattle.promise.specs.declared.Call.{Call};
 
-mod access;
+pub mod access;
 mod slots;
 
 use image::Rec;
