@@ -4,9 +4,12 @@ ghost use Prim.Native.Nat.{_<_};
 ghost use Rattle.promise.specs.Promise.{shown};
 ghost use Rattle.move_list.specs.Promise.{shownList};
 ghost use Rattle.codes.specs.Codes.{codeOf, coded};
+ghost use Rattle.codes.specs.CommandCodes.{formCode};
 ghost use Rattle.codes.specs.ListCodes.{listCode};
+ghost use Rattle.codes.specs.ToldCodes.{toldCode};
 use move_list::Listed;
 use promise::Answer;
+use queries::Told;
 
 // Kinds of answers.
 const OK: u32 = 0;
@@ -35,7 +38,12 @@ const LISTED: u32 = 11;
 
 const NONE: u32 = 12;
 
+const NUMBER: u32 = 13;
+
 const REFUSED: u32 = 15;
+
+// The refusal of a command that is malformed.
+const MALFORMED: u16 = 15;
 
 // Numbers of 16 bits stand below the kind.
 const NUMBER_RANGE: u32 = 65536;
@@ -77,4 +85,25 @@ pub fn list_code(listed: Listed) -> u32
         Listed::None => pair(NONE, 0),
         Listed::Refused(n) => pair(REFUSED, n as u16),
     }
+}
+
+// The code of what a question is told.
+pub fn told_code(told: Told) -> u32
+    ensures { λ r. ⌜ r ≡ toldCode told ⌝ }
+{
+    match told {
+        Told::Number(n) => pair(NUMBER, n as u16),
+        Told::None => pair(NONE, 0),
+        Told::Refused(n) => pair(REFUSED, n as u16),
+    }
+}
+
+// The code of whether a command is formed.
+pub fn form_code(formed: bool) -> u32
+    ensures { λ r. ⌜ r ≡ formCode formed ⌝ }
+{
+    if formed {
+        return pair(OK, 0);
+    }
+    pair(REFUSED, MALFORMED)
 }

@@ -115,6 +115,11 @@ unfolding wrote
 told-written true e = refl
 told-written false e = ap wrote e
 
+pub told-malformed : (b : Bool) → said b ≡ Writing·Malformed → b ≡ false
+unfolding wrote
+told-malformed true e = ap wrote e
+told-malformed false e = refl
+
 pub write-says : (l : List ℕ) (command : Command) → writeOf l command ≡ Written → isWritten l command ≡ true
 unfolding writeOf
 write-says l command e = told-written (isWritten l command) e
