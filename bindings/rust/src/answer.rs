@@ -1,6 +1,6 @@
 //! Answers, their codes and their words.
 
-use crate::{Mask, Refusal};
+use crate::{Failed, Mask, Protection, Refusal};
 use core::fmt;
 
 /// What any call answers. Each answer has a code of its own: kind × 65,536 + number. Later versions may add some.
@@ -62,6 +62,27 @@ impl From<u32> for Answer {
             (13, number) => Answer::Number(number),
             (15, _) => Answer::Refused(Refusal::of(code)),
             _ => Answer::Unknown(code),
+        }
+    }
+}
+
+impl From<Failed> for Answer {
+    /// What a fail did, as the answer of any call.
+    fn from(failed: Failed) -> Answer {
+        match failed {
+            Failed::Placed(mask) => Answer::Placed(mask),
+            Failed::Unplaced => Answer::Unplaced,
+            Failed::Stopped => Answer::Stopped,
+        }
+    }
+}
+
+impl From<Protection> for Answer {
+    /// The word of a state, as the answer of any call.
+    fn from(word: Protection) -> Answer {
+        match word {
+            Protection::Protected => Answer::Protected,
+            Protection::Unprotected => Answer::Unprotected,
         }
     }
 }

@@ -111,9 +111,8 @@ pub fn place(image: &mut [u8], mask: Mask) -> Result<(), Refusal> {
     done(ask!(nolpigat_place(image.as_mut_ptr(), image.len(), mask.0)))
 }
 
-/// What a [`fail`] did. Later versions may add some.
+/// What a [`fail`] did.
 #[derive(Clone, Copy, Debug, PartialEq, Eq, Hash)]
-#[non_exhaustive]
 #[must_use]
 pub enum Failed {
     /// The store goes on, and the placement with this mask was added.
