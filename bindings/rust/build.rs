@@ -26,7 +26,7 @@ fn named(folder: PathBuf) -> PathBuf {
 
 fn main() {
     println!("cargo:rerun-if-env-changed={VARIABLE}");
-    let given = env::var_os(VARIABLE).map(PathBuf::from);
+    let given = env::var_os(VARIABLE).filter(|value| !value.is_empty()).map(PathBuf::from);
     let folder =
         given.clone().map_or_else(|| Path::new(env!("CARGO_MANIFEST_DIR")).join("../../target/staticlib"), named);
     let archive = folder.join(ARCHIVE);
