@@ -97,7 +97,7 @@ impl Cases {
         found
     }
 
-    /// Classes that never occurred, and answers that document 01 does not have.
+    /// Classes that never occurred, and answers that the rules do not have.
     pub fn faults(&self, images: &[String], named: &[String]) -> Vec<String> {
         let mut wanted = possible();
         wanted.extend(OPERATIONS[..COMMAND_ENTRY].iter().map(|(operation, ..)| format!("{operation} refused 1")));

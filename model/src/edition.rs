@@ -8,11 +8,11 @@ pub const BROKEN_WIRE: u16 = 65_535;
 
 #[derive(Clone, Copy, Debug, PartialEq, Eq)]
 pub enum Edition {
-    /// Document 01 alone: byte 7 is zero, every placement has the old choice of sites, protected means that one
+    /// The base alone: byte 7 is zero, every placement has the old choice of sites, protected means that one
     /// placement is active, and store takes every value.
     Base,
-    /// Document 01 with change requests A.1 to A.4: byte 7 marks the placements that choose their sites by rails, and
-    /// protected means that failing any one working card would not stop the store. A.3 and A.4 change no rule of the
+    /// The base with requests A.1 to A.4: byte 7 marks the placements that choose their sites by rails, and protected
+    /// means that no single failure would stop the store. A.3 and A.4 change no rule of the
     /// fifteen calls.
     Rails,
     /// As `Rails`, with A.5: 65,535 is outside the range of a value to store.

@@ -1,4 +1,4 @@
-//! A second, plain implementation of the record store of document 01.
+//! A second, plain implementation of the record store (docs/RULES.md).
 //! Command files are run by it and by the proved program, and the listings are compared.
 
 pub mod broken_wire_situations;

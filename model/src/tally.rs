@@ -15,7 +15,7 @@ pub const ANSWERS: [&str; 11] = [
     "unprotected", "load",
 ];
 
-/// Each operation with its answers and refusals, by document 01. An image of the
+/// Each operation with its answers and refusals, by the rules. An image of the
 /// program has its length, so 1 is not among them.
 pub const OPERATIONS: [(&str, &[&str], &[u8]); 16] = [
     ("start", &["ok"], &[9, 15]),
@@ -101,7 +101,7 @@ impl Tally {
         pairs.chain(situations).collect()
     }
 
-    /// What occurs and cannot by document 01.
+    /// What occurs and cannot by the rules.
     pub fn impossible(&self) -> Vec<String> {
         let possible = possible();
         let pairs = self.pairs.keys().filter(|pair| !possible.contains(*pair)).cloned();

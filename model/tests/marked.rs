@@ -1,4 +1,4 @@
-//! The marked examples M1 to M10 and the listing of document 01.
+//! The marked examples M1 to M10 and the listing of ten commands (docs/RULES.md).
 
 use model::calls::{perform, started, Answer, Call};
 use model::image::{held, slot_at, LENGTH};

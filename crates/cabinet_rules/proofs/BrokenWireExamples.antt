@@ -1,4 +1,4 @@
--- Examples of document 02, A.5: records that an earlier delivery left with 65,535. Assumes nothing.
+-- Examples of request A.5: records that an earlier delivery left with 65,535. Assumes nothing.
 use lib.ListN.{length}
 use mathlib.Core.List.{List, [], _++_, _∷_, map}
 use mathlib.Core.Logic.{inl, inr}

@@ -1,4 +1,5 @@
--- The marked examples M1 to M10 in one table, and the listing of document 01, computed from the rules. Assumes nothing.
+-- The marked examples M1 to M10 in one table (RULES, "The calls"), and the ten answers of the listing (RULES, "Commands
+-- and the listing"), computed from the rules. Assumes nothing.
 use Prim.Native.Nat.{_+_, ℕ}
 use mathlib.Core.List.{List, [], _∷_}
 use mathlib.Core.Path.{_≡_, refl}
@@ -110,7 +111,7 @@ unfolding final slotBytes afterAll answersBy answerOf nextState apply plan refus
     slotOf wordOf putSlot lockSlot endedByte endSlots tabulate members size
 marked-examples = refl
 
--- The ten answers of document 01's listing.
+-- The ten answers of the listing.
 listing :
     answers (start (byte 0xE0) ∷ begin 1 0 ∷ store 1 9 4660 ∷ commit 1 ∷ fail 1 ∷ move 2 1 ∷ settle ∷ begin 1 0 ∷ get 1 9 ∷ fail 2 ∷ []) nothing
     ≡ (0 ∷ []) ∷ (0 ∷ []) ∷ (0 ∷ []) ∷ (0 ∷ []) ∷ (3 ∷ 0xA0 ∷ []) ∷ (6 ∷ 1 ∷ []) ∷ (7 ∷ 1 ∷ []) ∷ (0 ∷ []) ∷ (1 ∷ 4660 ∷ []) ∷ (5 ∷ []) ∷ []

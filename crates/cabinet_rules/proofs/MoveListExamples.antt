@@ -1,4 +1,4 @@
--- Examples of document 02, A.3, computed from the rules: the move list and what its call answers. Assumes nothing.
+-- Examples of request A.3, computed from the rules: the move list and what its call answers. Assumes nothing.
 use Prim.Native.Nat.{_-_, ℕ}
 use lib.ListN.{length, replicate}
 use mathlib.Core.List.{List, [], _∷_, _++_}

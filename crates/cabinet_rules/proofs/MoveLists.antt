@@ -136,7 +136,7 @@ no-shorter-list g room n e l entries a noise m done =
     met false q = let z : _≡_ {A = ℕ} 0 1 = cc in absurd (omega arith)
 
 -- ---- 'none'
--- It is answered exactly where a block that must still move has a locked record on a card that it would move from.
+-- It is answered exactly where one of the copies that would move has a locked record.
 pub none-by-lock : NoneByLock
 unfolding NoneByLock listAnswerOn
 none-by-lock g room clear =

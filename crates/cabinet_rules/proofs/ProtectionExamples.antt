@@ -1,4 +1,4 @@
--- Examples of document 02, A.2, computed from the rules: what state answers. Assumes nothing.
+-- Examples of request A.2, computed from the rules: what state answers. Assumes nothing.
 use mathlib.Core.List.{[], _∷_}
 use mathlib.Core.Path.{_≡_, refl}
 use Rattle.lists.specs.Tabulate.{tabulate}

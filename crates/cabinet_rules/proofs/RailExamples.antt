@@ -1,4 +1,4 @@
--- Examples of document 02, A.1, computed from the rules: an older store goes onto two rails. Assumes nothing.
+-- Examples of request A.1, computed from the rules: an older store goes onto two rails. Assumes nothing.
 use Prim.Native.Nat.{ℕ}
 use mathlib.Core.List.{List, [], _∷_}
 use mathlib.Core.Path.{_≡_, refl}

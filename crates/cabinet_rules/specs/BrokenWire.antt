@@ -1,4 +1,4 @@
--- What A.5 changes of the calls (document 02): store refuses 65,535, and nothing else. The statements, of A.5's own
+-- What request A.5 changes of the calls: store refuses 65,535, and nothing else. The statements, of A.5's own
 -- delivery. Assumes nothing.
 use Prim.Native.Nat.{ℕ}
 use mathlib.Core.Bool.{false}
@@ -19,8 +19,8 @@ BrokenWireRefused = (t r : ℕ) (g : Image)
     ≡ refused (formRowsOf (imageSizeOf (belowWire .memory .layout)) false (formBy belowWire g) g 3))
     × (nextBy belowWire (store t r brokenWire) g ≡ g)
 
--- Every other call answers and leaves on every image what it did by the delivery before: records that have 65,535 are
--- read, moved, deleted and rolled back as before, and a pending one is committed.
+-- Every other call answers and leaves on every image what it did by the delivery before, also where a record has
+-- 65,535, committed or pending.
 unfoldable pub ElseAsBefore : Type 0
 ElseAsBefore = (c : Call (rulesOf belowWire)) → ((t r : ℕ) → c ≢ store t r brokenWire) → (g : Image)
     → (answerBy belowWire c g ≡ answerBy twoRails c g) × (nextBy belowWire c g ≡ nextBy twoRails c g)

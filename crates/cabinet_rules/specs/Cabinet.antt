@@ -50,7 +50,7 @@ module _ (D : Delivery) where
     tranInRange = tranOk;
     recInRange = λ σ r. ltb r recordCount;
     valueInRange = D .valueInRange;
-    -- record r lies in block r/8 (whole part), at place r mod 8
+    -- a block has eight records, in the order of their numbers
     blockOf = λ r. r / slotCount;
     placeOf = λ r. r % slotCount;
     has = hasCard;

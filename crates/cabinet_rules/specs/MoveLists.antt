@@ -1,4 +1,4 @@
--- The moves that let settle succeed, on images (document 02, A.3): what the call answers, and the statements. Assumes
+-- The moves that let settle succeed, on images (request A.3): what the call answers, and the statements. Assumes
 -- nothing.
 use Prim.Native.Nat.{_≤_, suc, zero, ℕ}
 use lib.ListN.{length}
@@ -52,8 +52,8 @@ NoShorterList = (g : Image) (room n : ℕ) → listAnswerOn room g ≡ listed n
     → answer settle (noisy noise (imageAfter l g)) ≡ retired m
     → n ≤ length entries
 
--- On every image that is not refused 1, 2 or 4 the answer is 'none' exactly if a block that must still move has a
--- locked record on a card that it would move from.
+-- On every image that is not refused 1, 2 or 4 the answer is 'none' exactly where one of the copies that would move has
+-- a locked record.
 unfoldable pub NoneByLock : Type 0
 NoneByLock = (g : Image) (room : ℕ) → listRefusal g ≡ 0
     → (listAnswerOn room g ≡ noList → LockedMove cabinet (controlIn g) (look cabinet (stateIn g)))

@@ -10,11 +10,11 @@ use Rattle.method.specs.ControlPart.{ControlPart, active}
 use Rattle.method.specs.Rules.{row}
 use Rattle.control.specs.ControlBytes.{Setting}
 
--- start, place: under two members is 9.
+-- start, place: 9 for a mask with fewer than two members.
 unfoldable pub startRow : Byte → ℕ
 startRow m = row 9 (ltb (size m) leastMembers) 0
 
--- place: also a member not working, or the newest mask again, is 9; with three or more active it is 10.
+-- place: 9 also for a member that does not work, and for the newest mask once more; 10 where three are active already.
 unfoldable pub placeRows : {A S : Type 0} → (A → Byte → Bool) → ControlPart Byte A Setting S → Byte → ℕ
 placeRows isAgain k m =
     row 9 (ltb (size m) leastMembers || (not (isWithin m (k .working)) || isAgain (k .newest) m)) (

@@ -55,7 +55,7 @@ module _ {A S B T : Type 0} (M : Memory B T) (R : Retirement A S B T) where
     stampIn = λ g. tt;
   }
 
--- ---- the base: document 01 without the later papers
+-- ---- the base: the rules before the first request
 -- A.1 added the marks, and tells the base's placements with none.
 abbrev pub beforeMarks : Retirement Byte Serial Placement Serial
 beforeMarks = record {

@@ -95,7 +95,7 @@ fn fit_refusal(k: Control, card: Card) -> u8
     0
 }
 
-// The card's table is zeroed, a failed mark is cleared and it works.
+// The card comes to work, no longer failed, with a table of zeros.
 pub fn fit(image: &mut [u8], card: Card) -> Answer
     ensures { λ r. ⌜ Done (asked (Call.Fit card)) (now (image .entry)) r (now (image .exit)) ⌝ }
 {

@@ -28,13 +28,9 @@ pub goes-past : (p q r : Bool) → p ≡ true → r ≡ q → r ≡ (p && q)
 goes-past p q r e h = h ∙ sym (ap (λ (b : Bool). b && q) e)
 
 -- ---- the reader
-read-by : (l : List ℕ) (b : Bool) → b ≡ wellFormed l → cond b (Asks (commandOf l)) Malformed ≡ readOf l
+pub read-by : (l : List ℕ) (b : Bool) → b ≡ wellFormed l → cond b (Asks (commandOf l)) Malformed ≡ readOf l
 unfolding readOf
 read-by l b e = ap (λ (t : Bool). cond t (Asks (commandOf l)) Malformed) e
-
-pub read-length : (l : List ℕ) → (length l ≡ commandSize → ⊥) → Malformed ≡ readOf l
-unfolding wellFormed
-read-length l d = read-by l false (fails-here _ _ (ne-eqb _ _ d))
 
 pub read-form : (l : List ℕ) (b : Bool) → length l ≡ commandSize → formed (fieldsIn l) ≡ b → cond b (Asks (commandOf l)) Malformed ≡ readOf l
 unfolding wellFormed
@@ -92,7 +88,7 @@ unfolding isWritable
 writable-formed c h = and-r (isOfCase c) _ h
 
 -- what the writer answers and leaves
-abbrev said : Bool → Writing
+abbrev pub said : Bool → Writing
 said b = cond b Written Writing·Malformed
 
 abbrev pub Leaves : Writing → List ℕ → Command → List ℕ → Type 0
@@ -114,10 +110,15 @@ wrote : Writing → Bool
 wrote Written = true
 wrote Writing·Malformed = false
 
-told-written : (b : Bool) → said b ≡ Written → b ≡ true
+pub told-written : (b : Bool) → said b ≡ Written → b ≡ true
 unfolding wrote
 told-written true e = refl
 told-written false e = ap wrote e
+
+pub told-malformed : (b : Bool) → said b ≡ Writing·Malformed → b ≡ false
+unfolding wrote
+told-malformed true e = ap wrote e
+told-malformed false e = refl
 
 pub write-says : (l : List ℕ) (command : Command) → writeOf l command ≡ Written → isWritten l command ≡ true
 unfolding writeOf

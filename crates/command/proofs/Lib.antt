@@ -2,4 +2,5 @@ pub mod Forms
 pub mod Bytes
 pub mod Answers
 pub mod RoundTrip
+pub mod FieldCodec
 pub mod Meaning

@@ -12,6 +12,8 @@ use Rattle.command.specs.declared.Command.the-variants.{Of, WideMove}
 use Rattle.command.specs.declared.Fields.{Fields}
 use Rattle.command.specs.declared.Reading.{Reading}
 use Rattle.command.specs.declared.Reading.the-variants.{Asks, Malformed}
+use Rattle.command.specs.declared.codec.Shown.{Shown}
+use Rattle.command.specs.declared.codec.Shown.the-variants.{Has, Malformed as Shown·Malformed}
 use Rattle.command.specs.declared.Writing.{Writing}
 use Rattle.command.specs.declared.Writing.the-variants.{Malformed as Writing·Malformed, Written}
 
@@ -143,6 +145,10 @@ isWideMove f = eqb (f .operation) moveOperation && ltb mostBlock (f .number)
 unfoldable pub commandAt : Fields → Command
 commandAt f = cond (isWideMove f) (WideMove (record { 0 = f .card }) (f .number)) (Of (callAt f))
 
+-- The fields that a list of bytes shows, if it is a command.
+unfoldable pub shownFields : List ℕ → Shown
+shownFields l = cond (wellFormed l) (Has (fieldsIn l)) Shown·Malformed
+
 -- The command that a list of bytes shows, and what the reader says of the list.
 abbrev pub commandOf : List ℕ → Command
 commandOf l = commandAt (fieldsIn l)
@@ -208,6 +214,16 @@ writeOf l command = cond (isWritten l command) Written Writing·Malformed
 
 abbrev pub writeLeaves : List ℕ → Command → List ℕ
 writeLeaves l command = cond (isWritten l command) (bytesFor command) l
+
+-- The same of a command that is given by its fields: what the writer says, and the lent bytes after it.
+abbrev pub fieldsFit : List ℕ → Fields → Bool
+fieldsFit l f = eqb (length l) commandSize && formed f
+
+unfoldable pub writeFields : List ℕ → Fields → Writing
+writeFields l f = cond (fieldsFit l f) Written Writing·Malformed
+
+unfoldable pub fieldsLeave : List ℕ → Fields → List ℕ
+fieldsLeave l f = cond (fieldsFit l f) (encoded f) l
 
 -- 15 is "command malformed": the number that reader and writer refuse with, and 0 where they do not refuse.
 abbrev pub malformed : ℕ

@@ -20,6 +20,10 @@ ghost use Rattle.command.specs.Commands.{
   writeOf,
 };
 ghost use Rattle.command.specs.Meaning.{blockFor, callFor};
+
+pub mod codec;
+
+use codec::Shown;
 use image::Block;
 use image::Card;
 use image::Rec;
@@ -205,14 +209,11 @@ fn command_at(f: Fields) -> Command
 pub fn read(bytes: &[u8]) -> Reading
     ensures { λ r. ⌜ r ≡ readOf (now (bytes .entry)) ⌝ }
 {
-    if bytes.len() != SIZE {
-        return Reading::Malformed;
+    let shown = codec::read(bytes);
+    match shown {
+        Shown::Has(f) => Reading::Asks(command_at(f)),
+        Shown::Malformed => Reading::Malformed,
     }
-    let f = decode(bytes[0], bytes[1], bytes[2], bytes[3], bytes[4]);
-    if is_formed(f) {
-        return Reading::Asks(command_at(f));
-    }
-    Reading::Malformed
 }
 
 // A command's fields, zero where the operation lacks them.

@@ -1,4 +1,4 @@
--- The 32 bytes of the control part: document 01, "The image", and document 02, A.1.
+-- The 32 bytes of the control part: RULES, "The image".
 --
 --   byte       what
 --   0          stopped 1 bit, count of active placements 3, zero 4

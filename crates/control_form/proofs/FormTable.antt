@@ -1,4 +1,4 @@
--- The table of controls: good ones, and ones in which a clause of document 01's control form is broken, alone wherever no other
+-- The table of controls: good ones, and ones in which a clause of the control form is broken, alone wherever no other
 -- clause must fall with it. Which clauses fall is computed. Assumes nothing.
 use mathlib.Core.Path.{_≡_, refl}
 use mathlib.Core.Bool.{Bool, true, false, _||_, cond}
@@ -21,15 +21,15 @@ pub data Clause : Type 0 where
   zeroFields : Clause
   -- working and failed share no card
   apart : Clause
-  -- each active placement has at least two members, all working or failed
+  -- an active placement has two members or more, each working or failed
   members : Clause
-  -- when the count is 4, the third mask is the fourth plus exactly one failed card
+  -- of four placements the third has one failed card more than the fourth
   chain : Clause
-  -- if not stopped, the newest placement's members all work
+  -- in a running store all members of the newest placement work
   newestWorks : Clause
-  -- if not stopped, each active placement has at most one failed and at least two working members
+  -- in a running store an active placement has fewer than two failed members, and two working ones or more
   safe : Clause
-  -- if not stopped, each open transaction's home works; if stopped, none is open
+  -- in a running store the homes work; in a stopped one no transaction is open
   homes : Clause
 
 abbrev fault : Bool → Clause → List Clause

@@ -1,4 +1,4 @@
--- The control form: document 01, "Control form", a clause a definition. Assumes nothing.
+-- The control form: RULES, "The control form", a clause a definition. Assumes nothing.
 use Prim.Native.Nat.{suc, ℕ}
 use lib.Dec.{eqb, leb, ltb}
 use lib.ListN.{getD, length}
@@ -22,19 +22,20 @@ countOk g = leb 1 (countIn (g 0)) && leb (countIn (g 0)) mostActive
 unfoldable pub zeroFieldsOk : (ℕ → ℕ) → Bool
 zeroFieldsOk g = allBelow controlSize (λ n. eqb (g n) (controlByte (controlOf g) n))
 
--- Each active placement has at least two members, all working or failed: of a mask.
+-- An active placement with this mask has two members or more, each working or failed.
 unfoldable pub membersOk : Byte → Byte → Byte → Bool
 membersOk working failed m = leb leastMembers (size m) && isWithinEither m working failed
 
 -- While more placements than the limit are active, each is the next plus one failed card: the newest mask, and the masks
--- of the older ones, newest first. With a limit of three, when the count is 4, the third mask is the fourth plus exactly
--- one failed card.
+-- of the older ones, newest first. With a limit of three this is said of the third and the fourth placement, where
+-- there are four.
 unfoldable pub chainOk : ℕ → Byte → Byte → List Byte → Bool
 chainOk limit failed newest [] = true
 chainOk limit failed newest (m ∷ older) =
     cond (ltb limit (suc (suc (length older)))) (isOneMore failed newest m && chainOk limit failed m older) true
 
--- If not stopped, each active placement has at most one failed and at least two working members: of a mask.
+-- In a running store an active placement with this mask has fewer failed members than copies, and at least as many
+-- working ones as copies.
 unfoldable pub isSafe : Byte → Byte → Byte → Bool
 isSafe working failed m = ltb (common m failed) copyCount && leb copyCount (common m working)
 
@@ -42,7 +43,7 @@ isSafe working failed m = ltb (common m failed) copyCount && leb copyCount (comm
 abbrev pub allSafe : Part → Bool
 allSafe k = allIn (λ p. isSafe (k .working) (k .failed) (p .mask)) (active k)
 
--- If not stopped, each open transaction's home works. If stopped, none is open.
+-- In a running store the home of an open transaction works; in a stopped one no transaction is open.
 unfoldable pub homeOk : Bool → Byte → Option ℕ → Bool
 homeOk stopped working none = true
 homeOk stopped working (some h) = not stopped && hasCard working h
@@ -59,7 +60,7 @@ partOk k =
     areApart (k .working) (k .failed)
     && (allIn (λ p. membersOk (k .working) (k .failed) (p .mask)) (active k)
     && (chainOk mostPlaced (k .failed) (k .newest .mask) (masksOf (reverse (k .older)))
-    -- if not stopped: the newest placement's members all work
+    -- in a running store all members of the newest placement work
     && ((k .stopped || isWithin (k .newest .mask) (k .working))
     && ((k .stopped || allSafe k)
     && allBelow tranBound (λ t. homeOk (k .stopped) (k .working) (k .home t))))))

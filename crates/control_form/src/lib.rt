@@ -115,7 +115,7 @@ fn zero_fields_ok(s: &[u8]) -> bool
     tail_ok(s)
 }
 
-// A placement with this mask has at least two members, all working or failed.
+// A placement with this mask has members enough, each working or failed.
 fn members_ok(working: u8, failed: u8, mask: u8) -> bool
     ensures { λ r. ⌜ r ≡ membersOk (byte working) (byte failed) (byte mask) ⌝ }
 {
@@ -125,7 +125,7 @@ fn members_ok(working: u8, failed: u8, mask: u8) -> bool
     mask::within_either(mask, working, failed)
 }
 
-// When the count is 4, the third mask is the fourth plus exactly one failed card.
+// Of four placements the third has one failed card more than the fourth.
 fn fourth_ok(s: &[u8]) -> bool
     requires { ⌜ controlSize ≤ length (now s) ⌝ }
     requires { ⌜ countOk (λ n. getD (now s) n 0) ≡ true ⌝ }
@@ -137,7 +137,7 @@ fn fourth_ok(s: &[u8]) -> bool
     true
 }
 
-// If not stopped, the newest placement's members all work.
+// In a running store all members of the newest placement work.
 fn newest_works(s: &[u8]) -> bool
     requires { ⌜ controlSize ≤ length (now s) ⌝ }
     ensures { λ r. ⌜ r ≡ newestIn (now (s .entry)) ⌝ }
@@ -149,7 +149,7 @@ fn newest_works(s: &[u8]) -> bool
     mask::within(s[MASKS_AT + count - 1], s[WORKING_AT])
 }
 
-// A placement with this mask has at most one failed and at least two working members.
+// A placement with this mask has fewer failed members than copies, and at least as many working ones as copies.
 fn is_safe(working: u8, failed: u8, mask: u8) -> bool
     ensures { λ r. ⌜ r ≡ isSafe (byte working) (byte failed) (byte mask) ⌝ }
 {
@@ -159,7 +159,8 @@ fn is_safe(working: u8, failed: u8, mask: u8) -> bool
     mask::common(mask, working) >= COPIES
 }
 
-// Each active placement has at most one failed and at least two working members: where not, the store stops.
+// Every active placement has fewer failed members than copies, and at least as many working ones: where not, the store
+// stops.
 pub fn all_safe(k: Control) -> bool
     requires { ⌜ Counted k ⌝ }
     ensures { λ r. ⌜ r ≡ allSafe (meaning k) ⌝ }
@@ -175,8 +176,8 @@ pub fn all_safe(k: Control) -> bool
     true
 }
 
-// A placement with this mask has at least two members, all working or failed; if the store is not stopped, at most one
-// of them failed and at least two work.
+// A placement with this mask has members enough, each working or failed; in a running store fewer than copies are
+// failed, and at least as many work.
 fn placement_ok(stopped: bool, working: u8, failed: u8, mask: u8) -> bool
     ensures { λ r. ⌜ r ≡ placementOk stopped (byte working) (byte failed) (byte mask) ⌝ }
 {

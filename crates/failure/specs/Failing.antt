@@ -22,6 +22,6 @@ pub record Failing (m : Control) (g : Image) (c : ℕ) : Type 0 where
   pub accepted : 0 ≡ rowsOn (fail c) g
   pub is : Is m (marked cabinet (controlIn g) c)
 
--- Every open transaction is rolled back on the working cards, and the store stops.
+-- The store stops, with what was open rolled back on the cards that work.
 unfoldable pub stoppedOn : Part → Image → Image
 stoppedOn m g = putControl (laid (endWrites (m .working) false (inSet (setOf (isOpen m))) g) g) (halted m)

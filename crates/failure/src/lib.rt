@@ -15,7 +15,7 @@ use image::Card;
 use mask::Placement;
 use promise::Answer;
 
-// An active placement is lost: every open transaction is rolled back on the working cards, and the store stops.
+// An active placement is lost: the store stops, with what was open rolled back on the cards that work.
 fn stop(image: &mut [u8], marked: Control)
     requires { ⌜ Whole (now image) ⌝ }
     requires { ⌜ Counted marked ⌝ }

@@ -1,4 +1,4 @@
--- The image: document 01, "The image". The counts, the limits and the sizes stand here and nowhere else; the fields of
+-- The image: RULES, "The image". The counts, the limits and the sizes stand here and nowhere else; the fields of
 -- the control part, of a block's first byte and of a slot's 40 bits stand with their codecs.
 --
 --   offset in the image      size     what
@@ -11,8 +11,8 @@
 -- Assumes nothing.
 use Prim.Native.Nat.{ℕ, _+_, _-_, _*_}
 
--- Cards 0 to 7, blocks 0 to 63, records 0 to 511, transactions 1 to 15; a value has 16 bits; every record lies on two
--- cards.
+-- Cards, blocks and the slots of a block are numbered from 0, transactions from 1. A value has 16 bits. Every record
+-- lies on two cards.
 abbrev pub cardCount : ℕ
 cardCount = 8
 

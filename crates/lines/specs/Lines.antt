@@ -1,4 +1,4 @@
--- A line of the listing: document 01, "Commands". Assumes nothing.
+-- A line of the listing: RULES, "Commands and the listing". Assumes nothing.
 use Prim.Native.Nat.{_*_, _+_, ℕ}
 use lib.Dec.{leb}
 use lib.ListN.{length}
@@ -9,8 +9,7 @@ use Rattle.method.specs.Rules.{unplaced, unprotected, value}
 use Rattle.cabinet_rules.specs.Cabinet.{cabinet}
 use Rattle.lines.specs.Text.{decimal, hexByte, hexBytes, text}
 
--- "value, load, copies and retired with a decimal number; placed with a mask of two hex digits; refused with the
--- number".
+-- The words of an answer. Its number is decimal; a mask has two hexadecimal digits.
 unfoldable pub words : Answer cabinet → List ℕ
 words ok = text "ok"
 words (value n) = text "value " ++ decimal n
@@ -25,7 +24,7 @@ words unprotected = text "unprotected"
 words (loaded n) = text "load " ++ decimal n
 words (refused n) = text "refused " ++ decimal n
 
--- "Each line: command number from 1, its hex digits, the answer". A newline ends it.
+-- A line: the number of the command, its bytes in hexadecimal, the words of its answer, a newline.
 abbrev pub lineHead : ℕ → List ℕ → List ℕ
 lineHead n command = decimal n ++ text " " ++ hexBytes command ++ text " "
 

@@ -15,7 +15,7 @@ abbrev pub text : String → List ℕ
 text Text.[] = []
 text (Text._∷_ c s) = code c ∷ text s
 
--- The digit for a number below 16: `0` to `9`, then `A` to `F`. "Hex letters are capitals."
+-- The digit for a number below 16: `0` to `9`, then the capitals `A` to `F`.
 abbrev pub glyph : ℕ → ℕ
 glyph d = cond (ltb d 10) (48 + d) (55 + d)
 
@@ -36,8 +36,8 @@ decimalWithin (suc k) n = cond (ltb n 10) (glyph n ∷ []) (decimalWithin k (n /
 unfoldable pub decimal : ℕ → List ℕ
 decimal n = decimalWithin n n
 
--- A text is put into a lent buffer at an index, and the answer is the index behind it. At index 0 this is "answers the
--- number of bytes written and leaves the rest".
+-- A text is put into a lent buffer at an index, and the answer is the index behind it: at index 0 the number of bytes
+-- that were put. The other bytes stay.
 pub record Puts (t before : List ℕ) (at end : ℕ) (behind : List ℕ) : Type 0 where
   pub ends : end ≡ at + length t
   pub leaves : behind ≡ splice before at t

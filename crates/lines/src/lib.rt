@@ -73,7 +73,7 @@ fn put_answer(out: &mut [u8], at: usize, answer: Answer) -> usize
     }
 }
 
-// Puts an answer in document 01's words at the start of the buffer: the number of bytes put. Where there is no room for
+// Puts the words of an answer at the start of the buffer: the number of bytes put. Where there is no room for
 // the longest answer nothing is put, and the answer is 0.
 pub fn put_words(out: &mut [u8], answer: Answer) -> usize
     ensures { λ r. ⌜ Puts (wordsIn (now (out .entry)) (shown answer)) (now (out .entry)) 0 r (now (out .exit))

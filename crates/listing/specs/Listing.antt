@@ -1,4 +1,4 @@
--- The listing of an input: document 01, "Commands". Assumes nothing.
+-- The listing of an input: RULES, "Commands and the listing". Assumes nothing.
 use Prim.Native.Nat.{_*_, _+_, _-_, _/_, _^_, ℕ, suc, zero}
 use lib.Dec.{leb}
 use lib.ListN.{length}

@@ -289,8 +289,8 @@ module _ {s : Sites} {p : Placement} {b : ℕ} (at : AreSites s p b) (i : ℕ) (
       elem-at (x ∷ l) zero d h = or-l (eqb x x) (elem x l) (eqb-self x)
       elem-at (x ∷ l) (suc i) d h = or-r (eqb (getD l i d) x) (elem (getD l i d) l) (elem-at l i d (omega arith))
 
--- Document 01, M1 and M2, by both choices: under E0 hex block 1 lies at 1 and 2, block 2 at 2 and 0; under 81 hex block 63 lies at
--- 7 and 0.
+-- The marked examples M1 and M2, by both choices: under E0 hex block 1 lies at 1 and 2, block 2 at 2 and 0; under 81
+-- hex block 63 lies at 7 and 0.
 pub vector-m1 : (rails : Bool) → let p : Placement = record { mask = byte 0xE0; byRails = rails } in (sitesOf p 1 ≡ 1 ∷ 2 ∷ []) × (sitesOf p 2 ≡ 2 ∷ 0 ∷ [])
 unfolding sitesOf railSites chainedSites acrossRails membersAfter tabulate memberAt members hasCard
 vector-m1 true = (refl, refl)
@@ -301,7 +301,7 @@ unfolding sitesOf railSites chainedSites acrossRails membersAfter tabulate membe
 vector-m2 true = refl
 vector-m2 false = refl
 
--- Document 02, A.1: under F0 hex, one rail, and under CC hex, both, block 0 lies at 0 and 1, and by rails at 0 and 4.
+-- Request A.1: under F0 hex, one rail, and under CC hex, both, block 0 lies at 0 and 1, and by rails at 0 and 4.
 pub vector-rails : (sitesOf (fromMask (byte 0xF0)) 0 ≡ 0 ∷ 1 ∷ [])
     × (sitesOf (olderFromMask (byte 0xCC)) 0 ≡ 0 ∷ 1 ∷ []) × (sitesOf (fromMask (byte 0xCC)) 0 ≡ 0 ∷ 4 ∷ [])
 unfolding sitesOf railSites chainedSites acrossRails membersAfter tabulate memberAt members hasCard

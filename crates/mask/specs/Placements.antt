@@ -1,4 +1,4 @@
--- Placements and the sites of a block: document 01, "Sites and trail", and document 02, A.1. Assumes nothing.
+-- Placements and the sites of a block: RULES, "Sites, trail, holders". Assumes nothing.
 use mathlib.Core.Path.{_≡_}
 use mathlib.Core.Bool.{Bool, true, false, not, _&&_, cond}
 use mathlib.Core.List.{List, [], _∷_, map}
@@ -12,12 +12,12 @@ use Rattle.mask.specs.declared.Placement.{Placement as Struct}
 use Rattle.mask.specs.declared.Sites.{Sites}
 use Rattle.mask.specs.Masks.{Byte, byte, hasCard, members, size}
 
--- Members in rising order are c0 to c(m−1); member number i, going round.
+-- Member number i, in rising order and going round.
 unfoldable pub memberAt : Byte → ℕ → ℕ
 memberAt m i = getD (members m) (i % length (members m)) 0
 
 -- ---- the base's choice of sites
--- Block b's sites are c(b mod m) and c((b+1) mod m).
+-- The members with the block's number and the next, going round.
 unfoldable pub chainedSites : Byte → ℕ → List ℕ
 chainedSites m b = memberAt m b ∷ memberAt m (b + 1) ∷ []
 
@@ -44,8 +44,8 @@ onBothRails m = hasOnRail m 0 && hasOnRail m 1
 unfoldable pub membersAfter : Byte → ℕ → List ℕ
 membersAfter m i = tabulate (length (members m) - 1) (λ j. memberAt m (i + 1 + j))
 
--- The second site is the first member after the first site, going round, that is on the other rail. If no member is
--- there, it is the next member as before.
+-- The second site: going round from the first, the nearest member on the other rail; the next member where that rail
+-- has none.
 unfoldable pub acrossRails : Byte → ℕ → ℕ
 acrossRails m b = getD (keepIf (λ c. not (onOneRail (memberAt m b) c)) (membersAfter m b)) 0 (memberAt m (b + 1))
 

@@ -1,4 +1,4 @@
--- The moves that let settle succeed, for the service tablet (document 02, A.3): the list, and what its call answers.
+-- The moves that let settle succeed, for the service tablet (request A.3): the list, and what its call answers.
 -- Assumes nothing.
 use Prim.Native.Nat.{_<_, ℕ}
 use lib.Dec.{ltb}
@@ -69,7 +69,7 @@ module _ (P : Parameters) where
   asMove e = move (e .card) (e .block)
 
   -- ---- what the statements say of it
-  -- A block that must still move has a locked record on a card that it would move from.
+  -- Of a block that is not settled, one of the copies that would move has a locked record.
   pub record LockedMove (k : Control P) (v : View P) : Type 0 where
     pub card : ℕ
     pub block : ℕ

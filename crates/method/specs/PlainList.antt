@@ -1,5 +1,5 @@
--- The plain record list: document 01, "The plain record list". It is fed the calls with their arguments alone.
--- Assumes nothing.
+-- The plain record list: RULES, "The plain record list". It sees each call with its arguments, and no answer of the
+-- store. Assumes nothing.
 use Prim.Native.Nat.{suc, zero, ℕ}
 use lib.Dec.{eqb, leb, ltb}
 use mathlib.Core.Bool.{Bool, _&&_, _||_, cond, false, not, true}
@@ -16,8 +16,8 @@ module _ (P : Parameters) where
   open Parameters P using (StartArgument, cards, copies, tranInRange, recInRange, valueInRange, has, insert, remove)
   open Parameters P using (mask, places, empty)
 
-  -- Per record a committed state, a lock and a pending state; beside them the open transactions with their homes, the
-  -- working cards, the failed cards and the active placements.
+  -- A slot for each record, and a control part: open transactions with their homes, working and failed cards, active
+  -- placements.
   pub record PlainList : Type 0 where
     pub records : ℕ → Slot
     pub control : Control P
@@ -28,8 +28,7 @@ module _ (P : Parameters) where
   abbrev pub withControl : PlainList → Control P → PlainList
   withControl q k = record { records = q .records; control = k }
 
-  -- start: all absent and unlocked, none open, none failed; only the argument's cards work, and they are the one
-  -- placement.
+  -- start: no record is present or locked; the argument's cards work, and their placement is the only one.
   abbrev pub plainStart : StartArgument → PlainList
   plainStart a = record { records = λ i. blank; control = startedBy P a }
 
@@ -37,8 +36,8 @@ module _ (P : Parameters) where
   abbrev pub lockRecord : PlainList → ℕ → ℕ → Option ℕ → PlainList
   lockRecord q t r x = withRecords q (λ i. cond (eqb i r) (locked t x (q .records i)) (q .records i))
 
-  -- The records that the transactions picked by f lock take or drop the pending state and are unlocked; the control
-  -- part becomes k.
+  -- The transactions that f picks end: their records take or drop what is pending, and are free. The control part
+  -- becomes k.
   abbrev pub endRecords : PlainList → Bool → (ℕ → Bool) → Control P → PlainList
   endRecords q take f k = record { records = λ i. ended take f (q .records i); control = k }
 

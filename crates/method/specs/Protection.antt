@@ -1,4 +1,4 @@
--- When state answers protected (document 02, A.2): the same by counts, and the statements. Assumes nothing.
+-- When state answers protected (request A.2): the same by counts, and the statements. Assumes nothing.
 use Prim.Native.Nat.{suc}
 use lib.Dec.{ltb}
 use mathlib.Core.Bool.{Bool, _&&_, cond, false, not}

@@ -1,4 +1,4 @@
--- The rules of the store, call by call: document 01, "Sites and trail" and "The calls". Assumes nothing.
+-- The rules of the store, call by call: RULES, "Sites, trail, holders" and "The calls". Assumes nothing.
 use Prim.Native.Nat.{suc, zero, ℕ}
 use lib.Dec.{eqb, leb, ltb}
 use lib.ListN.{length}
@@ -123,11 +123,11 @@ module _ (P : Parameters) where
   abbrev pub newestSites : Control P → ℕ → List ℕ
   newestSites k b = sites (k .setting) (k .newest) b
 
-  -- The trail of a block is the sites of all active placements, oldest first, failed cards skipped.
+  -- The trail of a block: its sites by each active placement, from the oldest to the newest, but no failed card.
   unfoldable pub trail : Control P → ℕ → List ℕ
   trail k b = keepIf (λ c. not (has (k .failed) c)) (concatMap (λ p. sites (k .setting) p b) (active k))
 
-  -- A holder is a card on the trail that holds the block.
+  -- The holders: the cards of the trail that hold the block.
   unfoldable pub holders : Control P → View → ℕ → List ℕ
   holders k v b = keepIf (λ c. held (v c b)) (trail k b)
 
@@ -140,7 +140,7 @@ module _ (P : Parameters) where
   seenSlot k v r = firstSlot v r (holders k v (blockOf r))
 
   -- ---- conditions that the calls name
-  -- Some holder's slot is locked by another number.
+  -- The slot of some holder is locked, by a number other than t, open or not.
   abbrev pub lockedOut : Control P → View → ℕ → ℕ → Bool
   lockedOut k v t r = anyIn (λ c. lockedByOther t (slot (v c (blockOf r)) (placeOf r))) (holders k v (blockOf r))
 
@@ -166,14 +166,14 @@ module _ (P : Parameters) where
   unfoldable pub anyLocked : Block → Bool
   anyLocked x = anyBelow slots (λ p. not (eqb ((slot x p) .lock) 0))
 
-  -- A block held on a working card is held by all its newest sites and by no other working card.
+  -- The block lies on all its newest sites and on no further working card, or no working card holds it.
   abbrev pub settledAt : Control P → View → ℕ → Bool
   settledAt k v b = settledBy cards (newestSites k b) (λ c. held (v c b))
 
   unfoldable pub settled : Control P → View → Bool
   settled k v = allBelow (blocks (k .setting)) (settledAt k v)
 
-  -- Protected exactly when failing any one working card would not stop the store (document 02, A.2).
+  -- Protected: there is no working card whose failure would stop the store (request A.2).
   unfoldable pub isProtected : Control P → Bool
   isProtected k = allBelow cards (λ c. not (has (k .working) c && stopping k c))
 
@@ -255,12 +255,12 @@ module _ (P : Parameters) where
   reply none = absent
   reply (some n) = value n
 
-  -- Every holder's slot is locked and given the pending state.
+  -- The slot of each holder gets the lock and the pending state.
   unfoldable pub lockHolders : Control P → View → ℕ → ℕ → Option ℕ → ℕ → ℕ → Option Block
   lockHolders k v t r x c b =
       cond (eqb b (blockOf r)) (cond (elem c (holders k v b)) (some (lockSlot (v c b) (placeOf r) t x)) none) none
 
-  -- With no holder, all sites of the newest placement get the block, all else in it zero.
+  -- With no holder the block is made at all its newest sites: held, and zero but for this slot.
   unfoldable pub layBlock : Control P → ℕ → ℕ → Option ℕ → ℕ → ℕ → Option Block
   layBlock k t r x c b =
       cond (eqb b (blockOf r) && elem c (newestSites k b)) (some (lockSlot fresh (placeOf r) t x)) none
@@ -269,8 +269,8 @@ module _ (P : Parameters) where
   storeWrites k v t r n [] = layBlock k t r (some n)
   storeWrites k v t r n (h ∷ l) = lockHolders k v t r (some n)
 
-  -- commit, rollback: on all working cards, in all held blocks, slots locked by the transactions that f picks take or
-  -- drop the pending state.
+  -- commit, rollback: wherever a working card holds a block, the slots of the transactions that f picks take or drop
+  -- what is pending.
   unfoldable pub endHeld : Bool → (ℕ → Bool) → View → ℕ → ℕ → Option Block
   endHeld take f v c b = cond (held (v c b)) (some (endSlots take f (v c b))) none
 
@@ -282,8 +282,8 @@ module _ (P : Parameters) where
   unfoldable pub clearCard : ℕ → ℕ → ℕ → Option Block
   clearCard out c b = cond (eqb c out) (some empty) none
 
-  -- move: each site of the newest placement that lacks the block gets a copy; one that has it keeps its own. The
-  -- origin drops it unless it is a site.
+  -- move: a copy goes to the newest sites that lack the block. A site that has one keeps it; an origin that is no site
+  -- drops its own.
   unfoldable pub moveWrites : Control P → View → ℕ → ℕ → ℕ → ℕ → Option Block
   moveWrites k v origin m c b =
       cond (eqb b m) (

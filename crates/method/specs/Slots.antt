@@ -5,7 +5,7 @@ use mathlib.Core.Option.{Option, some, none}
 use Prim.Native.Nat.{ℕ}
 use lib.Dec.{eqb}
 
--- A committed state (a value or absent), a lock (0 is none, else the transaction), a pending state.
+-- What is committed (none is absent), the transaction that locks it (0 is none), what is pending.
 pub record Slot : Type 0 where
   pub committed : Option ℕ
   pub lock : ℕ
@@ -22,7 +22,7 @@ isSome (some n) = true
 abbrev pub isNone : Option ℕ → Bool
 isNone o = not (isSome o)
 
--- The own pending state if the slot is locked by this transaction, else the committed one.
+-- What a transaction sees: its own pending state where it has the lock, and what is committed elsewhere.
 abbrev pub readBy : ℕ → Slot → Option ℕ
 readBy t s = cond (eqb (s .lock) t) (s .pending) (s .committed)
 

@@ -1,4 +1,4 @@
--- The promise of the call that lists moves (document 02, A.3). Assumes nothing.
+-- The promise of the call that lists moves (request A.3). Assumes nothing.
 use Prim.Native.Nat.{_*_, _≤_, ℕ}
 use lib.ListN.{drop, length, replicate}
 use mathlib.Core.List.{List, _++_, map}
@@ -12,7 +12,7 @@ use Rattle.move_list.specs.declared.Listed.{Listed}
 use Rattle.move_list.specs.declared.Listed.the-variants.{Moves, None, Refused}
 use Rattle.move_list.specs.declared.Move.{Move}
 
--- Document 02's answer for each case of the code's enum.
+-- The answer of the rules for each case of the code's enum.
 abbrev pub shownList : Listed → ListAnswer
 shownList (Moves n) = listed n
 shownList None = noList

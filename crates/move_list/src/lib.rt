@@ -1,4 +1,4 @@
-// The moves that let settle succeed, for the service tablet (document 02, A.3): what is found of them in one pass over
+// The moves that let settle succeed, for the service tablet (request A.3): what is found of them in one pass over
 // the card tables, the n-th of them, and their number.
 ghost use mathlib.Core.Path.{_≡_};
 ghost use Rattle.move_list.specs.Plans.{Plans, planAnswer, moveAt, movesIn, storedBy};

@@ -31,7 +31,7 @@ asked Settle = settle
 asked State = state
 asked (Load c) = load (c .0)
 
--- Document 01's answer for each case of the code's enum.
+-- The answer of the rules for each case of the code's enum.
 abbrev pub shown : AnswerValue → Answer cabinet
 shown Ok = ok
 shown (Value n) = value n

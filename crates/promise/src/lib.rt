@@ -6,7 +6,7 @@ use image::Card;
 use image::Rec;
 use image::Tran;
 
-// Document 01's calls with their arguments. A mask is a byte, a value 16 bits.
+// The calls with their arguments (RULES, "The calls"). A mask is a byte, a value 16 bits.
 pub enum Call {
     Start(u8),
     Begin(Tran, Card),
@@ -25,7 +25,7 @@ pub enum Call {
     Load(Card),
 }
 
-// Document 01's answers. A refusal is its number in the table.
+// The answers. A refusal is its number in the table (RULES, "Refusals").
 pub enum Answer {
     Ok,
     Value(u16),

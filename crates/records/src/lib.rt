@@ -2,7 +2,7 @@
 ghost use Rattle.promise.specs.Promise.{Done, asked};
 ghost use Rattle.promise.specs.declared.Call.{Call};
 
-mod access;
+pub mod access;
 mod slots;
 
 use image::Rec;
@@ -10,7 +10,7 @@ use image::Tran;
 use promise::Answer;
 use slot::Entry;
 
-// The own pending state if the first holder's slot is locked by this transaction, else the committed one.
+// The record as this transaction sees it, at the first holder.
 pub fn get(image: &[u8], tran: Tran, rec: Rec) -> Answer
     ensures { λ r. ⌜ Done (asked (Call.Get tran rec)) (now (image .entry)) r (now (image .entry)) ⌝ }
 {
@@ -22,8 +22,8 @@ pub fn get(image: &[u8], tran: Tran, rec: Rec) -> Answer
     slots::reply(state)
 }
 
-// Every holder's slot is locked and given the pending value. With no holder, both sites of the newest placement get
-// the block. A record that has a value out of range from before keeps it until it is stored anew or deleted.
+// The slot of each holder gets the lock and the pending value. With no holder the block is made at its newest sites. A
+// record that has a value out of range from before keeps it until it is stored anew or deleted.
 pub fn store(image: &mut [u8], tran: Tran, rec: Rec, value: u16) -> Answer
     ensures { λ r. ⌜ Done (asked (Call.Store tran rec value)) (now (image .entry)) r (now (image .exit)) ⌝ }
 {
@@ -45,8 +45,8 @@ pub fn store(image: &mut [u8], tran: Tran, rec: Rec, value: u16) -> Answer
     Answer::Ok
 }
 
-// If get would say absent, the answer is absent and nothing changes. Else every holder's slot is locked with pending
-// absent.
+// Where a get says absent, so does this, and no byte changes. Else the slot of each holder gets the lock and a pending
+// absence.
 pub fn delete(image: &mut [u8], tran: Tran, rec: Rec) -> Answer
     ensures { λ r. ⌜ Done (asked (Call.Delete tran rec)) (now (image .entry)) r (now (image .exit)) ⌝ }
 {

@@ -127,7 +127,7 @@ fn lock_on(image: &mut [u8], card: Card, tran: Tran, rec: Rec, pending: Entry)
     slot::block::lock_slot(&mut image[start..end], place_of(rec), tran.0, pending);
 }
 
-// Every holder's slot is locked and given the pending state.
+// The slot of each holder gets the lock and the pending state.
 pub fn lock_all(image: &mut [u8], holders: Holders, tran: Tran, rec: Rec, pending: Entry)
     requires { ⌜ Whole (now image) × (rec .0 < recordCount) × (tran .0 < tranBound) ⌝ }
     requires { ⌜ Lists holders (holdersIn (now image) (rec .0 / slotCount)) ⌝ }

@@ -1,4 +1,4 @@
-// Document 01's marked examples M3 to M10, run through the store. (M1 and M2 are of the sites alone.)
+// The marked examples M3 to M10 (RULES, "The calls"), run through the store. (M1 and M2 are of the sites alone.)
 use crate::report::answer;
 use crate::report::title;
 use image::Block;
@@ -36,7 +36,7 @@ pub fn m5_committed(image: &mut [u8]) {
     answer(store::commit(image, Tran(1)));
 }
 
-// Under E0 alone failing 1 places A0; under A0 alone failing 2 stops.
+// A failure leaves two of three cards; the next stops the store.
 pub fn m6(image: &mut [u8]) {
     title(6);
     answer(store::start(image, 0xE0));

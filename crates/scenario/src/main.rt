@@ -1,4 +1,4 @@
-// Runs document 01's marked examples and a store's whole life through `store`, and reports every answer.
+// Runs the marked examples and a store's whole life through `store`, and reports every answer.
 mod examples;
 mod life;
 mod report;

@@ -42,7 +42,7 @@ fn write_words(space: &mut [u8], given: Answer) {
     write(&space[..put]);
 }
 
-// An answer in document 01's words.
+// An answer in the words of the listing.
 pub fn answer(given: Answer) {
     let mut space = [0u8; lines::LONGEST_ANSWER];
     write(b" ");

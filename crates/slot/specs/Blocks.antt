@@ -1,4 +1,4 @@
--- A block of 41 bytes: a byte whose highest bit says 'held', then eight slots of 40 bits. Assumes nothing.
+-- A block of 41 bytes: the highest bit of the first says that the card holds it; eight slots follow. Assumes nothing.
 use mathlib.Core.Path.{_≡_}
 use mathlib.Core.Bool.{Bool, not, _&&_, cond}
 use mathlib.Core.Option.{Option}

@@ -1,4 +1,4 @@
--- What a list of moves is worth to a caller (document 02, A.3): the statements, of the calls. Assumes nothing.
+-- What a list of moves is worth to a caller (request A.3): the statements, of the calls. Assumes nothing.
 use Prim.Native.Nat.{_≤_, ℕ}
 use lib.ListN.{length, take}
 use mathlib.Core.List.{List, map}

@@ -22,9 +22,9 @@ use Rattle.promise.specs.declared.Answer.the-variants.{Ok}
 
 -- A call that was made on the memory.
 pub data Made : Type 0 where
-  -- one of document 01: what was asked, what it answered, and the memory that it left
+  -- one of the fifteen: what was asked, what it answered, and the memory that it left
   storeCall : CallValue → AnswerValue → Image → Made
-  -- one that lists moves (document 02, A.3): the list that was lent, what was said, and the list as filled
+  -- one that lists moves (request A.3): the list that was lent, what was said, and the list as filled
   listCall : List Move → Listed → List Move → Made
 
 -- It kept its promise on memory g.

@@ -1,4 +1,4 @@
-// The store: document 01's fifteen calls on a lent image of any length and contents, one entry that runs any of them,
+// The store: the fifteen calls on a lent image of any length and contents, one entry that runs any of them,
 // and one that runs the bytes of a command. Each promises that its answer and the image that it leaves are those of the
 // rules.
 ghost use Rattle.command.specs.Meaning.{Obeyed};
@@ -95,7 +95,7 @@ pub fn fail(image: &mut [u8], card: Card) -> Answer
     failure::fail(image, card)
 }
 
-// A card's copy of a block goes to the newest sites that lack it. (Document 01's move.)
+// A card's copy of a block goes to the newest sites that lack it: the call 'move' of the rules.
 pub fn move_block(image: &mut [u8], card: Card, block: Block) -> Answer
     ensures { λ r. ⌜ Done (asked (Call.Move card block)) (now (image .entry)) r (now (image .exit)) ⌝ }
 {
@@ -109,7 +109,7 @@ pub fn settle(image: &mut [u8]) -> Answer
     reorganise::settle(image)
 }
 
-// Protected exactly when failing any one working card would not stop the store.
+// Protected: there is no working card whose failure would stop the store.
 pub fn state(image: &[u8]) -> Answer
     ensures { λ r. ⌜ Done (asked Call.State) (now (image .entry)) r (now (image .entry)) ⌝ }
 {

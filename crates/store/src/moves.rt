@@ -1,4 +1,4 @@
-// The moves that let settle succeed, for the service tablet (document 02, A.3), in a list that the caller lends.
+// The moves that let settle succeed, for the service tablet (request A.3), in a list that the caller lends.
 ghost use mathlib.Core.List.{_++_};
 ghost use mathlib.Core.Path.{_≡_};
 ghost use Prim.Native.Nat.{_≤_};
@@ -22,8 +22,8 @@ fn fill(plan: Plan, list: &mut [Move], n: usize)
     }
 }
 
-// The fewest moves that let settle succeed, blocks rising and then cards rising, in the first entries of the list; those
-// beyond their number stay as lent. The list stays as lent where the answer is 'none' or a refusal.
+// The fewest moves after which settle succeeds, in the order of blocks and then of cards, in the first entries of the
+// list; those beyond their number stay as lent. The list stays as lent where the answer is 'none' or a refusal.
 pub fn list(image: &[u8], list: &mut [Move]) -> Listed
     ensures { λ r. ⌜ ListDone (now (image .entry)) (now (list .entry)) r (now (list .exit)) ⌝ }
 {

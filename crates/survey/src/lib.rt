@@ -8,7 +8,7 @@ mod protection;
 use image::Card;
 use promise::Answer;
 
-// Protected exactly when failing any one working card would not stop the store.
+// Protected: there is no working card whose failure would stop the store.
 pub fn state(image: &[u8]) -> Answer
     ensures { λ r. ⌜ Done (asked Call.State) (now (image .entry)) r (now (image .entry)) ⌝ }
 {

@@ -1,68 +1,39 @@
--- `read` meets its contract: by the length and by the form. Assumes nothing.
-use mathlib.Core.Path.{_∙_, _≡_, ap, sym}
-use mathlib.Core.Bool.{false, true}
+-- The command of the fields that are shown. Assumes nothing.
+use mathlib.Core.Path.{_∙_, ap, sym}
 use denote.Ref.{now}
-use Rattle.command.proofs.Answers.{read-form, read-length}
+use Rattle.command.proofs.FieldCodec.{asks-none, asks-shown, shown-formed}
 use Rattle.command.specs.declared.Reading.the-variants.{Asks}
-use Rattle.command.specs.Commands.{commandAt, fieldsIn, formed}
 use borrow.Author.Needs.{needs}
 use Rattle.command.proofs.read.Statement.{statement}
 use Rattle.command.proofs.read.Tie as tie
 
-returns : tie.Need-returns
-returns c = read-length (now (c .before .before .args .bytes)) (c .if1 .taken)
+read-requires : tie.Need-read-requires
+read-requires c κs = search needs
 
-shared-slice-read-decode : tie.Need-shared-slice-read-decode
-shared-slice-read-decode c = search needs
-
-shared-slice-read-decode-2 : tie.Need-shared-slice-read-decode-2
-shared-slice-read-decode-2 c = search needs
-
-shared-slice-read-decode-3 : tie.Need-shared-slice-read-decode-3
-shared-slice-read-decode-3 c = search needs
-
-shared-slice-read-decode-4 : tie.Need-shared-slice-read-decode-4
-shared-slice-read-decode-4 c = search needs
-
-shared-slice-read-decode-5 : tie.Need-shared-slice-read-decode-5
-shared-slice-read-decode-5 c = search needs
-
-decode-requires : tie.Need-decode-requires
-decode-requires c κs = search needs
-
-is-formed-requires : tie.Need-is-formed-requires
-is-formed-requires c κs = search needs
+enum-known-shown : tie.Need-enum-known-shown
+enum-known-shown c = search needs
 
 command-at-requires : tie.Need-command-at-requires
-command-at-requires c κs = sym (c .before .is-formed .ensures) ∙ c .if2 .taken
+command-at-requires c κs =
+    let m = c .before in
+    let r = m .before .before in
+    shown-formed (now (r .before .before .args .bytes)) (m .shown .given .0 .0) (sym (r .read .ensures) ∙ m .shown .given .1)
+
+enum-told : tie.Need-enum-told
+enum-told c = search needs
+
+returns : tie.Need-returns
+returns c =
+    let m = c .before .before in
+    let r = m .before .before in
+    ap Asks (c .command-at .ensures) ∙ asks-shown (now (r .before .before .args .bytes)) (m .shown .given .0 .0) (sym (r .read .ensures) ∙ m .shown .given .1)
 
 returns-2 : tie.Need-returns-2
-unfolding fieldsIn
 returns-2 c =
-    let l = now (c .before .before .before .before .before .before .before .before .before .before .before .args .bytes) in
-    let e : c .before .before .before .decode .result ≡ fieldsIn l = c .before .before .before .decode .ensures in
-    ap Asks (c .command-at .ensures ∙ ap commandAt e) ∙ read-form l true (c .before .before .before .before .before .before .before .before .before .if1 .left)
-    (sym (ap formed e) ∙ (sym (c .before .before .is-formed .ensures) ∙ c .before .if2 .taken))
-
-returns-3 : tie.Need-returns-3
-unfolding fieldsIn
-returns-3 c =
-    let l = now (c .before .before .before .before .before .before .before .before .before .before .args .bytes) in
-    let e : c .before .before .decode .result ≡ fieldsIn l = c .before .before .decode .ensures in
-    read-form l false (c .before .before .before .before .before .before .before .before .if1 .left) (sym (ap formed e) ∙ (sym (c .before .is-formed .ensures) ∙ c .if2 .left))
+    let r = c .before .before in
+    asks-none (now (r .before .before .args .bytes)) (sym (r .read .ensures) ∙ c .enum-told .given .1)
 
 pub read-spec : {M : Type 1} → statement M
 read-spec =
     tie.close
-    (tie.spec
-    returns
-    shared-slice-read-decode
-    shared-slice-read-decode-2
-    shared-slice-read-decode-3
-    shared-slice-read-decode-4
-    shared-slice-read-decode-5
-    decode-requires
-    is-formed-requires
-    command-at-requires
-    returns-2
-    returns-3)
+    (tie.spec read-requires enum-known-shown command-at-requires enum-told returns returns-2)

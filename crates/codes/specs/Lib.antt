@@ -1,0 +1,4 @@
+pub mod Codes
+pub mod ListCodes
+pub mod ToldCodes
+pub mod CommandCodes

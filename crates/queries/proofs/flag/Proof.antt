@@ -1,0 +1,15 @@
+-- By the test. Assumes nothing.
+use mathlib.Core.Bool.{Bool, cond}
+use mathlib.Core.Path.{ap, sym}
+use Rattle.queries.specs.declared.Told.the-variants.{Number}
+use Rattle.queries.proofs.flag.Statement.{statement}
+use Rattle.queries.proofs.flag.Tie as tie
+
+returns : tie.Need-returns
+returns c = rw (c .if1 .taken)
+
+returns-2 : tie.Need-returns-2
+returns-2 c = rw (c .if1 .left)
+
+pub flag-spec : {M : Type 1} → statement M
+flag-spec = tie.close (tie.spec returns returns-2)
