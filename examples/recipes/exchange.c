@@ -9,7 +9,7 @@ static uint8_t list[NOLPIGAT_MOST_MOVES * NOLPIGAT_MOVE_SIZE];
 /* How a step or a whole part ended. */
 enum step {
     DONE,
-    LATER,   /* an open transaction is in the way (see in_the_way.c): do this part again after its end */
+    LATER,   /* others are in the way (see in_the_way.c): do this part again after a while */
     STOPPED, /* the store has stopped */
     FAULT    /* not in this state of the cabinet, a fault of this program, or an unknown answer */
 };
@@ -21,8 +21,8 @@ static void print(const char *call, uint32_t answer) {
     printf("  %s: %s\n", call, text);
 }
 
-/* What an answer that is not the wanted one means. Open transactions are the reason of none and of
- * refusals 12, 13 and 14: a record is locked, or a block was written since the list was made, or the
+/* What an answer that is not the wanted one means. The work of others is the reason of none and of
+ * refusals 11 to 14: a record is locked, a block was moved or stored since the list was made, or the
  * card is a home. */
 static enum step ended(uint32_t answer) {
     if (nolpigat_kind(answer) == NOLPIGAT_KIND_NONE)
@@ -31,6 +31,7 @@ static enum step ended(uint32_t answer) {
         return FAULT;
     switch (nolpigat_number(answer)) {
     case NOLPIGAT_REFUSAL_STOPPED: return STOPPED;
+    case NOLPIGAT_REFUSAL_NOT_HELD:
     case NOLPIGAT_REFUSAL_COPY_LOCKED:
     case NOLPIGAT_REFUSAL_UNSETTLED:
     case NOLPIGAT_REFUSAL_HOME: return LATER;
@@ -68,6 +69,17 @@ static enum step ask_newest(uint8_t *mask) {
     return result == DONE ? ask(nolpigat_placement(image, sizeof image, (uint8_t)(count - 1)), mask) : result;
 }
 
+/* Places the mask. Where three placements are active (10), the older ones are retired before. */
+static enum step place(uint8_t mask) {
+    const uint32_t answer = nolpigat_place(image, sizeof image, mask);
+    enum step result;
+    if (!nolpigat_is_refused(answer) || nolpigat_number(answer) != NOLPIGAT_REFUSAL_ACTIVE)
+        return step("place", answer, NOLPIGAT_KIND_OK);
+    print("place", answer);
+    result = reorganise();
+    return result == DONE ? step("place", nolpigat_place(image, sizeof image, mask), NOLPIGAT_KIND_OK) : result;
+}
+
 /* The part of one card in a mask. */
 static uint8_t bit(uint8_t card) {
     return (uint8_t)(0x80 >> card);
@@ -96,7 +108,7 @@ static enum step take_out_working(uint8_t card) {
     uint8_t mask;
     enum step result = ask_newest(&mask);
     if (result == DONE && mask & bit(card))
-        result = step("place", nolpigat_place(image, sizeof image, (uint8_t)(mask & ~bit(card))), NOLPIGAT_KIND_OK);
+        result = place((uint8_t)(mask & ~bit(card)));
     if (result == DONE)
         result = reorganise();
     return result == DONE ? step("withdraw", nolpigat_withdraw(image, sizeof image, card), NOLPIGAT_KIND_OK) : result;
@@ -111,7 +123,7 @@ static enum step put_in(uint8_t card) {
     if (result == DONE)
         result = ask_newest(&mask);
     if (result == DONE && !(mask & bit(card)))
-        result = step("place", nolpigat_place(image, sizeof image, mask | bit(card)), NOLPIGAT_KIND_OK);
+        result = place(mask | bit(card));
     return result == DONE ? reorganise() : result;
 }
 
@@ -158,8 +170,16 @@ static int working_card(void) {
     return ends("put in card 2", put_in(2), DONE);
 }
 
+/* Two placements were added and not settled, so that three are active. */
+static int three_active(void) {
+    return nolpigat_place(image, sizeof image, 0xA0) == 0 && nolpigat_place(image, sizeof image, 0xE0) == 0 &&
+           ends("take out working card 1 of three placements", take_out_working(1), DONE) &&
+           ends("put in card 1", put_in(1), DONE);
+}
+
 int main(void) {
-    if (!ends("before the first start", put_in(1), FAULT) || !filled() || !failed_card() || !working_card())
+    if (!ends("before the first start", put_in(1), FAULT) || !filled() || !failed_card() || !working_card() ||
+        !three_active())
         return 1;
     return !ends("take out failed card 0 of three", take_out_failed(0), DONE) ||
            !ends("take out failed card 1 of two", take_out_failed(1), STOPPED) ||

@@ -7,7 +7,7 @@ use std::fmt::Display;
 /// How a step or a whole part ended, where it is not done.
 #[derive(Clone, Copy, Debug, PartialEq)]
 enum Undone {
-    /// An open transaction is in the way (see in_the_way.rs): do this part again after its end.
+    /// Others are in the way (see in_the_way.rs): do this part again after a while.
     Later,
     /// The store has stopped.
     Stopped,
@@ -15,13 +15,13 @@ enum Undone {
     Fault,
 }
 
-/// What a refusal means. Open transactions are the reason of 12, 13 and 14: a record is locked, or a block was written
+/// What a refusal means. The work of others is the reason of 11 to 14: a record is locked, a block was moved or stored
 /// since the list was made, or the card is a home.
 impl From<Refusal> for Undone {
     fn from(refusal: Refusal) -> Undone {
         match refusal {
             Refusal::Stopped => Undone::Stopped,
-            Refusal::CopyLocked | Refusal::Unsettled | Refusal::Home => Undone::Later,
+            Refusal::NotHeld | Refusal::CopyLocked | Refusal::Unsettled | Refusal::Home => Undone::Later,
             other => {
                 println!("  {other}");
                 Undone::Fault
@@ -59,6 +59,17 @@ fn newest(image: &[u8]) -> Result<Mask, Undone> {
     placement(image, placement_count(image)? - 1)?.ok_or(Undone::Fault)
 }
 
+/// Places the mask. Where three placements are active (10), the older ones are retired before.
+fn place_it(image: &mut [u8], mask: Mask) -> Result<(), Undone> {
+    match print("place", place(image, mask), |()| Answer::Ok) {
+        Err(Refusal::Active) => {
+            reorganise(image)?;
+            Ok(print("place", place(image, mask), |()| Answer::Ok)?)
+        }
+        other => Ok(other?),
+    }
+}
+
 /// Part 1 for a card that failed. After it the card may be pulled and the new one put in. As the other parts, it passes
 /// over what is done already, and so may be called again after `Later`.
 fn take_out_failed(image: &mut [u8], card: Card) -> Result<(), Undone> {
@@ -76,7 +87,7 @@ fn take_out_failed(image: &mut [u8], card: Card) -> Result<(), Undone> {
 fn take_out_working(image: &mut [u8], card: Card) -> Result<(), Undone> {
     let mask = newest(image)?;
     if mask.contains(card) {
-        print("place", place(image, mask.without(card)), |()| Answer::Ok)?;
+        place_it(image, mask.without(card))?;
     }
     reorganise(image)?;
     Ok(print("withdraw", withdraw(image, card), |()| Answer::Ok)?)
@@ -89,7 +100,7 @@ fn put_in(image: &mut [u8], card: Card) -> Result<(), Undone> {
     }
     let mask = newest(image)?;
     if !mask.contains(card) {
-        print("place", place(image, mask.with(card)?), |()| Answer::Ok)?;
+        place_it(image, mask.with(card)?)?;
     }
     reorganise(image)
 }
@@ -145,12 +156,22 @@ fn working_card(image: &mut [u8]) -> Result<(), Refusal> {
     Ok(())
 }
 
+/// Two placements were added and not settled, so that three are active.
+fn three_active(image: &mut [u8]) -> Result<(), Refusal> {
+    place(image, Mask(0xA0))?;
+    place(image, Mask(0xE0))?;
+    ends("take out working card 1 of three placements", take_out_working(image, Card(1)), Ok(()));
+    ends("put in card 1", put_in(image, Card(1)), Ok(()));
+    Ok(())
+}
+
 fn main() -> Result<(), Refusal> {
     let image = &mut vec![0; IMAGE_SIZE];
     ends("before the first start", put_in(image, Card(1)), Err(Undone::Fault));
     fill(image)?;
     failed_card(image)?;
     working_card(image)?;
+    three_active(image)?;
     ends("take out failed card 0 of three", take_out_failed(image, Card(0)), Ok(()));
     ends("take out failed card 1 of two", take_out_failed(image, Card(1)), Err(Undone::Stopped));
     ends("put in after the stop", put_in(image, Card(0)), Err(Undone::Stopped));
