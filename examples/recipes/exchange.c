@@ -22,8 +22,8 @@ static void print(const char *call, uint32_t answer) {
 }
 
 /* What an answer that is not the wanted one means. The work of others is the reason of none and of
- * refusals 11 to 14: a record is locked, a block was moved or stored since the list was made, or the
- * card is a home. */
+ * refusals 11 to 14: a record is locked, a block was moved or a placement added since the list was
+ * made, or the card is a home. */
 static enum step ended(uint32_t answer) {
     if (nolpigat_kind(answer) == NOLPIGAT_KIND_NONE)
         return LATER;

@@ -15,8 +15,8 @@ enum Undone {
     Fault,
 }
 
-/// What a refusal means. The work of others is the reason of 11 to 14: a record is locked, a block was moved or stored
-/// since the list was made, or the card is a home.
+/// What a refusal means. The work of others is the reason of 11 to 14: a record is locked, a block was moved or a
+/// placement added since the list was made, or the card is a home.
 impl From<Refusal> for Undone {
     fn from(refusal: Refusal) -> Undone {
         match refusal {
