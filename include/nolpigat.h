@@ -1,16 +1,22 @@
-/* The replicated record store for callers in C99 and C++: link with libabi.a (x86-64).
+/* The replicated record store for callers in C99 and C++: link with libnolpigat.a (x86-64).
  *
  * The store lies in an image of 21,024 bytes that the caller lends with each call. It keeps 512
- * records of 16 bits, each on two of up to eight cards. Document 01 has the rules; for every image
+ * records of 16 bits, each on two of up to eight cards. docs/RULES.md has the rules; for every image
  * length and contents, answer and image after a call are proved to be those of the rules.
  *
  * The caller's part:
  * - lend at least the length that is passed; no pointer may be null, even with length 0;
  * - let the bytes of a command and those of a list lie outside the image;
- * - one caller at a time for an image.
- * No call keeps a pointer, and there is no state but the image. Every length and contents are
- * allowed: another length than 21,024 is refused with 1, a broken control part with 2. An image of
- * zeros is refused with 2 until its first start. A refused call leaves the image as found.
+ * - while a call that changes an image runs, make no other call on that image.
+ * Every length and contents are allowed: another length than 21,024 is refused with 1, a broken
+ * control part with 2. An image of zeros is refused with 2 until its first start. A refused call
+ * leaves the image as found. A call that is cut short may leave an image with half of its changes:
+ * work on a copy where that can happen (docs/RECIPES.md, copy and switch).
+ *
+ * No call keeps a pointer, and there is no state but the image, so every function is re-entrant.
+ * Calls on different images may run at the same time, and so may calls with a const image on one
+ * image. Images, commands and lists are bytes and need no alignment. A call needs at most
+ * NOLPIGAT_STACK_SIZE bytes of stack; it allocates no memory and makes no system call.
  *
  * Numbers: cards 0 to 7, blocks 0 to 63, records 0 to 511, transactions 1 to 15, values to store 0 to
  * 65,534. Record r lies in block r / 8. A mask is a set of cards in a byte; card 0 is its highest bit
@@ -18,13 +24,20 @@
  *
  * An answer is kind * 65536 + number; ok is 0. The number is 0 where the kind has none. If several
  * refusals apply, the lowest is returned, except that a command's form (15) comes first. Refusals 1,
- * 2 and 4 come from every call but start, which gives only 1 and 9; each call names its others.
+ * 2 and 4 come from every call up to move_list but start, which gives only 1 and 9; each call names
+ * its others. The functions behind move_list name all their refusals.
  */
 #ifndef NOLPIGAT_H
 #define NOLPIGAT_H
 
 #include <stddef.h>
 #include <stdint.h>
+
+/* The version of this header and of the archive it describes. */
+#define NOLPIGAT_VERSION_MAJOR 1
+#define NOLPIGAT_VERSION_MINOR 6
+#define NOLPIGAT_VERSION_PATCH 0
+#define NOLPIGAT_VERSION "1.6.0"
 
 /* The lengths of an image, of a command and of an entry of a move list, in bytes. */
 #define NOLPIGAT_IMAGE_SIZE 21024
@@ -33,6 +46,27 @@
 
 /* A move list with room for so many entries is never too short: 8 cards of 64 blocks. */
 #define NOLPIGAT_MOST_MOVES 512
+
+/* The longest text of nolpigat_answer_text has so many bytes, its final 0 counted. */
+#define NOLPIGAT_ANSWER_TEXT_SIZE 19
+
+/* The most bytes of stack that a call needs, its return address counted. It is measured with the
+ * archive of this version, not proved; tests/stack.c measures it again. */
+#define NOLPIGAT_STACK_SIZE 2560
+
+/* Where the compiler can, it warns of an answer that is not looked at. Define the macro as nothing
+ * before including this header to have no such warnings. */
+#ifndef NOLPIGAT_MUST_CHECK
+#if defined(__cplusplus) && __cplusplus >= 201703L
+#define NOLPIGAT_MUST_CHECK [[nodiscard]]
+#elif defined(__STDC_VERSION__) && __STDC_VERSION__ >= 202311L
+#define NOLPIGAT_MUST_CHECK [[nodiscard]]
+#elif defined(__GNUC__)
+#define NOLPIGAT_MUST_CHECK __attribute__((warn_unused_result))
+#else
+#define NOLPIGAT_MUST_CHECK
+#endif
+#endif
 
 /* Kinds of answers. */
 enum {
@@ -49,6 +83,7 @@ enum {
     NOLPIGAT_KIND_LOAD = 10,       /* how many records: 0 to 512 */
     NOLPIGAT_KIND_LISTED = 11,     /* how many moves: 0 to NOLPIGAT_MOST_MOVES */
     NOLPIGAT_KIND_NONE = 12,
+    NOLPIGAT_KIND_NUMBER = 13,     /* what a query asked for */
     NOLPIGAT_KIND_REFUSED = 15     /* the refusal's number, below */
 };
 
@@ -72,6 +107,25 @@ enum {
     NOLPIGAT_REFUSAL_LIST = 16          /* move_list: the list is shorter than needed */
 };
 
+/* Operations of commands, each with the fields that it has. */
+enum {
+    NOLPIGAT_OPERATION_START = 0,     /* value: the mask */
+    NOLPIGAT_OPERATION_BEGIN = 1,     /* transaction, card: the home */
+    NOLPIGAT_OPERATION_GET = 2,       /* transaction, number: the record */
+    NOLPIGAT_OPERATION_STORE = 3,     /* transaction, number: the record, value */
+    NOLPIGAT_OPERATION_DELETE = 4,    /* transaction, number: the record */
+    NOLPIGAT_OPERATION_COMMIT = 5,    /* transaction */
+    NOLPIGAT_OPERATION_ROLLBACK = 6,  /* transaction */
+    NOLPIGAT_OPERATION_FIT = 7,       /* card */
+    NOLPIGAT_OPERATION_WITHDRAW = 8,  /* card */
+    NOLPIGAT_OPERATION_PLACE = 9,     /* value: the mask */
+    NOLPIGAT_OPERATION_FAIL = 10,     /* card */
+    NOLPIGAT_OPERATION_MOVE = 11,     /* card, number: the block */
+    NOLPIGAT_OPERATION_SETTLE = 12,
+    NOLPIGAT_OPERATION_STATE = 13,
+    NOLPIGAT_OPERATION_LOAD = 14      /* card */
+};
+
 /* The kind of an answer. */
 static inline uint32_t nolpigat_kind(uint32_t answer) {
     return answer >> 16;
@@ -82,6 +136,108 @@ static inline uint32_t nolpigat_number(uint32_t answer) {
     return answer & 0xFFFFu;
 }
 
+/* 1 if the answer is a refusal, else 0. Its number is nolpigat_number's. */
+static inline int nolpigat_is_refused(uint32_t answer) {
+    return nolpigat_kind(answer) == NOLPIGAT_KIND_REFUSED;
+}
+
+/* What a refusal's number means, for people: never null, and one text for all unknown numbers. */
+static inline const char *nolpigat_refusal_text(uint32_t number) {
+    switch (number) {
+    case NOLPIGAT_REFUSAL_LENGTH: return "the image has another length than 21,024 bytes";
+    case NOLPIGAT_REFUSAL_CONTROL_FORM: return "the control part is broken or the store was never started";
+    case NOLPIGAT_REFUSAL_RANGE: return "a number is outside its range";
+    case NOLPIGAT_REFUSAL_STOPPED: return "the store has stopped";
+    case NOLPIGAT_REFUSAL_NOT_OPEN: return "the transaction is not open";
+    case NOLPIGAT_REFUSAL_ALREADY_OPEN: return "the transaction is open already";
+    case NOLPIGAT_REFUSAL_LOCKED: return "the record is locked by another transaction";
+    case NOLPIGAT_REFUSAL_CARD: return "the card is not in the state that the call needs";
+    case NOLPIGAT_REFUSAL_PLACEMENT: return "the mask cannot be a placement";
+    case NOLPIGAT_REFUSAL_ACTIVE: return "three or more placements are active";
+    case NOLPIGAT_REFUSAL_NOT_HELD: return "the card does not hold the block";
+    case NOLPIGAT_REFUSAL_COPY_LOCKED: return "the card's copy of the block has a locked record";
+    case NOLPIGAT_REFUSAL_UNSETTLED: return "a block still has to move";
+    case NOLPIGAT_REFUSAL_HOME: return "the card is the home of an open transaction";
+    case NOLPIGAT_REFUSAL_MALFORMED: return "the command is malformed";
+    case NOLPIGAT_REFUSAL_LIST: return "the list is too short for the moves";
+    default: return "the refusal is unknown to this version";
+    }
+}
+
+/* The word of a kind in the listing: never null, and "unknown" for a kind that there is none of. */
+static inline const char *nolpigat_kind_text(uint32_t kind) {
+    switch (kind) {
+    case NOLPIGAT_KIND_OK: return "ok";
+    case NOLPIGAT_KIND_VALUE: return "value";
+    case NOLPIGAT_KIND_ABSENT: return "absent";
+    case NOLPIGAT_KIND_PLACED: return "placed";
+    case NOLPIGAT_KIND_UNPLACED: return "unplaced";
+    case NOLPIGAT_KIND_STOPPED: return "stopped";
+    case NOLPIGAT_KIND_COPIES: return "copies";
+    case NOLPIGAT_KIND_RETIRED: return "retired";
+    case NOLPIGAT_KIND_PROTECTED: return "protected";
+    case NOLPIGAT_KIND_UNPROTECTED: return "unprotected";
+    case NOLPIGAT_KIND_LOAD: return "load";
+    case NOLPIGAT_KIND_LISTED: return "listed";
+    case NOLPIGAT_KIND_NONE: return "none";
+    case NOLPIGAT_KIND_NUMBER: return "number";
+    case NOLPIGAT_KIND_REFUSED: return "refused";
+    default: return "unknown";
+    }
+}
+
+/* How many numbers a kind's answers may have: 1 where they have no number, 0 for no kind. */
+static inline uint32_t nolpigat_number_range(uint32_t kind) {
+    switch (kind) {
+    case NOLPIGAT_KIND_OK:
+    case NOLPIGAT_KIND_ABSENT:
+    case NOLPIGAT_KIND_UNPLACED:
+    case NOLPIGAT_KIND_STOPPED:
+    case NOLPIGAT_KIND_PROTECTED:
+    case NOLPIGAT_KIND_UNPROTECTED:
+    case NOLPIGAT_KIND_NONE: return 1;
+    case NOLPIGAT_KIND_PLACED:
+    case NOLPIGAT_KIND_COPIES:
+    case NOLPIGAT_KIND_RETIRED: return 256;
+    case NOLPIGAT_KIND_VALUE:
+    case NOLPIGAT_KIND_LOAD:
+    case NOLPIGAT_KIND_LISTED:
+    case NOLPIGAT_KIND_NUMBER:
+    case NOLPIGAT_KIND_REFUSED: return 65536;
+    default: return 0;
+    }
+}
+
+/* The answer in the words of the listing, as "value 1234", "placed E0", "refused 7", "listed 3",
+ * "none" or "number 2"; "unknown" and the code where it is no answer's. The text is put into a buffer
+ * of size bytes. It is always ended by 0, and cut where it has no room; with size 0 the buffer is not
+ * touched. Returns the length of the whole text without its 0: it is cut if that is not below size,
+ * which does not happen with NOLPIGAT_ANSWER_TEXT_SIZE. */
+static inline size_t nolpigat_answer_text(uint32_t answer, char *buffer, size_t size) {
+    const uint32_t kind = nolpigat_kind(answer), range = nolpigat_number_range(kind);
+    const int known = nolpigat_number(answer) < range;
+    const uint32_t base = known && kind == NOLPIGAT_KIND_PLACED ? 16 : 10;
+    const char *word = known ? nolpigat_kind_text(kind) : "unknown";
+    uint32_t rest = known ? nolpigat_number(answer) : answer;
+    int least = known && range == 1 ? 0 : base == 16 ? 2 : 1;
+    char tail[12]; /* a space and the digits, from the last one down */
+    size_t first = sizeof tail, length = 0;
+
+    for (; rest != 0 || least > 0; rest /= base, least--)
+        tail[--first] = "0123456789ABCDEF"[rest % base];
+    if (first < sizeof tail)
+        tail[--first] = ' ';
+    while (*word != 0 || first < sizeof tail) {
+        const char next = *word != 0 ? *word++ : tail[first++];
+        if (length + 1 < size)
+            buffer[length] = next;
+        length++;
+    }
+    if (size > 0)
+        buffer[length < size ? length : size - 1] = 0;
+    return length;
+}
+
 #ifdef __cplusplus
 extern "C" {
 #endif
@@ -90,17 +246,20 @@ extern "C" {
  * examined.
  * mask: two members at least.
  * Answer: ok. Refused: 1; 9 under two members. */
+NOLPIGAT_MUST_CHECK
 uint32_t nolpigat_start(uint8_t *image, size_t length, uint8_t mask);
 
 /* begin: the transaction opens.
  * transaction: 1 to 15; home: card 0 to 7, in the newest placement.
  * Answer: ok. Refused: 3; 6 already open; 8 home is not in the newest placement. */
+NOLPIGAT_MUST_CHECK
 uint32_t nolpigat_begin(uint8_t *image, size_t length, uint8_t transaction, uint8_t home);
 
 /* get: own pending state if the first holder's slot is locked by this transaction, else the
  * committed one. No holder: absent. Takes no lock.
  * transaction: 1 to 15, open; record: 0 to 511.
  * Answer: value with the value, or absent. Refused: 3; 5 not open; 7 locked by another. */
+NOLPIGAT_MUST_CHECK
 uint32_t nolpigat_get(const uint8_t *image, size_t length, uint8_t transaction, uint16_t record);
 
 /* store: every holder's slot is locked and given the pending value. With no holder, both sites of
@@ -108,6 +267,7 @@ uint32_t nolpigat_get(const uint8_t *image, size_t length, uint8_t transaction, 
  * transaction: 1 to 15, open; record: 0 to 511; value: 0 to 65,534. Records that have 65,535 from
  * before, committed or pending, are read and kept as others are.
  * Answer: ok. Refused: 3, also for value 65,535; 5 not open; 7 locked by another. */
+NOLPIGAT_MUST_CHECK
 uint32_t nolpigat_store(uint8_t *image, size_t length, uint8_t transaction, uint16_t record,
                         uint16_t value);
 
@@ -115,33 +275,39 @@ uint32_t nolpigat_store(uint8_t *image, size_t length, uint8_t transaction, uint
  * slot is locked with pending absent.
  * transaction: 1 to 15, open; record: 0 to 511.
  * Answer: ok or absent. Refused: 3; 5 not open; 7 locked by another. */
+NOLPIGAT_MUST_CHECK
 uint32_t nolpigat_delete(uint8_t *image, size_t length, uint8_t transaction, uint16_t record);
 
 /* commit: slots locked by the transaction, on all working cards, take the pending state and are
  * unlocked. The transaction closes.
  * transaction: 1 to 15, open.
  * Answer: ok. Refused: 3; 5 not open. */
+NOLPIGAT_MUST_CHECK
 uint32_t nolpigat_commit(uint8_t *image, size_t length, uint8_t transaction);
 
 /* rollback: as commit, but the slots drop the pending state.
  * transaction: 1 to 15, open.
  * Answer: ok. Refused: 3; 5 not open. */
+NOLPIGAT_MUST_CHECK
 uint32_t nolpigat_rollback(uint8_t *image, size_t length, uint8_t transaction);
 
 /* fit: the card's table is zeroed, a failed mark is cleared and it works.
  * card: 0 to 7, not working, in no active placement.
  * Answer: ok. Refused: 3; 8 the card works or is in an active placement. */
+NOLPIGAT_MUST_CHECK
 uint32_t nolpigat_fit(uint8_t *image, size_t length, uint8_t card);
 
 /* withdraw: the card's table is zeroed; it no longer works.
  * card: 0 to 7, working, in no active placement, no open transaction's home.
  * Answer: ok. Refused: 3; 8 it does not work or is in an active placement; 14 it is a home. */
+NOLPIGAT_MUST_CHECK
 uint32_t nolpigat_withdraw(uint8_t *image, size_t length, uint8_t card);
 
 /* place: the mask becomes the newest placement.
  * mask: two members at least, all working, not the newest mask again; the newest mask again is taken
  * where that placement is older than the choice of sites on two supply rails.
  * Answer: ok. Refused: 9 the mask is not such; 10 three or more placements are active. */
+NOLPIGAT_MUST_CHECK
 uint32_t nolpigat_place(uint8_t *image, size_t length, uint8_t mask);
 
 /* fail: the card no longer works and is marked failed; its table is not read again before a fit. If
@@ -150,6 +316,7 @@ uint32_t nolpigat_place(uint8_t *image, size_t length, uint8_t mask);
  * rolled back, and if it was in the newest placement, one without it is added.
  * card: 0 to 7, working.
  * Answer: placed with the mask added, unplaced if none is, or stopped. Refused: 3; 8 not working. */
+NOLPIGAT_MUST_CHECK
 uint32_t nolpigat_fail(uint8_t *image, size_t length, uint8_t card);
 
 /* move: each site of the newest placement that lacks the block gets a copy of the card's; one that
@@ -157,20 +324,24 @@ uint32_t nolpigat_fail(uint8_t *image, size_t length, uint8_t card);
  * card: 0 to 7, working and holding the block; block: 0 to 63.
  * Answer: copies with the number written. Refused: 3; 8 the card does not work; 11 it does not hold
  * the block; 12 its copy has a locked slot. */
+NOLPIGAT_MUST_CHECK
 uint32_t nolpigat_move(uint8_t *image, size_t length, uint8_t card, uint8_t block);
 
 /* settle: if every block held on a working card is held by both its newest sites and by no other
  * working card, only the newest placement remains.
  * Answer: retired with the number of placements retired. Refused: 13 the condition is unmet. */
+NOLPIGAT_MUST_CHECK
 uint32_t nolpigat_settle(uint8_t *image, size_t length);
 
 /* state: what the failure of one card would do.
  * Answer: protected, when failing any one working card would not stop the store, or unprotected. */
+NOLPIGAT_MUST_CHECK
 uint32_t nolpigat_state(const uint8_t *image, size_t length);
 
 /* load: how many records are committed present in the card's held blocks.
  * card: 0 to 7, working.
  * Answer: load with the number. Refused: 3; 8 the card does not work. */
+NOLPIGAT_MUST_CHECK
 uint32_t nolpigat_load(const uint8_t *image, size_t length, uint8_t card);
 
 /* command: the call that the bytes of a command ask for: operation (4 bits), transaction (4), card
@@ -178,6 +349,7 @@ uint32_t nolpigat_load(const uint8_t *image, size_t length, uint8_t card);
  * the calls above in their order. Fields that an operation lacks are zero; a mask is below 256.
  * command, command_length: five bytes, which must not overlap the image.
  * Answer: that of the call. Refused: as the call; 15 for malformed bytes or another length. */
+NOLPIGAT_MUST_CHECK
 uint32_t nolpigat_command(uint8_t *image, size_t length, const uint8_t *command,
                           size_t command_length);
 
@@ -190,8 +362,84 @@ uint32_t nolpigat_command(uint8_t *image, size_t length, const uint8_t *command,
  * Answer: listed with the number of moves, not of bytes; or none, whatever the length of the list,
  * if a block that must still move has a locked record on a card that it would move from. Refused: 16
  * the list is shorter than needed, which one of NOLPIGAT_MOST_MOVES entries never is. */
+NOLPIGAT_MUST_CHECK
 uint32_t nolpigat_move_list(const uint8_t *image, size_t image_length, uint8_t *list,
                             size_t list_length);
+
+/* Queries. They only read, and have no commands. Those up to free_transaction ask the control part
+ * and are never refused with 4, so that a panel can ask them after a stop.
+ *
+ * stopped: whether the store has stopped.
+ * Answer: number, 1 if it has, else 0. Refused: 1; 2. */
+NOLPIGAT_MUST_CHECK
+uint32_t nolpigat_stopped(const uint8_t *image, size_t length);
+
+/* placement_count: how many placements are active.
+ * Answer: number, 1 to 4. Refused: 1; 2. */
+NOLPIGAT_MUST_CHECK
+uint32_t nolpigat_placement_count(const uint8_t *image, size_t length);
+
+/* placement: an active placement. Index 0 is the oldest, the count less one the newest.
+ * index: 0 to 3.
+ * Answer: number with the placement's mask, or none if no more than index are active. Refused: 1; 2;
+ * 3 the index is above 3. */
+NOLPIGAT_MUST_CHECK
+uint32_t nolpigat_placement(const uint8_t *image, size_t length, uint8_t index);
+
+/* working: the cards that work, also those in no placement.
+ * Answer: number with their mask. Refused: 1; 2. */
+NOLPIGAT_MUST_CHECK
+uint32_t nolpigat_working(const uint8_t *image, size_t length);
+
+/* failed: the cards that are marked failed, from their fail until a fit.
+ * Answer: number with their mask, 0 if there is none. Refused: 1; 2. */
+NOLPIGAT_MUST_CHECK
+uint32_t nolpigat_failed(const uint8_t *image, size_t length);
+
+/* home: whether a transaction is open, and where it was begun.
+ * transaction: 1 to 15.
+ * Answer: number with its home card, or none if it is not open. Refused: 1; 2; 3. */
+NOLPIGAT_MUST_CHECK
+uint32_t nolpigat_home(const uint8_t *image, size_t length, uint8_t transaction);
+
+/* free_transaction: the lowest transaction that is not open.
+ * Answer: number with the transaction, 0 if all fifteen are open. Refused: 1; 2. */
+NOLPIGAT_MUST_CHECK
+uint32_t nolpigat_free_transaction(const uint8_t *image, size_t length);
+
+/* source: which card a get with the same arguments reads.
+ * transaction: 1 to 15, open; record: 0 to 511.
+ * Answer: number with the card, the first holder of the record's block; or none if no card holds it,
+ * where get says absent. Refused: exactly as that get: 1; 2; 3; 4; 5; 7. */
+NOLPIGAT_MUST_CHECK
+uint32_t nolpigat_source(const uint8_t *image, size_t length, uint8_t transaction, uint16_t record);
+
+/* holders: on how many cards the record's block is held.
+ * transaction: 1 to 15, open; record: 0 to 511.
+ * Answer: number, 0 if no card holds it. Refused: exactly as a get: 1; 2; 3; 4; 5; 7. */
+NOLPIGAT_MUST_CHECK
+uint32_t nolpigat_holders(const uint8_t *image, size_t length, uint8_t transaction, uint16_t record);
+
+/* write_command: the bytes of a command from its fields, for nolpigat_command.
+ * command, command_length: five bytes, which become the command; operation: one of
+ * NOLPIGAT_OPERATION_START to _LOAD; transaction and card: 0 to 15; number: the record or block, 0 to
+ * 4,095; value: the value, or the mask, 0 to 255. A field that the operation lacks is 0. A number in
+ * its field's range may still be outside that of the call, which then refuses it with 3.
+ * Answer: ok. Refused: 15 for another length, an unknown operation or a field that is not such; then
+ * the bytes stay as lent. */
+NOLPIGAT_MUST_CHECK
+uint32_t nolpigat_write_command(uint8_t *command, size_t command_length, uint8_t operation,
+                                uint8_t transaction, uint8_t card, uint16_t number, uint16_t value);
+
+/* read_command: the fields of a command's bytes; those that the operation lacks become 0.
+ * command, command_length: five bytes; the five pointers: different ones, not null, aligned for their
+ * types and outside the command.
+ * Answer: ok. Refused: 15 where nolpigat_command would refuse with 15; then the five numbers stay as
+ * lent. */
+NOLPIGAT_MUST_CHECK
+uint32_t nolpigat_read_command(const uint8_t *command, size_t command_length, uint8_t *operation,
+                               uint8_t *transaction, uint8_t *card, uint16_t *number,
+                               uint16_t *value);
 
 #ifdef __cplusplus
 }

@@ -1,31 +1,18 @@
 #!/bin/sh
-# Tests the header, the C examples and the Rust wrapper with target/staticlib/libabi.a, which is built if it is missing.
-# One line a test, and what a failed one printed. Exit 1 on any failure. Clang is used if present; the rest is needed.
+# Tests the header, the archive's symbols, the C examples, the recipes, the Rust wrapper and the packaging with
+# target/staticlib/libnolpigat.a, which is built if it is missing. One line a test, and what a failed one printed. Exit 1
+# on any failure. Clang, cmake and pkg-config are used if present; the rest is needed.
 set -u
-root=$(CDPATH='' cd "$(dirname "$0")/.." && pwd) || exit 1
-archive=$root/target/staticlib/libabi.a
-scratch=$(mktemp -d) || exit 1
-trap 'rm -rf "$scratch"' EXIT
-trap 'exit 1' HUP INT TERM
+. "$(dirname "$0")/check.sh"
 program=$scratch/program
-failed=0
+recipes='boot charge exchange in_the_way copy_and_switch'
 
-# check NAME COMMAND..
-check() {
-    name=$1
-    shift
-    if "$@" >"$scratch/log" 2>&1; then
-        echo "passed  $name"
-    else
-        echo "FAILED  $name"
-        cat "$scratch/log"
-        failed=1
-    fi
+# stored COMMAND..: it succeeds with every stored command file as its input.
+stored() {
+    for file in "$root"/crates/cabinet/stdin "$root"/tests/listings/*/stdin; do
+        "$@" <"$file" || return 1
+    done
 }
-
-build_archive() (
-    cd "$root" && rt staticlib abi
-)
 
 # lists COMMAND..: it prints the stored listing of every stored command file.
 lists() {
@@ -43,17 +30,33 @@ goes_on() {
     done
 }
 
+# prints FILE COMMAND..: it prints what the file has.
+prints() {
+    expected=$1
+    shift
+    "$@" >"$scratch/printed" && diff "$expected" "$scratch/printed"
+}
+
 # compile ARGUMENT..: with the compiler, the standard and the language of `native`.
 compile() {
     "$compiler" "-std=$standard" -Wall -Wextra -pedantic -Werror "-I$root/include" -x "$language" "$@"
 }
 
+# build FILE ARGUMENT..
 build() {
-    compile "$1" -x none "$archive" -o "$program"
+    source=$1
+    shift
+    compile "$source" -x none "$archive" "$@" -o "$program"
 }
 
 header() {
     printf '#include <nolpigat.h>\n#include <nolpigat.h>\n' | compile -fsyntax-only -
+}
+
+# An answer that is not looked at is an error with -Werror, unless the includer has defined the macro away.
+must_check() {
+    printf '#include <nolpigat.h>\nint main(void) { nolpigat_settle(0, 0); }\n' >"$scratch/unchecked"
+    ! compile "$scratch/unchecked" -c -o "$program" && compile -DNOLPIGAT_MUST_CHECK= "$scratch/unchecked" -c -o "$program"
 }
 
 first() {
@@ -61,34 +64,67 @@ first() {
 }
 
 listing() {
-    build "$root/examples/c/listing.c" && lists "$program"
-}
-
-older() {
-    build "$root/examples/c/listing.c" && goes_on "$program"
-}
-
-calls() {
-    build "$root/tests/calls.c" || return 1
-    for file in "$root"/crates/cabinet/stdin "$root"/tests/listings/*/stdin; do
-        "$program" <"$file" || return 1
-    done
+    build "$root/examples/c/listing.c" && lists "$program" && goes_on "$program"
 }
 
 moves() {
     build "$root/examples/c/moves.c" && [ "$("$program")" = "$(printf 'card 1, block 1\ncard 2, block 1')" ]
 }
 
+calls() {
+    build "$root/tests/calls.c" && stored "$program"
+}
+
+queries() {
+    build "$root/tests/queries.c" && stored "$program"
+}
+
 move_list() {
     build "$root/tests/move_list.c" && "$program"
 }
 
-# native COMPILER STANDARD LANGUAGE
+texts() {
+    build "$root/tests/texts.c" && prints "$root/tests/texts.txt" "$program"
+}
+
+stack() {
+    build "$root/tests/stack.c" -Wl,-z,now && stored "$program"
+}
+
+# recipe COMMAND..: it prints the stored output of the recipe, in an empty folder.
+recipe() {
+    rm -rf "$scratch/folder" && mkdir "$scratch/folder" &&
+        prints "$root/tests/recipes/$recipe.txt" "$@" "$scratch/folder"
+}
+
+c_recipe() {
+    build "$root/examples/recipes/$recipe.c" && recipe "$program"
+}
+
+# native COMPILER STANDARD LANGUAGE TEST..
 native() {
     compiler=$1 standard=$2 language=$3
-    for test in header first listing older calls moves move_list; do
+    shift 3
+    for test; do
         check "$test, $compiler $standard" "$test"
     done
+}
+
+# The archive needs no function but memcpy and memset.
+undefined_symbols() {
+    nm -g --defined-only "$archive" | awk 'NF == 3 { print $3 }' | sort -u >"$scratch/defined" &&
+        nm -u "$archive" | awk '$1 == "U" { print $2 }' | sort -u >"$scratch/undefined" &&
+        [ -s "$scratch/undefined" ] && [ -s "$scratch/defined" ] &&
+        ! comm -13 "$scratch/defined" "$scratch/undefined" | grep -v -x -e memcpy -e memset
+}
+
+# The archive has the functions that the header declares, which are those of the wrapper, and no other name.
+defined_symbols() {
+    nm -g --defined-only "$archive" | awk 'NF == 3 { print $3 }' | sort >"$scratch/defined" &&
+        sed -n 's/^uint32_t \(nolpigat_[a-z_]*\)(.*/\1/p' "$root/include/nolpigat.h" | sort >"$scratch/declared" &&
+        sed -n 's/^ *pub fn \(nolpigat_[a-z_]*\)(.*/\1/p' "$root/bindings/rust/src/ffi.rs" | sort >"$scratch/wrapped" &&
+        [ -s "$scratch/declared" ] && diff "$scratch/declared" "$scratch/defined" &&
+        diff "$scratch/declared" "$scratch/wrapped"
 }
 
 # rust SUBCOMMAND ARGUMENT..
@@ -98,16 +134,38 @@ rust() {
     cargo "$subcommand" --offline --quiet --manifest-path "$root/bindings/rust/Cargo.toml" "$@"
 }
 
-[ -f "$archive" ] || check 'archive' build_archive
-native gcc c99 c
-native g++ c++17 c++
+rust_listing() {
+    lists rust run --example listing && goes_on rust run --example listing --
+}
+
+rust_format() {
+    cargo fmt --check --manifest-path "$root/bindings/rust/Cargo.toml"
+}
+
+tests='header must_check first listing moves calls queries move_list texts'
+native gcc c99 c $tests stack
+native gcc c11 c header
+native g++ c++17 c++ $tests
 if command -v clang >/dev/null; then
-    native clang c99 c
-    native clang++ c++17 c++
+    native clang c99 c $tests
+    native clang c11 c header
+    native clang++ c++17 c++ $tests
+else
+    echo 'skipped C and C++ with clang: clang is missing'
 fi
+check 'undefined symbols of the archive' undefined_symbols
+check 'functions of the archive' defined_symbols
+compiler=gcc standard=c99 language=c
+for recipe in $recipes; do
+    check "recipe $recipe, C" c_recipe
+done
 RUSTFLAGS="${RUSTFLAGS-} -D warnings"
 export RUSTFLAGS
-check 'listing, Rust' lists rust run --example listing
-check 'older, Rust' goes_on rust run --example listing --
+check_with rustfmt 'format, Rust' rust_format
 check 'cargo test' rust test
+check 'listing, Rust' rust_listing
+for recipe in $recipes; do
+    check "recipe $recipe, Rust" recipe rust run --example "$recipe" --
+done
+"$root/tests/packaging.sh" || failed=1
 exit $failed

@@ -1,5 +1,5 @@
-//! The calls of libbefore.a, the archive of an earlier commit, as `differential::archive` has those of libabi.a. Its
-//! functions are named apart, so that both archives link into one program.
+//! The calls of libbefore.a, the archive of an earlier commit, as `differential::archive` has those of libnolpigat.a.
+//! Its functions are named apart, so that both archives link into one program.
 
 use model::Call;
 

@@ -49,7 +49,7 @@ pub struct Side {
     pub perform: fn(&mut [u8], &mut Lent, &Asked) -> u32,
 }
 
-/// The archive libabi.a.
+/// The archive libnolpigat.a.
 pub const RATTLE: Side = Side {
     name: "rattle",
     perform: |image, lent, asked| match asked {

@@ -1,4 +1,4 @@
-//! The calls of the archive libabi.a, by the model's names of calls and answers.
+//! The calls of the archive libnolpigat.a, by the model's names of calls and answers.
 
 use model::move_list::ListAnswer;
 use model::{Answer, Call};

@@ -1,4 +1,4 @@
-//! listing [IMAGE]: runs the commands on standard input and prints document 01's listing. They go on from the image in
+//! listing [IMAGE]: runs the commands on standard input and prints their listing. They go on from the image in
 //! the file, or begin with zeros.
 
 use nolpigat::{command, COMMAND_SIZE, IMAGE_SIZE};

@@ -1,9 +1,11 @@
 //! Answers, their codes and their words.
 
-use std::fmt;
+use crate::{Failed, Mask, Protection, Refusal};
+use core::fmt;
 
-/// What a call answers. Each answer has a code of its own: kind × 65,536 + number.
+/// What any call answers. Each answer has a code of its own: kind × 65,536 + number. Later versions may add some.
 #[derive(Clone, Copy, Debug, PartialEq, Eq, Hash)]
+#[non_exhaustive]
 #[must_use]
 pub enum Answer {
     /// Kind 0: done.
@@ -13,7 +15,7 @@ pub enum Answer {
     /// Kind 2: the record is absent.
     Absent,
     /// Kind 3: a failure added the placement with this mask.
-    Placed(u8),
+    Placed(Mask),
     /// Kind 4: a failure added no placement.
     Unplaced,
     /// Kind 5: a failure stopped the store.
@@ -30,30 +32,13 @@ pub enum Answer {
     Load(u16),
     /// Kind 11: the moves that a list now has, 0 to [`MOST_MOVES`](crate::MOST_MOVES).
     Listed(u16),
-    /// Kind 12: a block that must still move has a locked record on a card that it would move from.
+    /// Kind 12: there is none of what was asked for.
     None,
-    /// Kind 15: refused, and the image is left as found. The number says why:
-    ///
-    /// | number | when |
-    /// |---|---|
-    /// | 1 | image length is not [`IMAGE_SIZE`](crate::IMAGE_SIZE) |
-    /// | 2 | control form broken; also before the first start |
-    /// | 3 | a number is outside its range |
-    /// | 4 | stopped: every call but start |
-    /// | 5 | transaction not open |
-    /// | 6 | begin of an open transaction |
-    /// | 7 | some holder's slot is locked by another number |
-    /// | 8 | the call's condition on the card is unmet |
-    /// | 9 | the mask cannot be a placement |
-    /// | 10 | place with three or more active |
-    /// | 11 | move: the card does not hold the block |
-    /// | 12 | move: the card's copy has a locked slot |
-    /// | 13 | settle: its condition unmet |
-    /// | 14 | withdraw: an open transaction has its home there |
-    /// | 15 | command malformed |
-    /// | 16 | move_list: the list is shorter than needed |
-    Refused(u8),
-    /// A code that is no answer's. The store gives none such.
+    /// Kind 13: the number that was asked for.
+    Number(u16),
+    /// Kind 15: refused, and the image is left as found.
+    Refused(Refusal),
+    /// A code that is no answer's. The archive of this version gives none such.
     Unknown(u32),
 }
 
@@ -64,7 +49,7 @@ impl From<u32> for Answer {
             (0, 0) => Answer::Ok,
             (1, value) => Answer::Value(value),
             (2, 0) => Answer::Absent,
-            (3, mask @ 0..=0xFF) => Answer::Placed(mask as u8),
+            (3, mask @ 0..=0xFF) => Answer::Placed(Mask(mask as u8)),
             (4, 0) => Answer::Unplaced,
             (5, 0) => Answer::Stopped,
             (6, copies @ 0..=0xFF) => Answer::Copies(copies as u8),
@@ -74,20 +59,42 @@ impl From<u32> for Answer {
             (10, load) => Answer::Load(load),
             (11, moves) => Answer::Listed(moves),
             (12, 0) => Answer::None,
-            (15, number @ 0..=0xFF) => Answer::Refused(number as u8),
+            (13, number) => Answer::Number(number),
+            (15, _) => Answer::Refused(Refusal::of(code)),
             _ => Answer::Unknown(code),
         }
     }
 }
 
-/// The words of document 01's listing, and of calls that have no command.
+impl From<Failed> for Answer {
+    /// What a fail did, as the answer of any call.
+    fn from(failed: Failed) -> Answer {
+        match failed {
+            Failed::Placed(mask) => Answer::Placed(mask),
+            Failed::Unplaced => Answer::Unplaced,
+            Failed::Stopped => Answer::Stopped,
+        }
+    }
+}
+
+impl From<Protection> for Answer {
+    /// The word of a state, as the answer of any call.
+    fn from(word: Protection) -> Answer {
+        match word {
+            Protection::Protected => Answer::Protected,
+            Protection::Unprotected => Answer::Unprotected,
+        }
+    }
+}
+
+/// The words of the listing, and of calls that have no command.
 impl fmt::Display for Answer {
     fn fmt(&self, f: &mut fmt::Formatter) -> fmt::Result {
         match self {
             Answer::Ok => f.write_str("ok"),
             Answer::Value(value) => write!(f, "value {value}"),
             Answer::Absent => f.write_str("absent"),
-            Answer::Placed(mask) => write!(f, "placed {mask:02X}"),
+            Answer::Placed(mask) => write!(f, "placed {mask}"),
             Answer::Unplaced => f.write_str("unplaced"),
             Answer::Stopped => f.write_str("stopped"),
             Answer::Copies(copies) => write!(f, "copies {copies}"),
@@ -97,7 +104,8 @@ impl fmt::Display for Answer {
             Answer::Load(load) => write!(f, "load {load}"),
             Answer::Listed(moves) => write!(f, "listed {moves}"),
             Answer::None => f.write_str("none"),
-            Answer::Refused(number) => write!(f, "refused {number}"),
+            Answer::Number(number) => write!(f, "number {number}"),
+            Answer::Refused(refusal) => write!(f, "refused {}", refusal.number()),
             Answer::Unknown(code) => write!(f, "unknown {code}"),
         }
     }

@@ -1,46 +1,80 @@
 //! Codes of answers: every kind, codes that are no answer's, and the words.
 
-use nolpigat::Answer;
+use nolpigat::{Answer, Mask, Refusal};
 use std::collections::HashSet;
+
+/// Each line of the stored texts: a code and its words, or a refusal's number and its sentence.
+const TEXTS: &str = include_str!("../../../tests/texts.txt");
+
+/// The answer of a stored code.
+fn answer(code: &str) -> Answer {
+    Answer::from(u32::from_str_radix(code, 16).expect("a code in hex digits"))
+}
 
 #[test]
 fn every_kind() {
     let expected = [
-        (0x0_0000, Answer::Ok, "ok"),
-        (0x1_0000, Answer::Value(0), "value 0"),
-        (0x1_FFFF, Answer::Value(65535), "value 65535"),
-        (0x2_0000, Answer::Absent, "absent"),
-        (0x3_000C, Answer::Placed(0x0C), "placed 0C"),
-        (0x3_00FF, Answer::Placed(0xFF), "placed FF"),
-        (0x4_0000, Answer::Unplaced, "unplaced"),
-        (0x5_0000, Answer::Stopped, "stopped"),
-        (0x6_0002, Answer::Copies(2), "copies 2"),
-        (0x7_0003, Answer::Retired(3), "retired 3"),
-        (0x8_0000, Answer::Protected, "protected"),
-        (0x9_0000, Answer::Unprotected, "unprotected"),
-        (0xA_0200, Answer::Load(512), "load 512"),
-        (0xB_0000, Answer::Listed(0), "listed 0"),
-        (0xB_0200, Answer::Listed(512), "listed 512"),
-        (0xC_0000, Answer::None, "none"),
-        (0xF_0001, Answer::Refused(1), "refused 1"),
-        (0xF_0010, Answer::Refused(16), "refused 16"),
+        (0x0_0000, Answer::Ok),
+        (0x1_0000, Answer::Value(0)),
+        (0x1_FFFF, Answer::Value(65535)),
+        (0x2_0000, Answer::Absent),
+        (0x3_000C, Answer::Placed(Mask(0x0C))),
+        (0x3_00FF, Answer::Placed(Mask(0xFF))),
+        (0x4_0000, Answer::Unplaced),
+        (0x5_0000, Answer::Stopped),
+        (0x6_0002, Answer::Copies(2)),
+        (0x7_0003, Answer::Retired(3)),
+        (0x8_0000, Answer::Protected),
+        (0x9_0000, Answer::Unprotected),
+        (0xA_0200, Answer::Load(512)),
+        (0xB_0200, Answer::Listed(512)),
+        (0xC_0000, Answer::None),
+        (0xD_00E0, Answer::Number(0xE0)),
+        (0xF_0001, Answer::Refused(Refusal::Length)),
+        (0xF_0010, Answer::Refused(Refusal::List)),
+        (0xF_0011, Answer::Refused(Refusal::Unknown(0xF_0011))),
     ];
-    for (code, answer, words) in expected {
+    for (code, answer) in expected {
         assert_eq!(Answer::from(code), answer);
-        assert_eq!(answer.to_string(), words);
     }
+}
+
+/// The words of codes and the sentences of refusals are the header's.
+#[test]
+fn texts_of_the_header() {
+    let (mut codes, mut refusals) = (0, 0);
+    for line in TEXTS.lines() {
+        if let Some((number, text)) = line.strip_prefix("refusal ").and_then(|line| line.split_once(": ")) {
+            let Answer::Refused(refusal) = Answer::from(0xF_0000 + number.parse::<u32>().expect("a number")) else {
+                panic!("refusal {number} is none");
+            };
+            assert_eq!(refusal.to_string(), text);
+            assert_eq!(refusal.number().to_string(), number);
+            refusals += 1;
+        } else {
+            let (code, words) = line.split_once(' ').expect("a code and its words");
+            assert_eq!(answer(code).to_string(), words);
+            codes += 1;
+        }
+    }
+    assert_eq!((codes, refusals), (34, 18));
 }
 
 #[test]
 fn no_answers_code() {
     // A number where the kind has none, a number too wide, the kinds that are none's.
     let with_number = [0x0_0001, 0x2_0001, 0x4_FFFF, 0x5_0001, 0x8_0001, 0x9_0001, 0xC_0001];
-    let too_wide = [0x3_0100, 0x6_0100, 0x7_0100, 0xF_0100];
-    let kinds = [0xD_0000, 0xE_0000, 0x10_0000, u32::MAX];
+    let too_wide = [0x3_0100, 0x6_0100, 0x7_0100];
+    let kinds = [0xE_0000, 0x10_0000, u32::MAX];
     for code in with_number.into_iter().chain(too_wide).chain(kinds) {
         assert_eq!(Answer::from(code), Answer::Unknown(code));
     }
-    assert_eq!(Answer::Unknown(1).to_string(), "unknown 1");
+}
+
+#[test]
+fn number_of_an_unknown_code() {
+    assert_eq!(Refusal::Unknown(0xF_0011).number(), 17);
+    assert_eq!(Refusal::Unknown(0x1_0011).number(), 0);
 }
 
 #[test]
