@@ -8,8 +8,8 @@ use Rattle.cabinet_rules.specs.Cabinet.{cabinet}
 use Rattle.cabinet_rules.specs.Images.{Image, answer, next}
 use Rattle.command.specs.Meaning.{commandAnswer, commandNext}
 
--- The kind of each answer, and its number: 0 where it has none. Kinds 11 and 12 are the move list's (ListCodes), 13 and
--- 14 none's.
+-- The kind of each answer, and its number: 0 where it has none. Kinds 11 and 12 are of the move list (ListCodes), 12 and 13 of
+-- questions (ToldCodes); 14 is no kind.
 unfoldable pub kindOf : Answer cabinet → ℕ
 kindOf ok = 0
 kindOf (value n) = 1
