@@ -118,6 +118,12 @@ undefined_symbols() {
         ! comm -13 "$scratch/defined" "$scratch/undefined" | grep -v -x -e memcpy -e memset
 }
 
+# It has no data that can be written, so that the image is all its state.
+no_state() {
+    size -A "$archive" | awk '$1 ~ /^\.(data|bss|tdata|tbss)/ && $1 !~ /^\.data\.rel\.ro/ && $2 > 0' >"$scratch/state" &&
+        size -A "$archive" | grep -q '^\.text' && ! grep . "$scratch/state"
+}
+
 # The archive has the functions that the header declares, which are those of the wrapper, and no other name.
 defined_symbols() {
     nm -g --defined-only "$archive" | awk 'NF == 3 { print $3 }' | sort >"$scratch/defined" &&
@@ -138,6 +144,10 @@ rust_listing() {
     lists rust run --example listing && goes_on rust run --example listing --
 }
 
+rust_pages() {
+    RUSTDOCFLAGS='-D warnings' rust doc
+}
+
 rust_format() {
     cargo fmt --check --manifest-path "$root/bindings/rust/Cargo.toml"
 }
@@ -155,6 +165,7 @@ else
 fi
 check 'undefined symbols of the archive' undefined_symbols
 check 'functions of the archive' defined_symbols
+check 'no state in the archive' no_state
 compiler=gcc standard=c99 language=c
 for recipe in $recipes; do
     check "recipe $recipe, C" c_recipe
@@ -162,6 +173,7 @@ done
 RUSTFLAGS="${RUSTFLAGS-} -D warnings"
 export RUSTFLAGS
 check_with rustfmt 'format, Rust' rust_format
+check 'pages, Rust' rust_pages
 check 'cargo test' rust test
 check 'listing, Rust' rust_listing
 for recipe in $recipes; do
