@@ -1,6 +1,8 @@
 //! The calls of the archive libnolpigat.a, by the model's names of calls and answers.
 
+use model::commands::Fields;
 use model::move_list::ListAnswer;
+use model::queries::{Query, Told};
 use model::{Answer, Call};
 use nolpigat::ffi::*;
 
@@ -43,6 +45,39 @@ pub fn move_list(image: &[u8], list: &mut [u8]) -> u32 {
     unsafe { nolpigat_move_list(image.as_ptr(), image.len(), list.as_mut_ptr(), list.len()) }
 }
 
+/// The code of what the archive tells.
+pub fn ask(image: &[u8], query: Query) -> u32 {
+    let (at, length) = (image.as_ptr(), image.len());
+    // The pointer and the length are those of a slice that is lent for the call alone.
+    unsafe {
+        match query {
+            Query::Stopped => nolpigat_stopped(at, length),
+            Query::PlacementCount => nolpigat_placement_count(at, length),
+            Query::Placement(place) => nolpigat_placement(at, length, place),
+            Query::Working => nolpigat_working(at, length),
+            Query::Failed => nolpigat_failed(at, length),
+            Query::Home(transaction) => nolpigat_home(at, length, transaction),
+            Query::FreeTransaction => nolpigat_free_transaction(at, length),
+            Query::Source { transaction, record } => nolpigat_source(at, length, transaction, record),
+            Query::Holders { transaction, record } => nolpigat_holders(at, length, transaction, record),
+        }
+    }
+}
+
+/// The code of the archive's answer to fields that are to be written.
+pub fn write_command(bytes: &mut [u8], fields: Fields) -> u32 {
+    let Fields { operation, transaction, card, number, value } = fields;
+    // The slice is lent for the call alone.
+    unsafe { nolpigat_write_command(bytes.as_mut_ptr(), bytes.len(), operation, transaction, card, number, value) }
+}
+
+/// The code of the archive's answer to bytes that are to be read into the fields.
+pub fn read_command(bytes: &[u8], fields: &mut Fields) -> u32 {
+    let Fields { operation, transaction, card, number, value } = fields;
+    // The slice and the five numbers are lent for the call alone, and they do not overlap.
+    unsafe { nolpigat_read_command(bytes.as_ptr(), bytes.len(), operation, transaction, card, number, value) }
+}
+
 pub const REFUSED: u32 = 15;
 
 /// Numbers of 16 bits stand below the kind of an answer.
@@ -73,5 +108,14 @@ pub fn list_code(answer: ListAnswer) -> u32 {
         ListAnswer::Listed(number) => 11 * NUMBER_RANGE + number as u32,
         ListAnswer::None => 12 * NUMBER_RANGE,
         ListAnswer::Refused(number) => code(Answer::Refused(number)),
+    }
+}
+
+/// The code of what is told.
+pub fn told_code(told: Told) -> u32 {
+    match told {
+        Told::Number(number) => 13 * NUMBER_RANGE + u32::from(number),
+        Told::None => 12 * NUMBER_RANGE,
+        Told::Refused(number) => code(Answer::Refused(number)),
     }
 }

@@ -8,6 +8,7 @@ pub mod lists;
 pub mod move_lists;
 pub mod pair;
 pub mod protection;
+pub mod questions;
 pub mod requests;
 pub mod run;
 pub mod single;

@@ -3,7 +3,7 @@
 //! Exit 1 on a difference, or if a run that is long enough misses a class of cases.
 
 use differential::run::Run;
-use differential::{broken_wire, lists, move_lists, protection, single};
+use differential::{broken_wire, lists, move_lists, protection, questions, single};
 use std::process::exit;
 use std::time::Instant;
 
@@ -27,12 +27,14 @@ fn run_all(run: &mut Run, calls: usize) -> Vec<String> {
     let (single, lists) = ((middle - start).as_secs_f64(), (last - middle).as_secs_f64());
     let images = last.elapsed().as_secs_f64();
     println!("seed {}: {} calls, {single:.1} s single, {lists:.1} s lists", run.seed, run.calls);
+    println!("{} questions on images that requests left", run.questions);
     println!("{} move lists in lists and on {} images, {images:.1} s on images", run.lists, calls / CALLS_BY_IMAGE);
     let named = [
         single::argument_classes(),
         lists::classes(),
         protection::classes(),
         broken_wire::classes(),
+        questions::classes(),
         move_lists::image_classes(),
     ];
     run.cases.faults(&single::image_classes(), &named.concat())

@@ -2,7 +2,7 @@
 
 use crate::cases::Cases;
 use crate::pair::{Outcome, Pair, Request};
-use crate::protection;
+use crate::{protection, questions};
 use model::random::Random;
 use std::fmt::Debug;
 
@@ -17,12 +17,22 @@ pub struct Run {
     pub calls: usize,
     /// Move lists asked for so far.
     pub lists: usize,
+    /// Questions so far.
+    pub questions: usize,
     pub differences: usize,
 }
 
 impl Run {
     pub fn new(seed: u64) -> Run {
-        Run { seed, random: Random::new(seed), cases: Cases::default(), calls: 0, lists: 0, differences: 0 }
+        Run {
+            seed,
+            random: Random::new(seed),
+            cases: Cases::default(),
+            calls: 0,
+            lists: 0,
+            questions: 0,
+            differences: 0,
+        }
     }
 
     pub fn perform(&mut self, pair: &mut Pair, request: &Request) -> Outcome {
@@ -33,6 +43,7 @@ impl Run {
             self.report(request, &outcome.to_string());
         }
         protection::check(self, request, pair.archive_image(), outcome.code);
+        questions::check(self, pair.archive_image());
         outcome
     }
 

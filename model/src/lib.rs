@@ -17,6 +17,7 @@ pub mod move_list_images;
 pub mod move_list_situations;
 pub mod plain;
 pub mod protection_situations;
+pub mod queries;
 pub mod rail_situations;
 pub mod random;
 pub mod sites;
