@@ -63,6 +63,12 @@ first() {
     build "$root/examples/c/first.c" && [ "$("$program")" = 'record 9: 1234' ]
 }
 
+# The first program of README.md, with the compiler's warnings.
+readme() {
+    sed -n '/^```c$/,/^```$/p' "$root/README.md" | sed '/^```/d' >"$scratch/readme.c" &&
+        build "$scratch/readme.c" && [ "$("$program")" = 'value 1234 from card 1' ]
+}
+
 listing() {
     build "$root/examples/c/listing.c" && lists "$program" && goes_on "$program"
 }
@@ -153,7 +159,7 @@ rust_format() {
 }
 
 tests='header must_check first listing moves calls queries move_list texts'
-native gcc c99 c $tests stack
+native gcc c99 c $tests readme stack
 native gcc c11 c header
 native g++ c++17 c++ $tests
 if command -v clang >/dev/null; then
