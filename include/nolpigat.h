@@ -50,8 +50,9 @@
 /* The longest text of nolpigat_answer_text has so many bytes, its final 0 counted. */
 #define NOLPIGAT_ANSWER_TEXT_SIZE 19
 
-/* The most bytes of stack that a call needs, its return address counted. It is measured with the
- * archive of this version, not proved; tests/stack.c measures it again. */
+/* The most bytes of stack that a call needs, its return address counted; not counted is what a dynamic
+ * linker takes when it binds memset and memcpy at their first use. It is measured with the archive of
+ * this version, not proved; tests/stack.c measures it again. */
 #define NOLPIGAT_STACK_SIZE 2560
 
 /* Where the compiler can, it warns of an answer that is not looked at. Define the macro as nothing

@@ -63,6 +63,12 @@ first() {
     build "$root/examples/c/first.c" && [ "$("$program")" = 'record 9: 1234' ]
 }
 
+# The first program of README.md, with the compiler's warnings.
+readme() {
+    sed -n '/^```c$/,/^```$/p' "$root/README.md" | sed '/^```/d' >"$scratch/readme.c" &&
+        build "$scratch/readme.c" && [ "$("$program")" = 'value 1234 from card 1' ]
+}
+
 listing() {
     build "$root/examples/c/listing.c" && lists "$program" && goes_on "$program"
 }
@@ -118,6 +124,12 @@ undefined_symbols() {
         ! comm -13 "$scratch/defined" "$scratch/undefined" | grep -v -x -e memcpy -e memset
 }
 
+# It has no data that can be written, so that the image is all its state.
+no_state() {
+    size -A "$archive" | awk '$1 ~ /^\.(data|bss|tdata|tbss)/ && $1 !~ /^\.data\.rel\.ro/ && $2 > 0' >"$scratch/state" &&
+        size -A "$archive" | grep -q '^\.text' && ! grep . "$scratch/state"
+}
+
 # The archive has the functions that the header declares, which are those of the wrapper, and no other name.
 defined_symbols() {
     nm -g --defined-only "$archive" | awk 'NF == 3 { print $3 }' | sort >"$scratch/defined" &&
@@ -138,12 +150,16 @@ rust_listing() {
     lists rust run --example listing && goes_on rust run --example listing --
 }
 
+rust_pages() {
+    RUSTDOCFLAGS='-D warnings' rust doc
+}
+
 rust_format() {
     cargo fmt --check --manifest-path "$root/bindings/rust/Cargo.toml"
 }
 
 tests='header must_check first listing moves calls queries move_list texts'
-native gcc c99 c $tests stack
+native gcc c99 c $tests readme stack
 native gcc c11 c header
 native g++ c++17 c++ $tests
 if command -v clang >/dev/null; then
@@ -155,6 +171,7 @@ else
 fi
 check 'undefined symbols of the archive' undefined_symbols
 check 'functions of the archive' defined_symbols
+check 'no state in the archive' no_state
 compiler=gcc standard=c99 language=c
 for recipe in $recipes; do
     check "recipe $recipe, C" c_recipe
@@ -162,6 +179,7 @@ done
 RUSTFLAGS="${RUSTFLAGS-} -D warnings"
 export RUSTFLAGS
 check_with rustfmt 'format, Rust' rust_format
+check 'pages, Rust' rust_pages
 check 'cargo test' rust test
 check 'listing, Rust' rust_listing
 for recipe in $recipes; do

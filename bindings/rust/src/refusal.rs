@@ -40,8 +40,8 @@ pub enum Refusal {
     Malformed,
     /// 16: the list is too short for the moves.
     List,
-    /// The code of an answer that this wrapper has no name for at this call. The archive of this version gives none
-    /// such.
+    /// The code of an answer that this wrapper has no name for at this call; whether the image is as found is not
+    /// known. The archive of this version gives none such.
     Unknown(u32),
 }
 
