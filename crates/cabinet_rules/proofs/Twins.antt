@@ -3,19 +3,17 @@
 use Prim.Native.Nat.{_<_, ℕ}
 use borrow.Author.Tests.{lt-ltb}
 use lib.Dec.{ltb}
-use mathlib.Core.Bool.{Bool, _&&_, cond, true}
+use mathlib.Core.Bool.{true}
 use mathlib.Core.List.{List}
 use mathlib.Core.Logic.{_⊎_, inl, inr}
-use mathlib.Core.Path.{_∙_, _≡_, ap, refl, subst, sym}
+use mathlib.Core.Path.{_∙_, _≡_, ap, subst, sym}
 use Rattle.lists.proofs.Bools.{and-in}
 use Rattle.image.specs.Layout.{blockCount, cardCount}
 use Rattle.mask.specs.Masks.{Byte, hasCard}
 use Rattle.mask.proofs.Masks.{has-card}
-use Rattle.slot.specs.Blocks.{BlockBytes, emptyBlock, isHeld}
-use Rattle.method.specs.Growth.{Growth, grownState}
+use Rattle.slot.specs.Blocks.{BlockBytes, isHeld}
 use Rattle.method.specs.Parameters.{Parameters}
 use Rattle.method.specs.Rules.{Call, ok, start, visible}
-use Rattle.method.specs.Twins.{Twins}
 use Rattle.method.proofs.Laws.{Laws}
 use Rattle.method.proofs.Twins.{Agreed, agreed-after, agreed-grown, agreed-next, agreed-noise, agreed-twins, in-run}
 use Rattle.cabinet_rules.specs.ByTheRules.{noiseBy, noisedBy}
@@ -23,7 +21,7 @@ use Rattle.cabinet_rules.specs.Cabinet.{cabinet, rulesOf, slotSeen}
 use Rattle.cabinet_rules.specs.Claims.{NoisyCallBy, imageAfter, imageAfterBy, noisyBy}
 use Rattle.cabinet_rules.specs.Delivery.{Delivery, belowWire, current, twoRails}
 use Rattle.cabinet_rules.specs.GoesOn.{BegunBy, EarlierImage, ImageLeftBy, StoreBy, Succession, fromBase, fromRails}
-use Rattle.cabinet_rules.specs.Images.{Image, answerBy, blockIn, controlIn, isThere, next, nextBy, stateBy, stateIn}
+use Rattle.cabinet_rules.specs.Images.{Image, answerBy, blockIn, controlIn, next, nextBy, stateBy, stateIn}
 use Rattle.cabinet_rules.specs.Retired.{base}
 use Rattle.cabinet_rules.specs.Twins.{TwinsAgreeFromEarlier, TwinsAgreeOnImages, TwinsOn}
 use Rattle.cabinet_rules.proofs.Base.{base-carried, base-retired, baseLaws}

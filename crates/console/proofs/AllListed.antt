@@ -5,7 +5,7 @@ use mathlib.Core.Bool.{Bool, false, not, true}
 use mathlib.Core.List.{List, _++_, _∷_, [], append-assoc, append-nil}
 use Prim.Native.Nat.{_%_, _*_, _+_, _-_, _<_, ℕ}
 use native.Mathlib.Omega.{arith}
-use lib.ListN.{drop, length, length-append, length-drop, take, take-append-drop}
+use lib.ListN.{length, length-append, length-drop, take, take-append-drop}
 use lib.Seq.{drop-append-seam, length-take-le, take-add, take-append-seam}
 use Rattle.lists.proofs.Bools.{and-l, and-r, not-is, tf}
 use Rattle.command.specs.Commands.{commandSize}

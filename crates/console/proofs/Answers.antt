@@ -1,8 +1,8 @@
 -- What the operating system answered a read, and a step after a read that failed, which performs nothing. Assumes nothing.
-use mathlib.Core.Path.{_∙_, _≡_, ap, refl, subst, sym}
+use mathlib.Core.Path.{_≡_, ap, refl, subst, sym}
 use mathlib.Core.Bool.{Bool, cond, false, true}
 use mathlib.Core.List.{List, []}
-use Prim.Native.Nat.{_<_, _^_, _≤_, zero-le, ℕ}
+use Prim.Native.Nat.{_≤_, zero-le, ℕ}
 use native.Mathlib.Omega.{arith}
 use native.Mathlib.Nat.{min-eq-left, min-le-left}
 use lib.Dec.{leb}

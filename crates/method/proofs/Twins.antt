@@ -1,11 +1,10 @@
 -- Twins agree. In a running store every holder of a block shows the records of the plain list, by the invariant. The fail that stops it ends
 -- the open transactions on all holders alike, and a stopped store takes no call but a start. Assumes nothing.
-use Prim.Native.Nat.{_<_, suc, zero, ℕ}
+use Prim.Native.Nat.{suc, zero, ℕ}
 use lib.Dec.{eqb, ltb}
 use mathlib.Core.Bool.{Bool, _&&_, cond, false, not, true}
 use mathlib.Core.List.{List, [], _∷_}
 use mathlib.Core.Logic.{_⊎_, inl, inr}
-use mathlib.Core.Option.{Option}
 use mathlib.Core.Path.{_∙_, _≡_, ap, ap₂, refl, subst, sym}
 use native.Mathlib.Omega.{arith}
 use Rattle.lists.proofs.Bools.{and-l, and-r, not-is, split, tf}
@@ -22,7 +21,7 @@ use Rattle.method.specs.Slots.{Slot, ended}
 use Rattle.method.specs.Twins.{Twins, TwinsAgree}
 use Rattle.method.proofs.Growth.{GrowthLaws, beside-grown, ready-grown}
 use Rattle.method.proofs.Invariant.{Invariant, works-b}
-use Rattle.method.proofs.Keeping.{next-held, next-seen, next-works, nextView}
+use Rattle.method.proofs.Keeping.{next-seen, next-works, nextView}
 use Rattle.method.proofs.Laws.{Laws}
 use Rattle.method.proofs.Legal.{Legal, is-resting, is-running, legal-next}
 use Rattle.method.proofs.Run.{Ready, RulesStep, accepted-start, next-start, ready-noise, ready-start, ready-step}

@@ -1,7 +1,7 @@
 -- A read that failed is told by its answer; of any other the answer is the length of the reading. Assumes nothing.
 use mathlib.Core.Path.{_∙_, _≡_, ap, subst, sym}
 use mathlib.Core.Bool.{false, true}
-use Prim.Native.Nat.{_<_, _≤_, zero-le, ℕ}
+use Prim.Native.Nat.{_<_, zero-le, ℕ}
 use native.Mathlib.Omega.{arith}
 use lib.IntN.{pos, ℤ}
 use lib.ListN.{length}

@@ -1,8 +1,7 @@
 -- What is read goes behind the bytes that wait, so they are still those of the command that was cut. Assumes nothing.
 use mathlib.Core.Path.{_≡_, ap, subst, sym}
 use native.Mathlib.Omega.{arith}
-use Prim.Native.Nat.{_+_, _-_, _<_, _≤_, ℕ}
-use lib.IntN.{ℤ}
+use Prim.Native.Nat.{_-_, _<_, _≤_, ℕ}
 use lib.ListN.{drop, length}
 use mathlib.Core.List.{List}
 use borrow.Rule.Slice.PartMut.{putMid}
