@@ -25,3 +25,4 @@ pub mod Running
 pub mod Protection
 pub mod MoveLists
 pub mod Lengthen
+pub mod Twins

@@ -10,3 +10,4 @@ pub mod GoesOn
 pub mod BrokenWire
 pub mod Protection
 pub mod MoveLists
+pub mod Twins

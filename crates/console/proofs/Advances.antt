@@ -17,7 +17,7 @@ use Rattle.lines.specs.Lines.{longestLine}
 use Rattle.lines.proofs.Puts.{puts-same}
 use Rattle.listing.specs.Listing.{Listed, commandCount, hasRoomForAll, imageBehind, listing}
 use Rattle.console.specs.declared.Position.{Position}
-use Rattle.console.specs.Readings.{Advanced, Standing, cut, isEnd, numbersFit, performed, performedSize, positionBehind, standingAfter}
+use Rattle.console.specs.Readings.{Advanced, Given, Standing, cut, gave, isLast, numbersFit, performed, performedSize, positionBehind, standingAfter}
 use Rattle.console.proofs.Buffers.{at, cut-is, performed-is, performed-le}
 
 -- ---- the position behind
@@ -89,15 +89,15 @@ pub advanced : (number w got put e : ℕ) (l b out o : List ℕ) (g g′ : Image
     → w + got ≤ length l → commandCount l * longestLine commandSize ≤ length out → e ≡ performedSize (w + got) (eqb got 0)
     → Listed number (take e l) out g put o g′ → b ≡ splice l 0 (segment l e (w + got - e))
     → next ≡ positionBehind number (e / commandSize) (w + got - e) (eqb got 0)
-    → Advanced (at number w l g) (segment l w got) out (record { put = put; next = next }) o b g′
+    → Advanced (at number w l g) (gave (segment l w got)) out (record { put = put; next = next }) o b g′
 advanced number w got put e l b out o g g′ next h k d ran moved behind =
     let s : Standing = at number w l g in
-    let r : List ℕ = segment l w got in
+    let r : Given = gave (segment l w got) in
     let last : Bool = eqb got 0 in
     let size : e ≤ w + got = subst (λ (n : ℕ). n ≤ w + got) (sym d) (performed-le (w + got) last) in
     let p : take e l ≡ performed s r = sym (performed-is number w got l g h ∙ ap (λ (n : ℕ). take n l) (sym d)) in
     let q : segment l e (w + got - e) ≡ cut s r = sym (cut-is number w got l g h ∙ ap (λ (n : ℕ). segment l n (w + got - n)) (sym d)) in
-    let len : got ≡ length r = sym (length-segment l w got h) in
+    let len : got ≡ length (segment l w got) = sym (length-segment l w got h) in
     let fit : hasRoomForAll number (take e l) out ≡ numbersFit s r = room-numbers number e l out (omega arith) k ∙ ap (λ (x : List ℕ). leb (number + commandCount x) (2 ^ 64)) p in
     let image : g′ ≡ cond (numbersFit s r) (standingAfter s r .image) g =
     ran .leaves ∙ (λ i. cond (fit i) (imageBehind (p i) g (commandCount (p i))) g) in
@@ -110,9 +110,9 @@ advanced number w got put e l b out o g g′ next h k d ran moved behind =
           (λ t. ap (λ (n : ℕ). ltb (number + n) (2 ^ 64)) (count t))
           ∙ (λ i. not (eqb (len i) 0) && ltb (number + commandCount (p i)) (2 ^ 64));
       stands = λ on.
-          let some : not last ≡ true = subst (λ (n : ℕ). not (eqb n 0) ≡ true) (sym len) (and-l (not (isEnd r)) (ltb (number + commandCount (performed s r)) (2 ^ 64)) on) in
+          let some : not last ≡ true = subst (λ (n : ℕ). not (eqb n 0) ≡ true) (sym len) (and-l (not (isLast r)) (ltb (number + commandCount (performed s r)) (2 ^ 64)) on) in
           let n : ℕ = number + commandCount (performed s r) in
-          let below : n < 2 ^ 64 = ltb-true n (2 ^ 64) (and-r (not (isEnd r)) (ltb n (2 ^ 64)) on) in
+          let below : n < 2 ^ 64 = ltb-true n (2 ^ 64) (and-r (not (isLast r)) (ltb n (2 ^ 64)) on) in
           let c : e / commandSize ≡ commandCount (performed s r) = count some ∙ ap commandCount p in
           let there : next ≡ record { number = number + e / commandSize; waiting = w + got - e; more = true } =
           behind ∙ sym (behind-next number (e / commandSize) (w + got - e) last (not-is last some) (omega arith)) in

@@ -12,7 +12,7 @@ use Rattle.lists.specs.Segments.{segment, splice}
 use Rattle.lists.proofs.Segments.{getD-after, getD-segment, length-segment, splice-more}
 use Rattle.cabinet_rules.specs.Images.{Image}
 use Rattle.command.specs.Commands.{commandSize}
-use Rattle.console.specs.Readings.{Standing, cut, heldBytes, performed, performedSize}
+use Rattle.console.specs.Readings.{Standing, cut, gave, heldBytes, performed, performedSize}
 
 -- ---- a move to the start of the buffer, byte by byte: what is read lies behind what was written
 pub moved-more : (l b : List ℕ) (a n i : ℕ) → a + n ≤ length l → i < n → b ≡ splice l 0 (take i (segment l a n))
@@ -54,14 +54,14 @@ held-length : (number w got : ℕ) (l : List ℕ) (g : Image) → w + got ≤ le
 held-length number w got l g h = ap length (held-is number w got l g) ∙ length-take-le (w + got) l h
 
 pub performed-is : (number w got : ℕ) (l : List ℕ) (g : Image) → w + got ≤ length l
-    → performed (at number w l g) (segment l w got) ≡ take (performedSize (w + got) (eqb got 0)) l
+    → performed (at number w l g) (gave (segment l w got)) ≡ take (performedSize (w + got) (eqb got 0)) l
 unfolding performed
 performed-is number w got l g h =
     (λ i. take (performedSize (held-length number w got l g h i) (eqb (length-segment l w got h i) 0)) (held-is number w got l g i))
     ∙ take-take (performedSize (w + got) (eqb got 0)) (w + got) l (performed-le (w + got) (eqb got 0))
 
 pub cut-is : (number w got : ℕ) (l : List ℕ) (g : Image) → w + got ≤ length l
-    → cut (at number w l g) (segment l w got)
+    → cut (at number w l g) (gave (segment l w got))
     ≡ segment l (performedSize (w + got) (eqb got 0)) (w + got - performedSize (w + got) (eqb got 0))
 unfolding cut
 cut-is number w got l g h =

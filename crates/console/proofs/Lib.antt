@@ -1,4 +1,5 @@
 pub mod Buffers
+pub mod Answers
 pub mod Advances
 pub mod AllListed
 pub mod Loop

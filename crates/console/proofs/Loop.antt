@@ -18,7 +18,7 @@ use Rattle.listing.specs.Listing.{InParts, commandCount, imageBehind}
 use Rattle.listing.proofs.Parts.{in-parts}
 use Rattle.console.specs.declared.Position.{Position}
 use Rattle.console.specs.declared.Step.{Step}
-use Rattle.console.specs.Readings.{Advanced, RanSome, ReadSome, Standing, cut, goesOn, isEnd, numbersFit, performed}
+use Rattle.console.specs.Readings.{Advanced, Given, RanSome, ReadSome, Standing, cut, gave, goesOn, isLast, numbersFit, performed, readFailed}
 use Rattle.console.specs.Readings.{standing, standingAfter}
 use Rattle.console.proofs.AllListed.{whole-parts, whole-size}
 
@@ -29,52 +29,55 @@ pub still-waiting : (at : Position) (k : ℕ) (l ys : List ℕ) (g : Image) → 
 still-waiting at k l ys g h =
     ap (λ (b : List ℕ). record { number = at .number; waiting = b; image = g }) (take-at (take (at .waiting) l) _ (at .waiting) (length-take-le (at .waiting) l h))
 
-pub read-some : {s s′ : Standing} {r out left b : List ℕ} {step : Step} {g : Image} → s ≡ s′ → Advanced s r out step left b g
+pub read-some : {s s′ : Standing} {x : Given} {out left b : List ℕ} {step : Step} {g : Image} → s ≡ s′ → Advanced s x out step left b g
     → ReadSome s′ (step .next) b g
-read-some {s} {s′} {r} {out} {left} {b} {step} {g} e a =
-    subst (λ (x : Standing). ReadSome x (step .next) b g) e
+read-some {s} {s′} {x} {out} {left} {b} {step} {g} e a =
+    subst (λ (z : Standing). ReadSome z (step .next) b g) e
     (record {
-      reading = r;
+      given = x;
       leaves = a .leaves;
       goes = λ h. sym (a .goes) ∙ h;
       stands = λ h. a .stands (sym (a .goes) ∙ h);
     })
 
 -- the same where the program stops, since the lines could not be written
-pub read-stop : {s s′ : Standing} {r out left b : List ℕ} {step : Step} {g : Image} (n w : ℕ) → s ≡ s′ → Advanced s r out step left b g
-    → ReadSome s′ (record { number = n; waiting = w; more = false }) b g
-read-stop {s} {s′} {r} {out} {left} {b} {step} {g} n w e a =
-    subst (λ (x : Standing). ReadSome x (record { number = n; waiting = w; more = false }) b g) e
+pub read-stop : {s s′ : Standing} {x : Given} {out left b : List ℕ} {step : Step} {g : Image} (next : Position) → next .more ≡ false
+    → s ≡ s′ → Advanced s x out step left b g → ReadSome s′ next b g
+read-stop {s} {s′} {x} {out} {left} {b} {step} {g} next stops e a =
+    subst (λ (z : Standing). ReadSome z next b g) e
     (record {
-      reading = r;
+      given = x;
       leaves = a .leaves;
-      goes = λ h. tf false h refl;
-      stands = λ h. tf false h refl;
+      goes = λ h. tf (next .more) h stops;
+      stands = λ h. tf (next .more) h stops;
     })
 
 -- ---- the bytes read rise
-some-bytes : (s : Standing) (r : List ℕ) → goesOn s r ≡ true → isEnd r ≡ false
-some-bytes s r h = not-is (isEnd r) (and-l (not (isEnd r)) (ltb (s .number + commandCount (performed s r)) (2 ^ 64)) h)
+not-last : (s : Standing) (x : Given) → goesOn s x ≡ true → isLast x ≡ false
+not-last s x h = not-is (isLast x) (and-l (not (isLast x)) (ltb (s .number + commandCount (performed s x)) (2 ^ 64)) h)
+
+more-held : (s : Standing) (x : Given) → isLast x ≡ false → length (s .waiting) < length (performed s x) + length (cut s x)
+more-held s (gave r) h =
+    let held : length (performed s (gave r)) + length (cut s (gave r)) ≡ length (s .waiting) + length r =
+    sym (length-append (performed s (gave r)) (cut s (gave r))) ∙ ap length (whole-parts s r) ∙ length-append (s .waiting) r in
+    omega (arith, held, eqb-false (length r) 0 h)
+more-held s readFailed h = tf true refl h
 
 pub rises : (s : Standing) (next : Position) (b : List ℕ) (g : Image) → ReadSome s next b g → next .more ≡ true
     → s .number * commandSize + length (s .waiting) < next .number * commandSize + next .waiting
 rises s next b g a h =
-    let r : List ℕ = a .reading in
-    let some : isEnd r ≡ false = some-bytes s r (a .goes h) in
-    let n : next .number ≡ s .number + commandCount (performed s r) = ap (λ (x : Standing). x .number) (a .stands h) in
-    let w : length (take (next .waiting) b) ≡ length (cut s r) = ap (λ (x : Standing). length (x .waiting)) (a .stands h) in
+    let x : Given = a .given in
+    let some : isLast x ≡ false = not-last s x (a .goes h) in
+    let n : next .number ≡ s .number + commandCount (performed s x) = ap (λ (z : Standing). z .number) (a .stands h) in
+    let w : length (take (next .waiting) b) ≡ length (cut s x) = ap (λ (z : Standing). length (z .waiting)) (a .stands h) in
     let m : length (take (next .waiting) b) ≤ next .waiting = subst (λ (k : ℕ). k ≤ next .waiting) (sym (length-take (next .waiting) b)) (min-le-left (next .waiting) (length b)) in
-    let size : length (performed s r) ≡ commandCount (performed s r) * commandSize = whole-size s r some in
-    let held : length (performed s r) + length (cut s r) ≡ length (s .waiting) + length r =
-    sym (length-append (performed s r) (cut s r)) ∙ ap length (whole-parts s r) ∙ length-append (s .waiting) r in
-    let one : 1 ≤ length r = omega (arith, eqb-false (length r) 0 some) in
-    omega (arith, n, w, m, size, held, one)
+    omega (arith, n, w, m, whole-size s x some, more-held s x some)
 
 pub below : (s : Standing) (next : Position) (b : List ℕ) (g : Image) → ReadSome s next b g → next .more ≡ true → next .number < 2 ^ 64
 below s next b g a h =
-    let n : ℕ = s .number + commandCount (performed s (a .reading)) in
+    let n : ℕ = s .number + commandCount (performed s (a .given)) in
     subst (λ (k : ℕ). k < 2 ^ 64) (sym (ap (λ (x : Standing). x .number) (a .stands h)))
-    (ltb-true n (2 ^ 64) (and-r (not (isEnd (a .reading))) (ltb n (2 ^ 64)) (a .goes h)))
+    (ltb-true n (2 ^ 64) (and-r (not (isLast (a .given))) (ltb n (2 ^ 64)) (a .goes h)))
 
 -- how far the numbers can still rise
 abbrev bytesLeft : Position → ℕ
@@ -105,23 +108,23 @@ none-performed g = record { input = []; leaves = refl; whole = λ h. refl }
 
 pub more-performed : (g : Image) (s : Standing) (next : Position) (b : List ℕ) (h : Image) → Performed g (s .image) true → ReadSome s next b h
     → Performed g h (next .more)
-more-performed g s next b h p a = go (numbersFit s (a .reading)) refl
+more-performed g s next b h p a = go (numbersFit s (a .given)) refl
   where
-    r : List ℕ
-    r = a .reading
+    r : Given
+    r = a .given
 
     l : List ℕ
     l = p .input
 
     x : List ℕ
-    x = performed s (a .reading)
+    x = performed s (a .given)
 
-    parts : InParts 1 (commandCount (p .input)) (p .input) (performed s (a .reading)) g
-    parts = in-parts 1 (commandCount (p .input)) (p .input) (performed s (a .reading)) g (p .whole refl)
+    parts : InParts 1 (commandCount (p .input)) (p .input) (performed s (a .given)) g
+    parts = in-parts 1 (commandCount (p .input)) (p .input) (performed s (a .given)) g (p .whole refl)
 
-    go : (t : Bool) → numbersFit s (a .reading) ≡ t → Performed g h (next .more)
+    go : (t : Bool) → numbersFit s (a .given) ≡ t → Performed g h (next .more)
     go true e =
-        let size : next .more ≡ true → length x ≡ commandCount x * commandSize = λ m. whole-size s r (some-bytes s r (a .goes m)) in
+        let size : next .more ≡ true → length x ≡ commandCount x * commandSize = λ m. whole-size s r (not-last s r (a .goes m)) in
         let n : length (l ++ x) ≡ length l + length x = length-append l x in
         let c : commandCount (l ++ x) ≡ commandCount l + commandCount x = parts .counts in
         let k : length l ≡ commandCount l * commandSize = p .whole refl in
@@ -137,7 +140,7 @@ more-performed g s next b h p a = go (numbersFit s (a .reading)) refl
           input = l;
           leaves = a .leaves ∙ ap (λ (t : Bool). cond t (standingAfter s r .image) (s .image)) e ∙ p .leaves;
           whole = λ m.
-              let below : s .number + commandCount x < 2 ^ 64 = ltb-true (s .number + commandCount x) (2 ^ 64) (and-r (not (isEnd r)) (ltb (s .number + commandCount x) (2 ^ 64)) (a .goes m)) in
+              let below : s .number + commandCount x < 2 ^ 64 = ltb-true (s .number + commandCount x) (2 ^ 64) (and-r (not (isLast r)) (ltb (s .number + commandCount x) (2 ^ 64)) (a .goes m)) in
               absurd (omega (arith, below, leb-false (s .number + commandCount x) (2 ^ 64) e));
         }
 

@@ -12,14 +12,18 @@ ghost use Rattle.console.specs.Readings.{
   RanSome,
   ReadSome,
   firstPosition,
+  gave,
+  givenBy,
+  givenSize,
   performedSize,
   positionBehind,
   standing,
+  stoppedAt,
 };
 use libc::STDIN_FILENO;
 use libc::STDOUT_FILENO;
 
-// How many commands are read at a time.
+// How many commands are read at a time, at most.
 const COMMANDS: usize = 1024;
 
 const INPUT_SIZE: usize = COMMANDS * command::SIZE;
@@ -104,12 +108,12 @@ fn position_behind(number: u64, commands: usize, waiting: usize, last: bool) -> 
 
 // Performs a reading, which stands in the input buffer behind the bytes that wait, and puts its lines into the output
 // buffer. The bytes of a command that it cuts wait at the start of the input buffer.
-fn advance(image: &mut [u8], at: Position, got: usize, input: &mut [u8], out: &mut [u8]) -> Step
+fn perform(image: &mut [u8], at: Position, got: usize, input: &mut [u8], out: &mut [u8]) -> Step
     requires { ⌜ at .waiting + got ≤ length (now input) ⌝ }
     requires { ⌜ commandCount (now input) * longestLine commandSize ≤ length (now out) ⌝ }
     ensures { λ r. ⌜ Advanced (standing at (now (input .entry)) (now (image .entry)))
-        (segment (now (input .entry)) (at .waiting) got) (now (out .entry)) r (now (out .exit)) (now (input .exit))
-        (now (image .exit))
+        (gave (segment (now (input .entry)) (at .waiting) got)) (now (out .entry)) r (now (out .exit))
+        (now (input .exit)) (now (image .exit))
         × (r .put ≤ length (now (out .entry)))
         × (r .next .waiting < commandSize) ⌝ }
 {
@@ -126,30 +130,66 @@ fn advance(image: &mut [u8], at: Position, got: usize, input: &mut [u8], out: &m
     }
 }
 
-// Reads, performs what was read and writes its lines: the next position. The program stops where they cannot be written.
+// The position of a program that reads no more.
+fn stopped(at: Position) -> Position
+    ensures { λ r. ⌜ r ≡ stoppedAt at ⌝ }
+{
+    Position {
+        number: at.number,
+        waiting: at.waiting,
+        more: false,
+    }
+}
+
+// Performs what a read gave, by the operating system's answer to it. One that failed performs nothing: the rest of a cut
+// command may follow, so that it is not a short one.
+fn advance(image: &mut [u8], at: Position, got: isize, input: &mut [u8], out: &mut [u8]) -> Step
+    requires { ⌜ at .waiting < commandSize ⌝ }
+    requires { ⌜ at .waiting + givenSize got ≤ length (now input) ⌝ }
+    requires { ⌜ commandCount (now input) * longestLine commandSize ≤ length (now out) ⌝ }
+    ensures { λ r. ⌜ Advanced (standing at (now (input .entry)) (now (image .entry)))
+        (givenBy got (at .waiting) (now (input .entry))) (now (out .entry)) r (now (out .exit)) (now (input .exit))
+        (now (image .exit))
+        × (r .put ≤ length (now (out .entry)))
+        × (r .next .waiting < commandSize) ⌝ }
+{
+    if got >= 0 {
+        let size = io::count(got, input);
+        return perform(image, at, size, input, out);
+    }
+    Step {
+        put: 0,
+        next: stopped(at),
+    }
+}
+
+// Reads once, performs what was read and writes its lines: the next position. The program stops where a read or a write
+// fails, and says so.
 fn read_on(image: &mut [u8], at: Position, input: &mut [u8], out: &mut [u8]) -> Position
-    requires { ⌜ at .waiting < length (now input) ⌝ }
+    requires { ⌜ at .waiting < commandSize ⌝ }
+    requires { ⌜ commandSize ≤ length (now input) ⌝ }
     requires { ⌜ commandCount (now input) * longestLine commandSize ≤ length (now out) ⌝ }
     ensures { λ r. ⌜ ReadSome (standing at (now (input .entry)) (now (image .entry))) r (now (input .exit))
         (now (image .exit))
         × (r .waiting < commandSize) ⌝ }
 {
     let waiting = at.waiting;
-    let got = io::read_full(STDIN_FILENO, &mut input[waiting..]);
-    let step = advance(image, at, got, input, out);
+    let answer = libc::read(STDIN_FILENO, &mut input[waiting..]);
+    if answer < 0 {
+        os::fail(b"cabinet: standard input");
+    }
+    let step = advance(image, at, answer, input, out);
     let put = step.put;
     let next = step.next;
     if io::write_all(STDOUT_FILENO, &out[..put]) {
         return next;
     }
-    Position {
-        number: next.number,
-        waiting: next.waiting,
-        more: false,
-    }
+    os::fail(b"cabinet: standard output");
+    stopped(next)
 }
 
-// Performs the commands of standard input on the image, to the end of the input, with two buffers.
+// Performs the commands of standard input on the image, to the end of the input or to a read or write that fails, with
+// two buffers.
 fn read_all(image: &mut [u8], input: &mut [u8], out: &mut [u8])
     requires { ⌜ commandSize ≤ length (now input) ⌝ }
     requires { ⌜ commandCount (now input) * longestLine commandSize ≤ length (now out) ⌝ }
@@ -162,7 +202,8 @@ fn read_all(image: &mut [u8], input: &mut [u8], out: &mut [u8])
     }
 }
 
-// Performs the commands of standard input on the image, to the end of the input, and writes their listing.
+// Performs the commands of standard input on the image, to the end of the input or to a read or write that fails, and
+// writes their listing.
 pub fn run(image: &mut [u8])
     ensures { λ _. ⌜ RanSome (now (image .entry)) (now (image .exit)) ⌝ }
 {

@@ -139,7 +139,7 @@ module _ (P : Parameters) (L : Laws P) (G : Growth P) (E : GrowthLaws P G) (M : 
         each = λ b e. block-grown b (i .each b (sym (ap (ltb b) (same-blocks (k .setting))) ∙ e));
       }
 
-    beside-grown : (s : State P) (v : View P) → Beside P L s k v → Beside (grown P G) M (grownState P G s) (grownControl P G k) v
+    pub beside-grown : (s : State P) (v : View P) → Beside P L s k v → Beside (grown P G) M (grownState P G s) (grownControl P G k) v
     unfolding look
     beside-grown s v b = record {
       same-control = ap (grownControl P G) (b .same-control);

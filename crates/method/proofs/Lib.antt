@@ -20,3 +20,4 @@ pub mod MoveList
 pub mod MoveCounts
 pub mod Protection
 pub mod ProtectionCounts
+pub mod Twins

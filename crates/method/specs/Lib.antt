@@ -8,3 +8,4 @@ pub mod OneRecordList
 pub mod Growth
 pub mod Protection
 pub mod MoveList
+pub mod Twins

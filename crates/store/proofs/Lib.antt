@@ -5,3 +5,4 @@ pub mod MoveList
 pub mod NoMoves
 mod MoveRows
 mod LocalArray
+pub mod Twins

@@ -1,61 +1,38 @@
--- What the callees did is what a reading leads to (`advanced`); the cut bytes come to the start of the buffer after the
--- commands before them were performed. Assumes nothing.
+-- A read that failed is told by its answer; of any other the answer is the length of the reading. Assumes nothing.
 use mathlib.Core.Path.{_∙_, _≡_, ap, subst, sym}
-use Prim.Native.Nat.{_+_, _-_, _<_, _≤_, ℕ}
+use mathlib.Core.Bool.{false, true}
+use Prim.Native.Nat.{_<_, zero-le, ℕ}
 use native.Mathlib.Omega.{arith}
-use lib.Dec.{eqb}
-use lib.Seq.{length-take-le}
+use lib.IntN.{pos, ℤ}
+use lib.ListN.{length}
+use lib.Signed.{leZ}
 use denote.Ref.{now}
+use mir.Syntax.{w64}
+use mir.Val.{ofZ, toZ}
+use mir.Facts.{toZ-ofZ}
 use Rattle.command.specs.Commands.{commandSize}
-use Rattle.console.specs.Readings.{performedSize}
+use Rattle.io.specs.Counts.{clamped}
+use Rattle.lists.specs.Segments.{segment}
 use Rattle.console.specs.declared.Position.{Position}
-use Rattle.console.proofs.Advances.{advanced, behind-waiting}
-use Rattle.console.proofs.Buffers.{rest-short, performed-le}
+use Rattle.console.specs.Readings.{gave, givenBy, givenSize}
+use Rattle.console.proofs.Answers.{advanced-same, failed-step, given-none, given-reading, size-is}
 use borrow.Author.Needs.{needs}
 use Rattle.console.proofs.advance.Statement.{statement}
 use Rattle.console.proofs.advance.Tie as tie
 
--- as many bytes as are performed are held
-within-held : (e w got : ℕ) → e ≡ performedSize (w + got) (eqb got 0) → e ≤ w + got
-within-held e w got d = subst (λ (n : ℕ). n ≤ w + got) (sym d) (performed-le (w + got) (eqb got 0))
+count-requires : tie.Need-count-requires
+count-requires c κs = search needs
 
-add-held : tie.Need-add-held
-add-held c = search needs
-
-performed-size-requires : tie.Need-performed-size-requires
-performed-size-requires c κs = search needs
-
-slice-reshare-prefix-run : tie.Need-slice-reshare-prefix-run
-slice-reshare-prefix-run c =
-    let a = c .before .before .before .before .before .args in
-    omega (arith, within-held _ (a .at .waiting) (a .got) (c .before .performed-size .ensures), c .before .before .before .before .before .pre .0)
-
-slice-aggregate-run : tie.Need-slice-aggregate-run
-slice-aggregate-run c =
-    let a = c .before .before .before .before .before .before .args in
-    let p = c .before .before .performed-size in
-    let h : p .result ≤ a .at .waiting + a .got = within-held (p .result) (a .at .waiting) (a .got) (p .ensures) in
-    sym (length-take-le (p .result) (now (a .input)) (omega (arith, h, c .before .before .before .before .before .before .pre .0)))
-
-run-requires : tie.Need-run-requires
-run-requires c κs = search needs
-
-move-to-start-requires : tie.Need-move-to-start-requires
-move-to-start-requires c κs =
-    let a = c .before .before .before .before .before .before .before .before .before .before .before .before .before .args in
-    let p = c .before .before .before .before .before .before .before .before .before .performed-size in
-    let h : p .result ≤ a .at .waiting + a .got = within-held (p .result) (a .at .waiting) (a .got) (p .ensures) in
-    (omega (arith, h), omega (arith, h, c .before .before .before .before .before .before .before .before .before .before .before .before .before .pre .0))
-
-sub-position-behind : tie.Need-sub-position-behind
-sub-position-behind c =
-    let a = c .before .before .before .before .before .before .before .before .before .before .before .before .before .before .before .before .args in
-    let p = c .before .before .before .before .before .before .before .before .before .before .before .before .performed-size in
-    let h : p .result ≤ a .at .waiting + a .got = within-held (p .result) (a .at .waiting) (a .got) (p .ensures) in
-    omega (arith, h)
-
-position-behind-requires : tie.Need-position-behind-requires
-position-behind-requires c κs = search needs
+perform-requires : tie.Need-perform-requires
+perform-requires c κs =
+    let s = c .before .before .before .before .before .before .before .before .before in
+    let a = s .args in
+    let k = c .before .before .before .count in
+    let z : toZ w64 (ofZ w64 (a .got)) ≡ a .got = toZ-ofZ (s .fits .got) in
+    let size : k .result ≡ givenSize (a .got) =
+    k .ensures .1 ∙ ap (λ (x : ℤ). clamped x (length (now (a .input)))) z
+    ∙ size-is (a .got) (length (now (a .input))) (omega (arith, s .pre .1 .0)) in
+    (omega (arith, s .pre .1 .0, size), s .pre .1 .1)
 
 same-length : tie.Need-same-length
 same-length c = search needs
@@ -68,32 +45,44 @@ same-length-3 c = search needs
 
 returns : tie.Need-returns
 returns c =
-    let a = c .before .before .before .before .before .before .before .before .before .before .before .before .before .before .before .before .before .args in
-    let pre = c .before .before .before .before .before .before .before .before .before .before .before .before .before .before .before .before .before .pre in
-    let e = c .before .before .before .before .before .before .before .before .before .before .before .before .before .performed-size in
-    let r = c .before .before .before .before .before .before .before .before .before .run in
-    let short : a .at .waiting + a .got - e .result < commandSize =
-    subst (λ (n : ℕ). a .at .waiting + a .got - n < commandSize) (sym (e .ensures)) (rest-short (a .at .waiting + a .got) (eqb (a .got) 0)) in (
-      advanced (a .at .number) (a .at .waiting) (a .got) (r .result) (e .result) (now (a .input)) _ (now (a .out)) _ (now (a .image)) _ (c .position-behind .result) (pre .0) (pre .1)
-          (e .ensures) (r .ensures .0) (c .before .before .before .move-to-start .ensures) (c .position-behind .ensures),
-      r .ensures .1,
-      subst (λ (n : ℕ). n < commandSize)
-          (sym (ap (λ (p : Position). p .waiting) (c .position-behind .ensures) ∙ behind-waiting (a .at .number) _ (a .at .waiting + a .got - e .result) (eqb (a .got) 0))) short,
+    let s = c .before .before .before .before .before .before .before .before .before .before .before .before .before .before .before .before in
+    let a = s .args in
+    let r = c .before .before .before .before .before .before .perform in
+    let k = c .before .before .before .before .before .before .before .before .before .before .count in
+    let z : toZ w64 (ofZ w64 (a .got)) ≡ a .got = toZ-ofZ (s .fits .got) in
+    let size : k .result ≡ givenSize (a .got) =
+    k .ensures .1 ∙ ap (λ (x : ℤ). clamped x (length (now (a .input)))) z
+    ∙ size-is (a .got) (length (now (a .input))) (omega (arith, s .pre .1 .0)) in
+    let n : leZ (pos 0) (a .got) ≡ true = subst (λ (x : ℤ). leZ (pos 0) x ≡ true) z (c .before .before .before .before .before .before .before .before .before .before .before .before .if1 .taken) in
+    let e : gave (segment (now (a .input)) (a .at .waiting) (k .result)) ≡ givenBy (a .got) (a .at .waiting) (now (a .input)) =
+    ap (λ (m : ℕ). gave (segment (now (a .input)) (a .at .waiting) m)) size ∙ given-reading (a .got) (a .at .waiting) (now (a .input)) n in
+    (advanced-same e (r .ensures .0), r .ensures .1, r .ensures .2)
+
+stopped-requires : tie.Need-stopped-requires
+stopped-requires c κs = search needs
+
+returns-2 : tie.Need-returns-2
+returns-2 c =
+    let s = c .before .before .before .before .before in
+    let a = s .args in
+    let z : toZ w64 (ofZ w64 (a .got)) ≡ a .got = toZ-ofZ (s .fits .got) in
+    let n : leZ (pos 0) (a .got) ≡ false = subst (λ (x : ℤ). leZ (pos 0) x ≡ false) z (c .before .if1 .left) in
+    let e = c .stopped .ensures in (
+      advanced-same (given-none (a .got) (a .at .waiting) (now (a .input)) n)
+          (failed-step (a .at) (c .stopped .result) (now (a .input)) (now (a .out)) (now (a .image)) e),
+      zero-le,
+      subst (λ (p : Position). p .waiting < commandSize) (sym e) (s .pre .0),
     )
 
 pub advance-spec : {M : Type 1} → statement M
 advance-spec =
     tie.close
     (tie.spec
-    add-held
-    performed-size-requires
-    slice-reshare-prefix-run
-    slice-aggregate-run
-    run-requires
-    move-to-start-requires
-    sub-position-behind
-    position-behind-requires
+    count-requires
+    perform-requires
     same-length
     same-length-2
     same-length-3
-    returns)
+    returns
+    stopped-requires
+    returns-2)
