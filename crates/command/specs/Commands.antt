@@ -1,4 +1,4 @@
--- Commands: document 01, "Commands". What five bytes ask for, and the five bytes of a command. Assumes nothing.
+-- Commands: RULES, "Commands and the listing". What five bytes ask for, and the five bytes of a command. Assumes nothing.
 use Prim.Native.Nat.{_%_, _*_, _+_, _/_, _^_, ℕ}
 use lib.Dec.{eqb, leb, ltb}
 use lib.ListN.{getD, length}
@@ -31,8 +31,8 @@ moveOperation = 11
 abbrev pub isByte : ℕ → Bool
 isByte b = ltb b (2 ^ 8)
 
--- "Five bytes: operation (4 bits), transaction (4), card (4), record or block (12), value or mask (16)": the fields of
--- five bytes, and of the five bytes of a list.
+-- A command has five fields in five bytes: operation of 4 bits, transaction of 4, card of 4, record or block of 12, value
+-- or mask of 16, most significant bit first. The fields of five bytes, and of the five bytes of a list.
 abbrev pub fieldsOf : ℕ → ℕ → ℕ → ℕ → ℕ → Fields
 fieldsOf a b c d e = record {
   operation = a / 2 ^ 4;
@@ -45,7 +45,7 @@ fieldsOf a b c d e = record {
 unfoldable pub fieldsIn : List ℕ → Fields
 fieldsIn l = fieldsOf (getD l 0 0) (getD l 1 0) (getD l 2 0) (getD l 3 0) (getD l 4 0)
 
--- The greatest number of each field, 4, 4, 12 and 16 bits wide; "a mask is below 256".
+-- The greatest number of each field, 4, 4, 12 and 16 bits wide; a mask has 8 of its 16 bits.
 abbrev pub mostTran : ℕ
 mostTran = 15
 
@@ -66,7 +66,7 @@ unfoldable pub fieldsWithin : ℕ → ℕ → ℕ → ℕ → Fields → Bool
 fieldsWithin tran card number value f =
     leb (f .tran) tran && (leb (f .card) card && (leb (f .number) number && leb (f .value) value))
 
--- "Fields that an operation lacks are zero, and a mask is below 256": the form of each known operation.
+-- The form of each known operation: the fields that it lacks are zero, and a mask is at most 255.
 abbrev pub forms : List (Fields → Bool)
 forms =
     -- 0 start
@@ -96,19 +96,19 @@ forms =
     ∷ fieldsWithin 0 mostCard 0 0
     ∷ []
 
--- "Operations 0 to 14 are known, and 15 is malformed": known, and of its form.
+-- Operations 0 to 14 are known; 15 is none. Fields are formed if the operation is known and they are of its form.
 abbrev pub unknown : Fields → Bool
 unknown f = false
 
 unfoldable pub formed : Fields → Bool
 formed f = getD forms (f .operation) unknown f
 
--- "Reader and writer refuse 15 for any length but five bytes."
+-- A list of bytes is a command if it has five bytes with formed fields.
 unfoldable pub wellFormed : List ℕ → Bool
 wellFormed l = eqb (length l) commandSize && formed (fieldsIn l)
 
--- "They are start, begin, get, store, delete, commit, rollback, fit, withdraw, place, fail, move, settle, state,
--- load": the call of each operation, from its fields. The last, load, stands apart.
+-- The call of each operation, from its fields, in the order start, begin, get, store, delete, commit, rollback, fit,
+-- withdraw, place, fail, move, settle, state, load. The last, load, stands apart.
 abbrev pub calls : List (Fields → Call)
 calls =
     (λ f. Start (f .value))
@@ -187,7 +187,7 @@ abbrev pub isOfCase : Command → Bool
 isOfCase (Of call) = not (isWideMove (callFields call))
 isOfCase (WideMove c n) = ltb mostBlock n
 
--- "The writer refuses alike, also a number too wide for its field": the command is of its case, and its fields formed.
+-- A command can be written if it is of its case and its fields are formed: no number is too wide for its field.
 unfoldable pub isWritable : Command → Bool
 isWritable command = isOfCase command && formed (fieldsFor command)
 
@@ -204,8 +204,8 @@ encoded f =
 unfoldable pub bytesFor : Command → List ℕ
 bytesFor command = encoded (fieldsFor command)
 
--- "Reader and writer refuse 15 for any length but five bytes": whether the writer writes, what it says, and the lent bytes
--- after it: "then leaves its lent bytes as found".
+-- Whether the writer writes: five bytes are lent, and the command can be written. What it says, and the lent bytes after
+-- it: as found where it does not write.
 abbrev pub isWritten : List ℕ → Command → Bool
 isWritten l command = eqb (length l) commandSize && isWritable command
 
@@ -225,7 +225,7 @@ writeFields l f = cond (fieldsFit l f) Written Writing·Malformed
 unfoldable pub fieldsLeave : List ℕ → Fields → List ℕ
 fieldsLeave l f = cond (fieldsFit l f) (encoded f) l
 
--- 15 is "command malformed": the number that reader and writer refuse with, and 0 where they do not refuse.
+-- 15 says that a command is malformed: the number that reader and writer refuse with, and 0 where they do not refuse.
 abbrev pub malformed : ℕ
 malformed = 15
 

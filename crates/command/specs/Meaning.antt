@@ -1,4 +1,4 @@
--- What a command does: document 01, "Commands", on an image. Assumes nothing.
+-- What a command does on an image: RULES, "Commands and the listing". Assumes nothing.
 use Prim.Native.Nat.{ℕ}
 use lib.Dec.{leb}
 use mathlib.Core.Bool.{cond}
@@ -20,7 +20,7 @@ abbrev pub ruled : Command → Call cabinet
 ruled (Of call) = asked call
 ruled (WideMove c n) = move (c .0) n
 
--- "Command form comes before all others": what the bytes of a command are answered.
+-- What the bytes of a command are answered. The form of a command is asked before all that its call asks.
 unfoldable pub commandAnswer : List ℕ → Image → Answer cabinet
 commandAnswer l g = cond (wellFormed l) (answer (ruled (commandOf l)) g) (refused malformed)
 

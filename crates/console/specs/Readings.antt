@@ -1,5 +1,5 @@
--- The program over its readings: document 01, "The program reads commands from standard input". An input comes in readings
--- of any length; one that gives no byte is its end, and a read that fails performs nothing. Assumes nothing.
+-- The program over its readings: RULES, "Commands and the listing". An input comes in readings of any length; one that
+-- gives no byte is its end, and a read that fails performs nothing. Assumes nothing.
 use Prim.Native.Nat.{_%_, _+_, _-_, _^_, ℕ}
 use lib.Dec.{eqb, leb, ltb}
 use lib.IntN.{negsuc, pos, ℤ}
@@ -22,7 +22,7 @@ pub record Standing : Type 0 where
   pub waiting : List ℕ
   pub image : Image
 
--- "command number from 1": where it begins on an image.
+-- Where it begins on an image: commands are numbered from 1.
 abbrev pub atFirst : Image → Standing
 atFirst g = record { number = 1; waiting = []; image = g }
 
