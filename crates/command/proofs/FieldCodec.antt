@@ -13,8 +13,8 @@ use Rattle.command.specs.declared.Reading.the-variants.{Asks, Malformed 
 use Rattle.command.specs.declared.codec.Shown.{Shown}
 use Rattle.command.specs.declared.codec.Shown.the-variants.{Has, Malformed}
 use Rattle.command.specs.declared.Writing.{Writing}
-use Rattle.command.specs.declared.Writing.the-variants.{Malformed as Writing·Malformed, Written}
-use Rattle.command.specs.Commands.{commandAt, commandOf, commandSize, encoded, fieldsFit, fieldsIn, fieldsLeave, formed, isByte}
+use Rattle.command.specs.declared.Writing.the-variants.{Malformed as Writing·Malformed}
+use Rattle.command.specs.Commands.{commandAt, commandSize, encoded, fieldsFit, fieldsIn, fieldsLeave, formed, isByte}
 use Rattle.command.specs.Commands.{readOf, shownFields, wellFormed, writeFields}
 use Rattle.command.specs.RoundTrips.{ShownWrites, WrittenShows}
 use Rattle.command.proofs.Answers.{fails-here, goes-past, read-by, said, told-written}

@@ -10,9 +10,9 @@ use lib.Seq.{ext-getD}
 use Rattle.lists.specs.Tabulate.{tabulate}
 use Rattle.lists.proofs.Cases.{lt-or-ge}
 use Rattle.lists.proofs.Tabulate.{length-tabulate, at-tabulate}
-use Rattle.lists.proofs.Segments.{length-splice, getD-in, getD-after, get-put, get-put-after}
+use Rattle.lists.proofs.Segments.{length-splice, getD-in, getD-after, get-put-after}
 use Rattle.image.specs.Layout.{cardCount, blockCount, controlSize}
-use Rattle.image.specs.Parts.{Whole, controlBytes, blockAt}
+use Rattle.image.specs.Parts.{Whole, blockAt}
 use Rattle.control.specs.ControlBytes.{Part, controlByte, controlOf}
 use Rattle.control_form.specs.ControlForm.{controlForm}
 use Rattle.control.specs.Meaning.{putControl}
@@ -45,11 +45,7 @@ module _ (image : List ℕ) (k : Part) (long : controlSize ≤ length image) whe
   unfolding putControl
   put-after i h = getD-after image 0 new i fits (omega (arith, new-length))
 
-  -- The control part is the new bytes, and every block is untouched.
-  pub put-control : controlBytes (putControl image k) ≡ tabulate controlSize (controlByte k)
-  unfolding putControl
-  put-control = get-put image 0 controlSize new new-length long
-
+  -- Every block is untouched.
   pub put-blocks : Whole image → (c : ℕ) → c < cardCount → (b : ℕ) → b < blockCount → blockAt (putControl image k) c b ≡ blockAt image c b
   unfolding putControl blockAt
   put-blocks w c hc b hb = get-put-after image 0 new _ _ fits (omega (arith, new-length)) (omega arith)

@@ -8,10 +8,9 @@ use native.Mathlib.Omega.{arith}
 use lib.ListN.{length, getD}
 use Rattle.lists.specs.Segments.{segment, splice}
 use Rattle.lists.proofs.Cases.{lt-or-ge, lt-eq-gt}
-use Rattle.lists.proofs.Segments.{length-segment, getD-segment, length-splice, get-put, get-put-before, get-put-after, put-get, get-get}
+use Rattle.lists.proofs.Segments.{length-segment, getD-segment, length-splice, get-put, get-put-before, get-put-after, get-get}
 use Rattle.image.specs.Layout.{cardCount, blockCount, blockSize, controlSize, tableSize, imageSize, tableStart, blockStart, blockAddress}
-use Rattle.image.specs.Parts.{Whole, controlBytes, zeros, putTable, blockAt, putBlock}
-use Rattle.image.proofs.Zeros.{length-zeros, zeros-segment}
+use Rattle.image.specs.Parts.{Whole, controlBytes, putTable, blockAt, putBlock}
 
 -- Block b of card c: its length and its bytes.
 module _ (g : List ℕ) (w : Whole g) (c : ℕ) (hc : c < cardCount) (b : ℕ) (hb : b < blockCount) where
@@ -22,11 +21,6 @@ module _ (g : List ℕ) (w : Whole g) (c : ℕ) (hc : c < cardCount) (b : ℕ) (
   pub byte-of-block : (j : ℕ) → j < blockSize → getD (blockAt g c b) j 0 ≡ getD g (blockAddress c b + j) 0
   unfolding blockAt
   byte-of-block j h = getD-segment g (blockAddress c b) blockSize j h
-
-  -- A block that is put back as it was read changes nothing.
-  pub put-back : putBlock g c b (blockAt g c b) ≡ g
-  unfolding blockAt putBlock
-  put-back = put-get g (blockAddress c b) blockSize (omega arith)
 
   -- After a block is put: the length, the block, every other block, the control bytes.
   module _ (xs : List ℕ) (e : length xs ≡ blockSize) where
@@ -84,12 +78,6 @@ module _ (g : List ℕ) (w : Whole g) (c : ℕ) (hc : c < cardCount) (xs : List 
   pub control-put-table : controlBytes (putTable g c xs) ≡ controlBytes g
   unfolding putTable
   control-put-table = get-put-before g (tableStart c) xs 0 controlSize (omega arith) (omega arith)
-
--- A block of a table of zeros is zeros.
-pub cleared-block : (g : List ℕ) → Whole g → (c : ℕ) → c < cardCount → (b : ℕ) → b < blockCount
-    → blockAt (putTable g c (zeros tableSize)) c b ≡ zeros blockSize
-cleared-block g w c hc b hb =
-    put-table-same g w c hc (zeros tableSize) (length-zeros tableSize) b hb ∙ zeros-segment tableSize (blockStart b) blockSize (omega arith)
 
 -- A control byte is a byte of the image.
 pub byte-of-control : (g : List ℕ) (j : ℕ) → j < controlSize → getD (controlBytes g) j 0 ≡ getD g j 0

@@ -5,17 +5,14 @@ use mathlib.Core.Path.{_≡_}
 use Prim.Native.Nat.{ℕ}
 use lib.ListN.{length, replicate}
 use Rattle.lists.specs.Segments.{segment, splice}
-use Rattle.image.specs.Layout.{blockAddress, blockSize, controlSize, imageSize, tableSize, tableStart}
+use Rattle.image.specs.Layout.{blockAddress, blockSize, controlSize, imageSize, tableStart}
 
--- An image of the right length; its control part; the table of card c.
+-- An image of the right length; its control part.
 abbrev pub Whole : List ℕ → Type 0
 Whole image = length image ≡ imageSize
 
 abbrev pub controlBytes : List ℕ → List ℕ
 controlBytes image = segment image 0 controlSize
-
-abbrev pub tableAt : List ℕ → ℕ → List ℕ
-tableAt image c = segment image (tableStart c) tableSize
 
 -- n zero bytes, and the image with another table of card c.
 unfoldable pub zeros : ℕ → List ℕ

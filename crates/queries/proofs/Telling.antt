@@ -2,18 +2,17 @@
 -- transaction's byte, the lowest free number by the numbers below it, and the holders by their mask. Assumes nothing.
 use Prim.Native.Nat.{_%_, _+_, _-_, _/_, _<_, _≤_, suc, zero, ℕ}
 use borrow.Author.Tests.{le-leb, lt-leb}
-use lib.Dec.{leb, ltb}
 use lib.ListN.{getD, length}
-use mathlib.Core.Bool.{Bool, _&&_, cond, false, true}
-use mathlib.Core.List.{List, [], _++_, _∷_}
+use mathlib.Core.Bool.{Bool, cond, false, true}
+use mathlib.Core.List.{List, [], _∷_}
 use mathlib.Core.Logic.{_≢_}
 use mathlib.Core.Path.{_∙_, _≡_, ap, fun-ext, refl, sym}
 use native.Mathlib.Nat.{mod-eq-of-lt}
 use native.Mathlib.Numerals.{add-one}
 use native.Mathlib.Omega.{arith}
-use Rattle.lists.specs.Tests.{countBelow, elem}
-use Rattle.image.specs.Layout.{cardCount, mostActive, tranBound, tranCount}
-use Rattle.mask.specs.Masks.{byte, hasCard, size}
+use Rattle.lists.specs.Tests.{countBelow}
+use Rattle.image.specs.Layout.{cardCount, tranBound}
+use Rattle.mask.specs.Masks.{byte, size}
 use Rattle.mask.specs.Placements.{Placement}
 use Rattle.method.specs.ControlPart.{active, isOpen}
 use Rattle.control.specs.ControlBytes.{Part, field, fieldBound, homeOf, openBit, placementsIn}

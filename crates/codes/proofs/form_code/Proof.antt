@@ -1,5 +1,4 @@
 -- By the test. Assumes nothing.
-use mathlib.Core.Path.{_∙_, ap, sym}
 use Rattle.codes.specs.Codes.{answerNumber, kindOf}
 use Rattle.codes.specs.CommandCodes.{formCode}
 use borrow.Author.Needs.{needs}

@@ -1,7 +1,4 @@
 -- By the test. Assumes nothing.
-use mathlib.Core.Bool.{Bool, cond}
-use mathlib.Core.Path.{ap, sym}
-use Rattle.queries.specs.declared.Told.the-variants.{Number}
 use Rattle.queries.proofs.flag.Statement.{statement}
 use Rattle.queries.proofs.flag.Tie as tie
 
