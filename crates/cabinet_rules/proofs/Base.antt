@@ -7,32 +7,31 @@ use mathlib.Core.List.{List, [], _∷_, _++_, map}
 use mathlib.Core.Path.{_≡_, ap, refl, sym}
 use Rattle.image.specs.Layout.{valueBound}
 use Rattle.mask.specs.Masks.{Byte}
-use Rattle.mask.specs.Placements.{chainedSites, olderFromMask, sitesOf}
-use Rattle.mask.proofs.SiteLaws.{site-count, site-distinct, site-member}
+use Rattle.mask.specs.Placements.{chainedSites, maskSites, olderFromMask, placed}
 use Rattle.method.specs.ControlPart.{partBy}
 use Rattle.control.specs.ControlBytes.{controlByte, marksAt, marksFrom}
-use Rattle.cabinet_rules.specs.Delivery.{PartOf, twoRails}
-use Rattle.cabinet_rules.specs.Retired.{base, beforeMarks}
+use Rattle.cabinet_rules.specs.Delivery.{PartOf}
+use Rattle.cabinet_rules.specs.Retired.{base, beforeMarks, twoRails}
 use Rattle.cabinet_rules.specs.GoesOn.{fromBase}
 use Rattle.cabinet_rules.proofs.GoesOn.{Carries, carries-same}
 use Rattle.cabinet_rules.proofs.Lawful.{DeliveryLaws, RuleLaws, mask-few, mask-members, mask-working, no-stamps, not-numbered}
 use Rattle.cabinet_rules.proofs.Retired.{Retired, retired-control, retired-over}
-use Rattle.cabinet_rules.proofs.TwoRails.{railLaws}
+use Rattle.cabinet_rules.proofs.TwoRails.{railLaws, railRules}
 
 -- ---- sites: those of a placement marked 0
-chained-is : (m : Byte) (b : ℕ) → sitesOf (olderFromMask m) b ≡ chainedSites m b
-unfolding sitesOf
+chained-is : (m : Byte) (b : ℕ) → maskSites (olderFromMask m) b ≡ chainedSites m b
+unfolding maskSites
 chained-is m b = refl
 
 abbrev again : Byte → Byte → Bool
 again newest m = eqb (m .0) (newest .0)
 
 pub baseRules : RuleLaws base
-unfolding sitesOf
+unfolding maskSites
 baseRules = record {
-  site-count = λ m b u h. site-count (olderFromMask m) b;
-  site-member = λ m b c u h e. site-member (olderFromMask m) b c u e;
-  site-distinct = λ m b u h. site-distinct (olderFromMask m) b u;
+  site-count = λ m b u h. railRules .site-count (olderFromMask m) b u h;
+  site-member = λ m b c u h e. railRules .site-member (olderFromMask m) b c u h e;
+  site-distinct = λ m b u h. railRules .site-distinct (olderFromMask m) b u h;
   mask-back = λ m. refl;
   made-usable = λ m h. h;
   place-usable = mask-members again;
@@ -45,17 +44,17 @@ baseRules = record {
 
 -- ---- control bytes: written over those of A.1
 -- placements marked 0 leave the marks zero
-no-marks : (l : List Byte) (m : Byte) (i : ℕ) → marksFrom i (map olderFromMask l ++ (olderFromMask m ∷ [])) ≡ 0
+no-marks : (l : List Byte) (m : Byte) (i : ℕ) → marksFrom i (map placed (map olderFromMask l) ++ (placed (olderFromMask m) ∷ [])) ≡ 0
 no-marks [] m i = refl
-no-marks (x ∷ l) m i = ap (λ (n : ℕ). 0 + n) (no-marks l m (suc i))
+no-marks (x ∷ l) m i = ap (λ (n : ℕ). 0 + (0 + n)) (no-marks l m (suc i))
 
-marks-zero : (k : PartOf base) (n : ℕ) → eqb n marksAt ≡ true → 0 ≡ controlByte (partBy olderFromMask (λ σ. σ) (λ ν. ν) k) n
+marks-zero : (k : PartOf base) (n : ℕ) → eqb n marksAt ≡ true → 0 ≡ twoRails .memory .bytes (partBy olderFromMask (λ σ. σ) (λ ν. ν) k) n
 unfolding controlByte
 marks-zero k n e = rw (eqb-true n marksAt e) (sym (no-marks (k .older) (k .newest) 0))
 
 -- A.1 writes of an older control part what the base wrote
 same-bytes : (k : PartOf base) (n : ℕ) → (a : Bool) → eqb n marksAt ≡ a
-    → cond a 0 (controlByte (partBy olderFromMask (λ σ. σ) (λ ν. ν) k) n) ≡ controlByte (partBy olderFromMask (λ σ. σ) (λ ν. ν) k) n
+    → cond a 0 (twoRails .memory .bytes (partBy olderFromMask (λ σ. σ) (λ ν. ν) k) n) ≡ twoRails .memory .bytes (partBy olderFromMask (λ σ. σ) (λ ν. ν) k) n
 same-bytes k n true e = marks-zero k n e
 same-bytes k n false e = refl
 

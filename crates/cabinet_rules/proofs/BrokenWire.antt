@@ -19,11 +19,12 @@ use Rattle.method.specs.Rules.{clearStamp, stampAll, stamped}
 use Rattle.method.specs.Rules.{move, moveWrites, place, refusal, refused, rollback, row, seenSlot, settle, settled}
 use Rattle.method.specs.Rules.{start, state, stopping, store, trail, withdraw, unlessRefused}
 use Rattle.method.specs.Slots.{isNone, readBy}
-use Rattle.control.specs.ControlBytes.{Part}
 use Rattle.control_form.specs.ControlForm.{formRowsOf}
 use Rattle.cabinet_rules.specs.BrokenWire.{BrokenWireRefused, ElseAsBefore}
 use Rattle.cabinet_rules.specs.Cabinet.{placeRows, rulesOf, tranOk}
-use Rattle.cabinet_rules.specs.Delivery.{anyValue, belowWire, brokenWire, storable, twoRails}
+use Rattle.cabinet_rules.specs.Delivery.{PartOf, brokenWire, storable}
+use Rattle.cabinet_rules.specs.Places.{placedRow}
+use Rattle.cabinet_rules.specs.Retired.{anyValue, belowWire, twoRails}
 use Rattle.cabinet_rules.specs.Images.{Image, after, answerBy, controlBy, nextBy, planBy, refusalBy, stateBy}
 use Rattle.cabinet_rules.specs.Images.{afterPlan, formBy}
 
@@ -43,8 +44,8 @@ same-value n d = go (split (storable n))
     go (inr e) = let h = ltb-false n brokenWire e in e ∙ sym (le-ltb n valueBound (omega arith))
 
 -- ---- the rows from 3 on
-same-rows : (c : Call since) → ((t r : ℕ) → c ≢ store t r brokenWire) → (k : Part) (v : View since) → refusal since c k v ≡ refusal before c k v
-unfolding refusal placeRows trail holders settled settledBy anyLocked
+same-rows : (c : Call since) → ((t r : ℕ) → c ≢ store t r brokenWire) → (k : PartOf belowWire) (v : View since) → refusal since c k v ≡ refusal before c k v
+unfolding refusal placeRows placedRow trail holders settled settledBy anyLocked
 same-rows (start m) d k v = refl
 same-rows (begin t home) d k v = refl
 same-rows (get t r) d k v = refl
@@ -70,7 +71,7 @@ same-either : (b : Bool) (p p′ : Plan since) (q q′ : Plan before) → SamePl
 same-either true p p′ q q′ h h′ = h
 same-either false p p′ q q′ h h′ = h′
 
-same-plan : (c : Call since) (k : Part) (v : View since) → SamePlan (act since c k v) (act before c k v)
+same-plan : (c : Call since) (k : PartOf belowWire) (v : View since) → SamePlan (act since c k v) (act before c k v)
 unfolding act trail holders lostOf stopping settled settledBy isProtected lockHolders layBlock endHeld dropHeld clearCard moveWrites stampAll clearStamp stamped
 same-plan (start m) k v = (refl, refl, refl, refl)
 same-plan (begin t home) k v = (refl, refl, refl, refl)

@@ -18,6 +18,7 @@ use Rattle.method.specs.Rules.{lockHolders, look, lostOf, move, moveWrites, nex
 use Rattle.method.specs.Rules.{protected, refusal, refused, retired, settle, settled, start, stopping, stops}
 use Rattle.method.specs.Rules.{store, trail, unplaced, unprotected, value}
 use Rattle.cabinet_rules.specs.Cabinet.{cabinet, placeRows, rulesOf, startRow}
+use Rattle.cabinet_rules.specs.Places.{byMask, placedRow}
 use Rattle.cabinet_rules.specs.Delivery.{Delivery, current}
 
 -- An answer as numbers: its kind, then its number.
@@ -81,8 +82,8 @@ marked-examples :
     ∷ (5 ∷ slotBytes 0xE0 (begin 1 0 ∷ store 1 9 4660 ∷ []) 2 1 1)
     ∷ (6 ∷ final 0xE0 (fail 1 ∷ []))
     ∷ (6 ∷ final 0xA0 (fail 2 ∷ []))
-    ∷ (7 ∷ final 0xF0 (place (byte 0xE0) ∷ place (byte 0x70) ∷ []))
-    ∷ (7 ∷ final 0xF0 (place (byte 0xE0) ∷ place (byte 0x70) ∷ place (byte 0xC0) ∷ []))
+    ∷ (7 ∷ final 0xF0 (place (byMask (byte 0xE0)) ∷ place (byMask (byte 0x70)) ∷ []))
+    ∷ (7 ∷ final 0xF0 (place (byMask (byte 0xE0)) ∷ place (byMask (byte 0x70)) ∷ place (byMask (byte 0xC0)) ∷ []))
     ∷ (8 ∷ final 0xE0 (begin 1 0 ∷ store 1 9 1 ∷ move 1 1 ∷ []))
     ∷ (9 ∷ final 0xE0 (begin 1 0 ∷ delete 1 9 ∷ []))
     ∷ (9 ∷ final 0xE0 (begin 1 0 ∷ delete 1 9 ∷ begin 2 0 ∷ store 2 9 5 ∷ []))
@@ -107,7 +108,7 @@ marked-examples :
     ∷ (10 ∷ 7 ∷ 0 ∷ [])
     ∷ []
 unfolding final slotBytes afterAll answersBy answerOf nextState apply plan refusal act look trail holders lostOf stopping settled settledBy isProtected lockHolders layBlock endHeld
-    dropHeld clearCard moveWrites anyLocked hasCard withCard withoutCard isWithin memberAt chainedSites membersAfter acrossRails railSites sitesOf startRow placeRows isHeld wordAt
+    dropHeld clearCard moveWrites anyLocked hasCard withCard withoutCard isWithin memberAt chainedSites membersAfter acrossRails railSites sitesOf startRow placeRows placedRow isHeld wordAt
     slotOf wordOf putSlot lockSlot endedByte endSlots tabulate members size
 marked-examples = refl
 
@@ -116,6 +117,6 @@ listing :
     answers (start (byte 0xE0) ∷ begin 1 0 ∷ store 1 9 4660 ∷ commit 1 ∷ fail 1 ∷ move 2 1 ∷ settle ∷ begin 1 0 ∷ get 1 9 ∷ fail 2 ∷ []) nothing
     ≡ (0 ∷ []) ∷ (0 ∷ []) ∷ (0 ∷ []) ∷ (0 ∷ []) ∷ (3 ∷ 0xA0 ∷ []) ∷ (6 ∷ 1 ∷ []) ∷ (7 ∷ 1 ∷ []) ∷ (0 ∷ []) ∷ (1 ∷ 4660 ∷ []) ∷ (5 ∷ []) ∷ []
 unfolding answersBy answerOf nextState apply plan refusal act look trail holders lostOf stopping settled settledBy isProtected lockHolders layBlock endHeld dropHeld clearCard
-    moveWrites anyLocked hasCard withCard withoutCard isWithin memberAt chainedSites membersAfter acrossRails railSites sitesOf startRow placeRows isHeld wordAt slotOf wordOf
+    moveWrites anyLocked hasCard withCard withoutCard isWithin memberAt chainedSites membersAfter acrossRails railSites sitesOf startRow placeRows placedRow isHeld wordAt slotOf wordOf
     putSlot lockSlot endedByte endSlots tabulate members size
 listing = refl

@@ -13,20 +13,20 @@ use Rattle.lists.specs.Tests.{In, countBelow}
 use Rattle.lists.proofs.Bools.{and-in, imp, is-not, nand, or-l, or-r, split, tf}
 use Rattle.lists.proofs.Counts.{all-below, any-below}
 use Rattle.lists.proofs.Lists.{all-in}
-use Rattle.image.specs.Layout.{cardCount, controlSize, copyCount, mostActive, mostPlaced, tranBound}
+use Rattle.image.specs.Layout.{cardCount, controlSize, copyCount, mostActive, mostPlaced, tailSize, tranBound}
 use Rattle.mask.specs.Masks.{Byte, areApart, common, hasCard, isOneMore, isWithin, isWithinEither, size, withCard}
-use Rattle.mask.specs.Placements.{Placement}
+use Rattle.mask.specs.Placements.{Placement, Usable, pairsOk}
 use Rattle.mask.proofs.Masks.{has-card, has-with, same-number}
 use Rattle.method.specs.ControlPart.{active, isOpen, part}
 use Rattle.method.specs.Rules.{lost, lostOf}
 use Rattle.method.proofs.Capacity.{Chain, ControlInv, OneMore, bounded}
 use Rattle.method.proofs.Invariant.{Form}
 use Rattle.method.proofs.Stopped.{Rests}
-use Rattle.control.specs.ControlBytes.{Part, controlByte, countIn}
-use Rattle.control_form.specs.ControlForm.{chainOk, countOk, formOk, homeOk, isSafe, masksOf, membersOk, partOk, zeroFieldsOk}
+use Rattle.control.specs.ControlBytes.{Part, controlByte, countIn, tailByte}
+use Rattle.control_form.specs.ControlForm.{chainOk, countOk, formOk, frontOk, homeOk, isSafe, keptOk, masksOf, membersOk, partOk, tablesOk, zeroFieldsOk}
 use Rattle.control_form.proofs.RoundTrip.{read-control, read-count}
 use Rattle.cabinet_rules.specs.Cabinet.{cabinet, tranOk}
-use Rattle.cabinet_rules.specs.Delivery.{belowWire, current}
+use Rattle.cabinet_rules.specs.Delivery.{byTables, current}
 use Rattle.cabinet_rules.proofs.Lawful.{ControlLaws, DeliveryLaws, lawful, no-stamps, ruleLaws}
 
 -- ---- the stop rule and the clause of the control form on it
@@ -100,7 +100,7 @@ module _ (k : Part) (f : Form cabinet k) (u : ControlInv cabinet lawful k) where
   running-ok =
       and-in _ _ (all-below cardCount _ (λ c h. nand (hasCard (k .working) c) (hasCard (k .failed) c) (f .base .apart c)))
       (and-in _ _ (all-in (λ p. membersOk (k .working) (k .failed) (p .mask)) (active k)
-      (λ p m. and-in _ _ (le-leb copyCount (size (p .mask)) (f .base .sound p m)) (all-below cardCount _ (λ c h. imp (hasCard (p .mask) c) _ (known p c m)))))
+      (λ p m. and-in _ _ (le-leb copyCount (size (p .mask)) (f .base .sound p m .enough)) (all-below cardCount _ (λ c h. imp (hasCard (p .mask) c) _ (known p c m)))))
       (and-in _ _ (room-ok (k .failed) (k .newest) (u .room .steps) (k .older) (u .room .chain) (u .room .few))
       (and-in _ _ (or-r (k .stopped) _ (all-below cardCount _ (λ c h. imp (hasCard (k .newest .mask) c) (hasCard (k .working) c) (f .newWorks c))))
       (and-in _ _ (or-r (k .stopped) _ (all-in (λ p. isSafe (k .working) (k .failed) (p .mask)) (active k)
@@ -128,7 +128,7 @@ module _ (k : Part) (r : Rests cabinet lawful k) where
   resting-ok =
       and-in _ _ (all-below cardCount _ (λ x h. nand (hasCard (k .working) x) (hasCard (k .failed) x) (r .apart x)))
       (and-in _ _ (all-in (λ p. membersOk (k .working) (k .failed) (p .mask)) (active k)
-      (λ p m. and-in _ _ (le-leb copyCount (size (p .mask)) (r .sound p m)) (all-below cardCount _ (λ x h. imp (hasCard (p .mask) x) _ (known-resting p x m)))))
+      (λ p m. and-in _ _ (le-leb copyCount (size (p .mask)) (r .sound p m .enough)) (all-below cardCount _ (λ x h. imp (hasCard (p .mask) x) _ (known-resting p x m)))))
       (and-in _ _ (room-ok (k .failed) (k .newest) (r .room .steps) (k .older) (r .room .chain) (r .room .few))
       (and-in _ _ (or-l (k .stopped) _ (r .stays))
       (and-in _ _ (or-l (k .stopped) _ (r .stays))
@@ -136,12 +136,15 @@ module _ (k : Part) (r : Rests cabinet lawful k) where
 
 -- ---- bytes that were written from a control part that meets the clauses have the control form
 pub written-form : (k : Part) → suc (length (k .older)) ≤ mostActive → ((t : ℕ) → isOpen k t ≡ true → tranOk t ≡ true) → ((t h : ℕ) → k .home t ≡ some h → h < cardCount)
-    → partOk k ≡ true → (g : ℕ → ℕ) → ((n : ℕ) → n < controlSize → g n ≡ controlByte k n) → formOk g ≡ true
-unfolding formOk countOk zeroFieldsOk
-written-form k few opens homes part g wrote =
-    let n : countIn (g 0) ≡ suc (length (k .older)) = read-count k few opens homes g wrote in
-    and-in _ _ (and-in _ _ (le-leb 1 (countIn (g 0)) (omega arith)) (le-leb (countIn (g 0)) mostActive (omega arith)))
-    (rw (read-control k few opens homes g wrote) (and-in _ _ (all-below controlSize _ (λ i h. eq-eqb (g i) (controlByte k i) (wrote i h))) part))
+    → partOk k ≡ true → ((p : Placement) → In p (active k) → Usable p) → (g t : ℕ → ℕ) → ((n : ℕ) → n < controlSize → g n ≡ controlByte k n)
+    → ((n : ℕ) → n < tailSize → t n ≡ tailByte k n) → formOk g t ≡ true
+unfolding formOk frontOk keptOk tablesOk countOk zeroFieldsOk
+written-form k few opens homes part usable g t wrote behind =
+    let n : countIn (g 0) ≡ suc (length (k .older)) = read-count k few opens homes g t wrote behind in
+    rw (read-control k few opens homes g t wrote behind) (
+    and-in _ _ (and-in _ _ (and-in _ _ (le-leb 1 (countIn (g 0)) (omega arith)) (le-leb (countIn (g 0)) mostActive (omega arith)))
+    (and-in _ _ (all-below controlSize _ (λ i h. eq-eqb (g i) (controlByte k i) (wrote i h))) part))
+    (and-in _ _ (all-below tailSize _ (λ i h. eq-eqb (t i) (tailByte k i) (behind i h))) (all-in (λ p. pairsOk (p .mask) (p .choice)) (active k) (λ p m. usable p m .pairs))))
 
 -- ---- the same of a control part in which no transaction is open
 module _ (k : Part) (shut : (t : ℕ) → k .home t ≡ none) where
@@ -151,24 +154,24 @@ module _ (k : Part) (shut : (t : ℕ) → k .home t ≡ none) where
   none-homes : (t h : ℕ) → k .home t ≡ some h → h < cardCount
   none-homes t h e = let z : _≡_ {A = Option ℕ} none (some h) = sym (shut t) ∙ e in let y : _≡_ {A = ℕ} 0 1 = cc in absurd (omega arith)
 
--- ---- A.5, the delivery in force
-pub controlLaws : ControlLaws belowWire ruleLaws
+-- ---- A.6, the delivery in force
+pub controlLaws : ControlLaws byTables ruleLaws
 controlLaws = record {
-  reads = λ k f u g t w. read-control k (few-older k f u) (u .opens) (homes k u) g (w .front);
-  formed = λ k f u g t w. written-form k (few-older k f u) (u .opens) (homes k u) (running-ok k f u) g (w .front);
-  rest-read = λ k r g t w. read-control k (few-resting k r) (none-opens k (r .shut)) (none-homes k (r .shut)) g (w .front);
-  rest-formed = λ k r g t w. written-form k (few-resting k r) (none-opens k (r .shut)) (none-homes k (r .shut)) (resting-ok k r) g (w .front);
+  reads = λ k f u g t w. read-control k (few-older k f u) (u .opens) (homes k u) g t (w .front) (w .behind);
+  formed = λ k f u g t w. written-form k (few-older k f u) (u .opens) (homes k u) (running-ok k f u) (f .base .sound) g t (w .front) (w .behind);
+  rest-read = λ k r g t w. read-control k (few-resting k r) (none-opens k (r .shut)) (none-homes k (r .shut)) g t (w .front) (w .behind);
+  rest-formed = λ k r g t w. written-form k (few-resting k r) (none-opens k (r .shut)) (none-homes k (r .shut)) (resting-ok k r) (r .sound) g t (w .front) (w .behind);
 }
   where
     homes : (k : Part) → ControlInv cabinet lawful k → (t h : ℕ) → k .home t ≡ some h → h < cardCount
     homes k u t h e = has-card (k .working) h (u .homes t h e)
 
-abbrev pub wireLaws : DeliveryLaws belowWire
-wireLaws = record {
+abbrev pub tableLaws : DeliveryLaws byTables
+tableLaws = record {
   rules = ruleLaws;
   control = controlLaws;
-  stamps = no-stamps belowWire ruleLaws (λ m n. refl);
+  stamps = no-stamps byTables ruleLaws (λ m n. refl);
 }
 
 abbrev pub currentLaws : DeliveryLaws current
-currentLaws = wireLaws
+currentLaws = tableLaws

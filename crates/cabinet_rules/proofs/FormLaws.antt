@@ -27,11 +27,11 @@ use Rattle.method.proofs.Invariant.{Form}
 use Rattle.method.proofs.Stopped.{Rests}
 use Rattle.control.specs.ControlBytes.{controlOf, countIn, homeIn, placementAt, homeAt}
 use Rattle.control_form.specs.ControlForm.{controlForm, homeOk, isSafe, membersOk, chainOk, masksOf}
-use Rattle.control_form.proofs.RoundTrip.{Clauses, form-count, form-part, part-clauses}
+use Rattle.control_form.proofs.RoundTrip.{Clauses, form-count, form-pairs, form-part, part-clauses}
 use Rattle.control.proofs.Struct.{length-placements}
 use Rattle.control.proofs.Fields.{shown-home}
 use Rattle.cabinet_rules.specs.Cabinet.{cabinet, tranOk}
-use Rattle.cabinet_rules.specs.Images.{Image, controlIn}
+use Rattle.cabinet_rules.specs.Images.{Image, controlIn, tailIn}
 use Rattle.cabinet_rules.proofs.Form.{length-masks, safe-is}
 use Rattle.cabinet_rules.proofs.Lawful.{lawful}
 
@@ -70,15 +70,18 @@ chain-steps limit d newest (p ∷ l) lo e = go (split (ltb limit (suc (suc (leng
 
 module _ (g : Image) (form : controlForm g ≡ true) where
   clauses : Clauses (controlIn g)
-  clauses = part-clauses (controlIn g) (form-part (λ n. getD g n 0) form)
+  clauses = part-clauses (controlIn g) (form-part (λ n. getD g n 0) (tailIn g) form)
 
   members-of : (p : Placement) → In p (active (controlIn g)) → membersOk (controlIn g .working) (controlIn g .failed) (p .mask) ≡ true
   members-of p m = all-out (λ p. membersOk (controlIn g .working) (controlIn g .failed) (p .mask)) (active (controlIn g)) p (clauses .members) m
 
-  -- an active placement has as many members as copies
+  -- an active placement has as many members as copies, and pairs of different members where it is by table
   pub usable-active : (p : Placement) → In p (active (controlIn g)) → Usable p
   unfolding membersOk
-  usable-active p m = leb-true leastMembers (size (p .mask)) (and-l (leb leastMembers (size (p .mask))) (isWithinEither (p .mask) (controlIn g .working) (controlIn g .failed)) (members-of p m))
+  usable-active p m = record {
+    enough = leb-true leastMembers (size (p .mask)) (and-l (leb leastMembers (size (p .mask))) (isWithinEither (p .mask) (controlIn g .working) (controlIn g .failed)) (members-of p m));
+    pairs = form-pairs (λ n. getD g n 0) (tailIn g) form p m;
+  }
 
   -- the newest is active
   pub newest-usable : Usable (controlIn g .newest)
@@ -107,7 +110,7 @@ module _ (g : Image) (form : controlForm g ≡ true) where
   site-works p b c m hb e = go (split (hasCard (controlIn g .working) c))
     where
       h : hasCard (p .mask) c ≡ true
-      h = site-member p b c (usable-active p m) e
+      h = site-member p b c (usable-active p m) hb e
 
       go : (hasCard (controlIn g .working) c ≡ true) ⊎ (hasCard (controlIn g .working) c ≡ false) → not (hasCard (controlIn g .failed) c) ≡ hasCard (controlIn g .working) c
       go (inl on) = rw (on, works-not-failed c on)
@@ -122,7 +125,7 @@ module _ (g : Image) (form : controlForm g ≡ true) where
 
   -- and so every site of it
   pub newest-site-works : controlIn g .stopped ≡ false → (b c : ℕ) → b < blockCount → elem c (sitesOf (controlIn g .newest) b) ≡ true → hasCard (controlIn g .working) c ≡ true
-  newest-site-works running b c hb e = newest-member-works running c (site-member (controlIn g .newest) b c newest-usable e)
+  newest-site-works running b c hb e = newest-member-works running c (site-member (controlIn g .newest) b c newest-usable hb e)
 
   -- and no active placement is lost
   pub not-lost : controlIn g .stopped ≡ false → (p : Placement) → In p (active (controlIn g)) → lost cabinet (controlIn g) p ≡ false
@@ -153,7 +156,7 @@ module _ (g : Image) (form : controlForm g ≡ true) where
 
   -- an open transaction has its number in range
   open-in-range : (t : ℕ) → isOpen (controlIn g) t ≡ true → tranOk t ≡ true
-  open-in-range t o = go (tranOk t) (sym (ap isSome (shown-home (λ n. getD g n 0) t)) ∙ o)
+  open-in-range t o = go (tranOk t) (sym (ap isSome (shown-home (λ n. getD g n 0) (tailIn g) t)) ∙ o)
     where
       go : (r : Bool) → isSome (cond r (homeIn (getD g (homeAt t) 0)) none) ≡ true → r ≡ true
       go true e = refl
@@ -178,8 +181,8 @@ module _ (g : Image) (form : controlForm g ≡ true) where
   unfolding controlOf
   few-older =
       let n : ℕ = countIn (getD g 0 0) in
-      let c : n ≤ mostActive = form-count (λ n. getD g n 0) form .1 in
-      let l : length (controlIn g .older) ≡ n - 1 = length-placements (placementAt (λ n. getD g n 0)) (n - 1) in
+      let c : n ≤ mostActive = form-count (λ n. getD g n 0) (tailIn g) form .1 in
+      let l : length (controlIn g .older) ≡ n - 1 = length-placements (placementAt (λ n. getD g n 0) (tailIn g)) (n - 1) in
       omega (arith, c, l)
 
   pub resting : controlIn g .stopped ≡ true → Rests cabinet lawful (controlIn g)

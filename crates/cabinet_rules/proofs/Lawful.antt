@@ -4,9 +4,9 @@ use borrow.Author.Tests.{leb-false, lt-ltb, ltb-false, ltb-true}
 use lib.Dec.{eqb, leb, ltb}
 use lib.ListN.{length, length-append, take}
 use mathlib.Core.Bool.{Bool, _||_, cond, false, not, true}
-use mathlib.Core.List.{[], _++_, _∷_}
+use mathlib.Core.List.{List, [], _++_, _∷_}
 use mathlib.Core.Option.{Option, none, some}
-use mathlib.Core.Path.{_∙_, _≡_, ap, refl}
+use mathlib.Core.Path.{_∙_, _≡_, ap, refl, sym}
 use native.Mathlib.Omega.{arith}
 use Rattle.lists.specs.Tests.{distinct, elem}
 use Rattle.lists.proofs.Bools.{and-r, imp-out, nor-l, nor-r, not-not-is}
@@ -14,7 +14,10 @@ use Rattle.lists.proofs.Counts.{below-all}
 use Rattle.image.specs.Layout.{blockCount, cardCount, controlSize, copyCount, leastMembers, mostPlaced, recordCount, slotCount, tranBound, valueBound}
 use Rattle.mask.specs.Masks.{Byte, hasCard, isWithin, size, withoutCard}
 use Rattle.mask.proofs.Masks.{has-card, has-none, has-with, has-without}
-use Rattle.mask.proofs.SiteLaws.{site-count, site-distinct, site-member}
+use Rattle.mask.specs.Placements.{Usable, placed}
+use Rattle.mask.proofs.SiteLaws.{placed-sites, placed-usable, site-count, site-distinct, site-member}
+use Rattle.table_lines.specs.Lines.{hasGap, hasOverlap, linesWork}
+use Rattle.table_lines.proofs.Accepted.{table-members, table-usable, table-working}
 use Rattle.slot.specs.Blocks.{BlockBytes, endSlots, freshBlock, lockSlot, slotAt}
 use Rattle.slot.specs.Words.{entryOf, freedSlot, lockedSlot, slotOf, stateOf}
 use Rattle.slot.specs.declared.Slot.{Slot as Fields}
@@ -30,8 +33,10 @@ use Rattle.method.proofs.Legal.{Legal}
 use Rattle.method.proofs.Refusals.{row-clear}
 use Rattle.method.proofs.Stopped.{Rests}
 use Rattle.cabinet_rules.specs.Cabinet.{cabinet, placeRows, rulesOf, slotSeen, startRow, tranOk}
-use Rattle.control.specs.ControlBytes.{Setting}
-use Rattle.cabinet_rules.specs.Delivery.{Delivery, PartOf, againByRails, belowWire, brokenWire, current, railed, storable}
+use Rattle.control.specs.ControlBytes.{Part, Setting}
+use Rattle.cabinet_rules.specs.Delivery.{Delivery, PartOf, brokenWire, byTables, current, storable}
+use Rattle.cabinet_rules.specs.Places.{PlaceArgument, againByRails, argumentRows, byLines, byMask, placedRow, placementOf, tableRows}
+use Rattle.cabinet_rules.specs.Retired.{againMarked, railed}
 
 -- ---- slots, as the rules see them
 -- what the rules see of a slot's fields
@@ -118,12 +123,19 @@ pub record RuleLaws (D : Delivery) : Type 0 where
   pub value-fits : (n : ℕ) → D .valueInRange n ≡ true → n < valueBound
   pub numbers : NumberLaws D
 
+-- There is room for one placement more.
+placed-few : {A S : Type 0} (k : ControlPart Byte A Setting S) → placedRow k ≡ 0 → suc (suc (length (k .older))) ≤ mostPlaced
+unfolding placedRow
+placed-few k e =
+    let h : length (k .older ++ (k .newest ∷ [])) < mostPlaced = leb-false mostPlaced (length (active k)) (row-clear (leb mostPlaced (length (active k))) 9 e .0) in
+    omega (arith, h, length-append (k .older) (k .newest ∷ []))
+
 -- An accepted mask of place.
 module _ {A S : Type 0} (isAgain : A → Byte → Bool) (k : ControlPart Byte A Setting S) (m : Byte) (e : placeRows isAgain k m ≡ 0) where
   bad : Bool
   bad = not (isWithin m (k .working)) || isAgain (k .newest) m
 
-  rows : ((ltb (size m) leastMembers || bad) ≡ false) × (row 10 (leb mostPlaced (length (active k))) 0 ≡ 0)
+  rows : ((ltb (size m) leastMembers || bad) ≡ false) × (placedRow k ≡ 0)
   unfolding placeRows bad
   rows = row-clear (ltb (size m) leastMembers || (not (isWithin m (k .working)) || isAgain (k .newest) m)) 8 e
 
@@ -138,9 +150,7 @@ module _ {A S : Type 0} (isAgain : A → Byte → Bool) (k : ControlPart Byte A 
       (has-card m c h)) h
 
   pub mask-few : suc (suc (length (k .older))) ≤ mostPlaced
-  mask-few =
-      let h : length (k .older ++ (k .newest ∷ [])) < mostPlaced = leb-false mostPlaced (length (active k)) (row-clear (leb mostPlaced (length (active k))) 9 (rows .1) .0) in
-      omega (arith, h, length-append (k .older) (k .newest ∷ []))
+  mask-few = placed-few k (rows .1)
 
 module _ (D : Delivery) (S : RuleLaws D) where
   -- the placement made of a mask with members enough
@@ -221,25 +231,71 @@ pub record DeliveryLaws (D : Delivery) : Type 0 where
   pub control : ControlLaws D rules
   pub stamps : StampLaws D rules
 
--- ---- since A.1, whatever values store takes that a slot has room for
+-- ---- A.1 to A.5, whatever values store takes that a slot has room for
 pub railedRules : (values : ℕ → Bool) → ((n : ℕ) → values n ≡ true → n < valueBound) → RuleLaws (railed values)
 railedRules values fits = record {
-  site-count = λ p b u h. site-count p b;
-  site-member = λ p b c u h e. site-member p b c u e;
-  site-distinct = λ p b u h. site-distinct p b u;
+  site-count = λ q b u h. ap length (sym (placed-sites q b)) ∙ site-count (placed q) b;
+  site-member = λ q b c u h e. site-member (placed q) b c (placed-usable q u) h (ap (elem c) (placed-sites q b) ∙ e);
+  site-distinct = λ q b u h. ap distinct (sym (placed-sites q b)) ∙ site-distinct (placed q) b (placed-usable q u) h;
   mask-back = λ m. refl;
   made-usable = λ m h. h;
-  place-usable = mask-members againByRails;
-  place-members = mask-members againByRails;
-  place-working = λ k m c e h. mask-working againByRails k m e c h;
-  place-few = mask-few againByRails;
+  place-usable = mask-members againMarked;
+  place-members = mask-members againMarked;
+  place-working = λ k m c e h. mask-working againMarked k m e c h;
+  place-few = mask-few againMarked;
   value-fits = fits;
   numbers = not-numbered (railed values) (λ k. tt);
 }
 
--- ---- A.5, the delivery in force
-pub ruleLaws : RuleLaws belowWire
-ruleLaws = railedRules storable (λ n e. let h : n < brokenWire = ltb-true n brokenWire e in omega arith)
+-- ---- A.6, the delivery in force
+pub storable-fits : (n : ℕ) → storable n ≡ true → n < valueBound
+storable-fits n e = let h : n < brokenWire = ltb-true n brokenWire e in omega arith
+
+-- An accepted table: its lines are of different working cards, every block is in a line, and there is room.
+module _ (k : Part) (l : List ℕ) (e : tableRows k l ≡ 0) where
+  from-9 : (not (linesWork (k .working) l) ≡ false) × (row 17 (hasGap l) (row 18 (hasOverlap l) (placedRow k)) ≡ 0)
+  unfolding tableRows
+  from-9 = row-clear (not (linesWork (k .working) l)) 8 e
+
+  works : linesWork (k .working) l ≡ true
+  works = not-not-is (linesWork (k .working) l) (from-9 .0)
+
+  from-17 : (hasGap l ≡ false) × (row 18 (hasOverlap l) (placedRow k) ≡ 0)
+  from-17 = row-clear (hasGap l) 16 (from-9 .1)
+
+  room : placedRow k ≡ 0
+  room = row-clear (hasOverlap l) 17 (from-17 .1) .1
+
+arg-usable : (k : Part) (a : PlaceArgument) → argumentRows k a ≡ 0 → Usable (placementOf a)
+arg-usable k (byMask m) e = record { enough = mask-members againByRails k m e; pairs = refl }
+arg-usable k (byLines l) e = table-usable l (k .working) (works k l e) (from-17 k l e .0)
+
+arg-members : (k : Part) (a : PlaceArgument) → argumentRows k a ≡ 0 → copyCount ≤ size (placementOf a .mask)
+arg-members k (byMask m) e = mask-members againByRails k m e
+arg-members k (byLines l) e = table-members l (k .working) (works k l e) (from-17 k l e .0)
+
+arg-working : (k : Part) (a : PlaceArgument) (c : ℕ) → argumentRows k a ≡ 0 → hasCard (placementOf a .mask) c ≡ true → hasCard (k .working) c ≡ true
+arg-working k (byMask m) c e h = mask-working againByRails k m e c h
+arg-working k (byLines l) c e h = table-working l (k .working) (works k l e) c h
+
+arg-few : (k : Part) (a : PlaceArgument) → argumentRows k a ≡ 0 → suc (suc (length (k .older))) ≤ mostPlaced
+arg-few k (byMask m) e = mask-few againByRails k m e
+arg-few k (byLines l) e = placed-few k (room k l e)
+
+pub ruleLaws : RuleLaws byTables
+ruleLaws = record {
+  site-count = λ p b u h. site-count p b;
+  site-member = λ p b c u h e. site-member p b c u h e;
+  site-distinct = λ p b u h. site-distinct p b u h;
+  mask-back = λ m. refl;
+  made-usable = λ m h. record { enough = h; pairs = refl };
+  place-usable = arg-usable;
+  place-members = arg-members;
+  place-working = arg-working;
+  place-few = arg-few;
+  value-fits = storable-fits;
+  numbers = not-numbered byTables (λ k. tt);
+}
 
 abbrev pub lawful : Laws cabinet
 lawful = lawfulBy current ruleLaws

@@ -15,6 +15,7 @@ pub mod OneRecordList
 pub mod FormStays
 pub mod GoesOn
 pub mod Retired
+pub mod Wire
 pub mod TwoRails
 pub mod Base
 pub mod Earlier

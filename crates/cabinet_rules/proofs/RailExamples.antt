@@ -15,17 +15,18 @@ use Rattle.method.specs.Rules.{fail, get, holders, isProtected, layBlock, lockH
 use Rattle.method.specs.Rules.{nextState, place, plan, refusal, settle, settled, start, stopping, store, trail}
 use Rattle.control.specs.ControlBytes.{controlByte}
 use Rattle.cabinet_rules.specs.Cabinet.{cabinet, placeRows, rulesOf, startRow}
-use Rattle.cabinet_rules.specs.Delivery.{belowWire, twoRails}
-use Rattle.cabinet_rules.specs.Retired.{base}
-use Rattle.cabinet_rules.specs.GoesOn.{fromBase, fromRails}
+use Rattle.cabinet_rules.specs.Places.{byMask, placedRow}
+use Rattle.cabinet_rules.specs.Delivery.{byTables}
+use Rattle.cabinet_rules.specs.Retired.{base, belowWire, twoRails}
+use Rattle.cabinet_rules.specs.GoesOn.{fromBase, fromRails, fromWire}
 use Rattle.cabinet_rules.proofs.GoesOn.{growthOf}
 use Rattle.cabinet_rules.proofs.Examples.{answers, answersBy}
 
 -- An older store: the base's start with cards 0, 1, 4 and 5, and record 0, in block 0, stored as 4660 and committed.
 older : State cabinet
 unfolding rulesAfter
-older = grownState (rulesOf twoRails) (growthOf twoRails belowWire fromRails) (grownState (rulesOf base) (growthOf base twoRails fromBase)
-    (rulesAfter (rulesOf base) (start (byte 0xCC) ∷ begin 1 0 ∷ store 1 0 4660 ∷ commit 1 ∷ []) (zeroed (rulesOf base) noCards)))
+older = grownState (rulesOf belowWire) (growthOf belowWire byTables fromWire) (grownState (rulesOf twoRails) (growthOf twoRails belowWire fromRails)
+    (grownState (rulesOf base) (growthOf base twoRails fromBase) (rulesAfter (rulesOf base) (start (byte 0xCC) ∷ begin 1 0 ∷ store 1 0 4660 ∷ commit 1 ∷ []) (zeroed (rulesOf base) noCards))))
 
 -- Byte 7 after calls.
 marks : List (Call cabinet) → State cabinet → ℕ
@@ -37,10 +38,10 @@ marks l s = controlByte (rulesAfter cabinet l s .control) 7
 rail-examples :
     (marks (start (byte 0xCC) ∷ []) (zeroed cabinet noCards) ∷ [])
     ∷ (marks [] older ∷ [])
-    ∷ (marks (place (byte 0xCC) ∷ []) older ∷ [])
+    ∷ (marks (place (byMask (byte 0xCC)) ∷ []) older ∷ [])
     ∷ (marks (fail 1 ∷ []) older ∷ [])
-    ∷ (marks (place (byte 0xCC) ∷ move 0 0 ∷ move 1 0 ∷ settle ∷ []) older ∷ [])
-    ∷ answers (place (byte 0xCC) ∷ place (byte 0xCC) ∷ move 0 0 ∷ settle ∷ move 1 0 ∷ settle ∷ begin 2 0 ∷ get 2 0 ∷ []) older
+    ∷ (marks (place (byMask (byte 0xCC)) ∷ move 0 0 ∷ move 1 0 ∷ settle ∷ []) older ∷ [])
+    ∷ answers (place (byMask (byte 0xCC)) ∷ place (byMask (byte 0xCC)) ∷ move 0 0 ∷ settle ∷ move 1 0 ∷ settle ∷ begin 2 0 ∷ get 2 0 ∷ []) older
     ≡ (0x80 ∷ [])
     ∷ (0x00 ∷ [])
     ∷ (0x40 ∷ [])
@@ -50,5 +51,5 @@ rail-examples :
     ∷ []
 unfolding older marks rulesAfter controlByte answersBy answerOf nextState apply plan refusal act look trail holders lostOf stopping settled settledBy isProtected lockHolders
     layBlock endHeld dropHeld clearCard moveWrites anyLocked hasCard withCard withoutCard isWithin memberAt chainedSites membersAfter acrossRails railSites sitesOf startRow
-    placeRows isHeld wordAt slotOf wordOf putSlot lockSlot endedByte endSlots tabulate members size
+    placeRows placedRow isHeld wordAt slotOf wordOf putSlot lockSlot endedByte endSlots tabulate members size
 rail-examples = refl

@@ -10,9 +10,9 @@ use Rattle.lists.specs.Tests.{allIn, elem}
 use Rattle.lists.proofs.Bools.{and-l, and-r, imp-out, split}
 use Rattle.lists.proofs.Counts.{below-all}
 use Rattle.image.specs.Layout.{blockCount, cardCount}
-use Rattle.mask.specs.Placements.{memberAt, onOneRail, railOf, sitesOf}
+use Rattle.mask.specs.Placements.{onOneRail, railOf, sitesOf}
 use Rattle.mask.proofs.Masks.{has-card}
-use Rattle.mask.proofs.SiteLaws.{Pair, pair-of, secondSite}
+use Rattle.mask.proofs.SiteLaws.{TwoSites, two-sites}
 use Rattle.slot.specs.Blocks.{isHeld}
 use Rattle.method.specs.Rules.{settledBy}
 use Rattle.method.specs.Rules.{View, settled, settledAt}
@@ -44,9 +44,9 @@ module _ (k : Part) (v : View cabinet) (done : settled cabinet k v ≡ true) (b 
 pub copy-on-each-rail : CopyOnEachRail
 unfolding CopyOnEachRail
 copy-on-each-rail k v done u marked both b c hb hc on rail h =
-    let x : ℕ = memberAt (k .newest .mask) b in
-    let y : ℕ = secondSite (k .newest) b in
-    let two : Pair (k .newest) b x y = pair-of (k .newest) b u in
+    let two : TwoSites (k .newest) b = two-sites (k .newest) b u hb in
+    let x : ℕ = two .first in
+    let y : ℕ = two .second in
     let hold : (isHeld (v x b) && (isHeld (v y b) && true)) ≡ true = rw (two .listed) at (sites-hold k v done b c hb hc on) in
     one-of-two (λ z. isHeld (v z b)) x y rail (has-card (k .newest .mask) x (two .first-member)) (has-card (k .newest .mask) y (two .second-member))
     (two .two-rails marked both) (and-l (isHeld (v x b)) (isHeld (v y b) && true) hold) (and-l (isHeld (v y b)) true (and-r (isHeld (v x b)) (isHeld (v y b) && true) hold)) h

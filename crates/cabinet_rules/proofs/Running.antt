@@ -7,7 +7,6 @@ use mathlib.Core.Bool.{_&&_, false, not, true}
 use mathlib.Core.Logic.{_⊎_, inl, inr}
 use mathlib.Core.Path.{_≡_, refl, sym}
 use Rattle.lists.proofs.Bools.{not-not-is, split}
-use native.Mathlib.Omega.{arith}
 use Rattle.image.specs.Layout.{imageSize}
 use Rattle.slot.specs.Blocks.{emptyBlock}
 use Rattle.method.specs.Rules.{isStart, Call, answerOf, begin, commit, delete, fail, fit, get, load, look, move, nextState, place, rollback, row}
@@ -16,11 +15,11 @@ use Rattle.method.proofs.Refusals.{row-clear}
 use Rattle.method.proofs.Legal.{Legal, is-resting, is-running}
 use Rattle.method.proofs.Run.{Beside}
 use Rattle.control_form.specs.ControlForm.{controlForm, formRefusal, formRows}
-use Rattle.control_form.proofs.RoundTrip.{control-back}
+use Rattle.control_form.proofs.RoundTrip.{control-back, tail-back}
 use Rattle.cabinet_rules.specs.Cabinet.{cabinet}
 use Rattle.cabinet_rules.specs.ByTheRules.{CallsByTheRules, RunsByTheRules}
 use Rattle.cabinet_rules.specs.Delivery.{current}
-use Rattle.cabinet_rules.specs.Images.{Image, answer, controlIn, next, stateBy, stateIn}
+use Rattle.cabinet_rules.specs.Images.{Image, answer, controlIn, next, stateBy, stateIn, tailIn}
 use Rattle.cabinet_rules.proofs.Form.{currentLaws}
 use Rattle.cabinet_rules.proofs.FormLaws.{resting, running-form, running-inv}
 use Rattle.cabinet_rules.proofs.Lawful.{lawful}
@@ -50,7 +49,7 @@ formed-legible g long form = record {
   part = controlIn g;
   legal = go (split (controlIn g .stopped));
   long = long;
-  wrote = record { front = λ n h. sym (control-back (λ n. getD g n 0) form n h); behind = λ n h. absurd (omega arith) };
+  wrote = record { front = λ n h. sym (control-back (λ n. getD g n 0) (tailIn g) form n h); behind = λ n h. sym (tail-back (λ n. getD g n 0) (tailIn g) form n h) };
 }
   where
     go : (controlIn g .stopped ≡ true) ⊎ (controlIn g .stopped ≡ false) → Legal cabinet lawful (controlIn g)

@@ -19,19 +19,21 @@ use Rattle.method.proofs.Twins.{Agreed, agreed-after, agreed-grown, agreed-next
 use Rattle.cabinet_rules.specs.ByTheRules.{noiseBy, noisedBy}
 use Rattle.cabinet_rules.specs.Cabinet.{cabinet, rulesOf, slotSeen}
 use Rattle.cabinet_rules.specs.Claims.{NoisyCallBy, imageAfter, imageAfterBy, noisyBy}
-use Rattle.cabinet_rules.specs.Delivery.{Delivery, belowWire, current, twoRails}
-use Rattle.cabinet_rules.specs.GoesOn.{BegunBy, EarlierImage, ImageLeftBy, StoreBy, Succession, fromBase, fromRails}
+use Rattle.cabinet_rules.specs.Converting.{longer}
+use Rattle.cabinet_rules.specs.Delivery.{Delivery, byTables, current}
+use Rattle.cabinet_rules.specs.GoesOn.{BegunBy, EarlierImage, ImageLeftBy, StoreBy, Succession, fromBase, fromRails, fromWire}
 use Rattle.cabinet_rules.specs.Images.{Image, answerBy, blockIn, controlIn, next, nextBy, stateBy, stateIn}
-use Rattle.cabinet_rules.specs.Retired.{base}
+use Rattle.cabinet_rules.specs.Retired.{base, belowWire, twoRails}
 use Rattle.cabinet_rules.specs.Twins.{TwinsAgreeFromEarlier, TwinsAgreeOnImages, TwinsOn}
 use Rattle.cabinet_rules.proofs.Base.{base-carried, base-retired, baseLaws}
-use Rattle.cabinet_rules.proofs.Form.{currentLaws, wireLaws}
+use Rattle.cabinet_rules.proofs.Form.{currentLaws}
 use Rattle.cabinet_rules.proofs.GoesOn.{Carries, Follows, growthOf, keeps, legible-grown, state-grown}
 use Rattle.cabinet_rules.proofs.Lawful.{DeliveryLaws, lawful, lawfulBy}
 use Rattle.cabinet_rules.proofs.Legible.{Legible, legible-noise, state-noise}
 use Rattle.cabinet_rules.proofs.Sound.{start-sound}
 use Rattle.cabinet_rules.proofs.Transport.{legible-next, state-after, state-next}
 use Rattle.cabinet_rules.proofs.TwoRails.{railLaws, rails-carried, rails-retired}
+use Rattle.cabinet_rules.proofs.Wire.{wire-carried, wire-retired, wireLaws}
 
 -- ---- an image whose state has twins that agree, and stay so
 module _ (D : Delivery) (W : DeliveryLaws D) where
@@ -87,12 +89,16 @@ module _ (E D : Delivery) (S : Succession E D) (F : Follows E D S) (K : Delivery
 base-agreed : (g : Image) → ImageLeftBy base (λ g. ⊥) g → AgreedImage base baseLaws g
 base-agreed = left-agreed base baseLaws (λ g. ⊥) (λ g e. absurd e)
 
-rails-agreed : (g : Image) → EarlierImage g → AgreedImage twoRails railLaws g
+rails-agreed : (g : Image) → ImageLeftBy twoRails (ImageLeftBy base (λ g. ⊥)) g → AgreedImage twoRails railLaws g
 rails-agreed = left-agreed twoRails railLaws (ImageLeftBy base (λ g. ⊥))
     (λ g e. image-grown base twoRails fromBase (base-retired .follows) baseLaws railLaws base-carried g (base-agreed g e))
 
-pub earlier-agreed : (g : Image) → EarlierImage g → AgreedImage current currentLaws g
-earlier-agreed g e = image-grown twoRails belowWire fromRails (rails-retired .follows) railLaws wireLaws rails-carried g (rails-agreed g e)
+wire-agreed : (g : Image) → EarlierImage g → AgreedImage belowWire wireLaws g
+wire-agreed = left-agreed belowWire wireLaws (ImageLeftBy twoRails (ImageLeftBy base (λ g. ⊥)))
+    (λ g e. image-grown twoRails belowWire fromRails (rails-retired .follows) railLaws wireLaws rails-carried g (rails-agreed g e))
+
+pub earlier-agreed : (g : Image) → EarlierImage g → AgreedImage current currentLaws (longer g)
+earlier-agreed g e = image-grown belowWire byTables fromWire (wire-retired .follows) wireLaws currentLaws wire-carried g (wire-agreed g e)
 
 -- ---- by the delivery in force, in the image's own terms
 block-shown : (g : Image) (c b : ℕ) → hasCard (controlIn g .working) c ≡ true → b < blockCount → stateIn g .block c b ≡ blockIn g c b
@@ -120,4 +126,4 @@ twins-agree-on-images m before e l =
 -- and going on from an image that earlier deliveries left
 pub twins-agree-from-earlier : TwinsAgreeFromEarlier
 unfolding TwinsAgreeFromEarlier
-twins-agree-from-earlier g e l = twins-on (imageAfter l g) (after-agreed current currentLaws l g (earlier-agreed g e))
+twins-agree-from-earlier g e l = twins-on (imageAfter l (longer g)) (after-agreed current currentLaws l (longer g) (earlier-agreed g e))

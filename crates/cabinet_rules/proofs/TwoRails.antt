@@ -4,12 +4,12 @@ use borrow.Author.Tests.{ltb-true}
 use mathlib.Core.List.{List, [], _∷_, map}
 use mathlib.Core.Path.{_∙_, _≡_, ap, refl, sym}
 use Rattle.image.specs.Layout.{valueBound}
-use Rattle.mask.specs.Placements.{Placement}
+use Rattle.mask.specs.Placements.{Masked}
 use Rattle.method.specs.ControlPart.{part}
-use Rattle.control.specs.ControlBytes.{Part, controlByte}
-use Rattle.cabinet_rules.specs.Delivery.{anyValue, belowWire, twoRails}
+use Rattle.cabinet_rules.specs.Delivery.{PartOf}
+use Rattle.cabinet_rules.specs.Retired.{anyValue, belowWire, twoRails}
 use Rattle.cabinet_rules.specs.GoesOn.{fromRails, partNow}
-use Rattle.cabinet_rules.proofs.Form.{wireLaws}
+use Rattle.cabinet_rules.proofs.Wire.{wireLaws}
 use Rattle.cabinet_rules.proofs.GoesOn.{Carries, carries-same}
 use Rattle.cabinet_rules.proofs.Lawful.{DeliveryLaws, RuleLaws, no-stamps, railedRules}
 use Rattle.cabinet_rules.proofs.Retired.{Retired, retired-control}
@@ -18,15 +18,15 @@ pub railRules : RuleLaws twoRails
 railRules = railedRules anyValue (λ n e. ltb-true n valueBound e)
 
 -- ---- a control part stays as it is
-same-list : (l : List Placement) → map (λ (p : Placement). p) l ≡ l
+same-list : (l : List Masked) → map (λ (p : Masked). p) l ≡ l
 same-list [] = refl
-same-list (p ∷ l) = ap (λ (t : List Placement). p ∷ t) (same-list l)
+same-list (p ∷ l) = ap (λ (t : List Masked). p ∷ t) (same-list l)
 
-same-part : (k : Part) → partNow twoRails belowWire fromRails k ≡ k
-same-part k = ap (λ (l : List Placement). part (k .stopped) l (k .newest) (k .working) (k .failed) (k .home) (k .setting) (k .serial)) (same-list (k .older))
+same-part : (k : PartOf twoRails) → partNow twoRails belowWire fromRails k ≡ k
+same-part k = ap (λ (l : List Masked). part (k .stopped) l (k .newest) (k .working) (k .failed) (k .home) (k .setting) (k .serial)) (same-list (k .older))
 
-same-byte : (k : Part) (n : ℕ) → controlByte k n ≡ controlByte (partNow twoRails belowWire fromRails k) n
-same-byte k n = ap (λ (x : Part). controlByte x n) (sym (same-part k))
+same-byte : (k : PartOf twoRails) (n : ℕ) → twoRails .memory .bytes k n ≡ belowWire .memory .bytes (partNow twoRails belowWire fromRails k) n
+same-byte k n = ap (λ (x : PartOf twoRails). twoRails .memory .bytes x n) (sym (same-part k))
 
 pub rails-retired : Retired twoRails belowWire fromRails
 rails-retired = record {

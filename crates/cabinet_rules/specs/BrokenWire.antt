@@ -8,7 +8,8 @@ use Rattle.image.specs.Layout.{imageSizeOf}
 use Rattle.method.specs.Rules.{Call, refused, store}
 use Rattle.control_form.specs.ControlForm.{formRowsOf}
 use Rattle.cabinet_rules.specs.Cabinet.{rulesOf}
-use Rattle.cabinet_rules.specs.Delivery.{belowWire, brokenWire, twoRails}
+use Rattle.cabinet_rules.specs.Delivery.{brokenWire}
+use Rattle.cabinet_rules.specs.Retired.{belowWire, twoRails}
 use Rattle.cabinet_rules.specs.Images.{Image, answerBy, formBy, nextBy}
 
 -- On every image, reached by calls or not, a store of 65,535 is refused 1 or 2 as every call is, and else 3, whether the

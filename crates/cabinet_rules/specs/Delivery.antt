@@ -1,15 +1,15 @@
--- What the deliveries of this cabinet differ in; those since A.1, and which of them is in force. Assumes nothing.
+-- What the deliveries of this cabinet differ in, and the one in force. Assumes nothing.
 use Prim.Native.Nat.{ℕ}
-use lib.Dec.{eqb, ltb}
-use mathlib.Core.Bool.{Bool, _&&_, true}
+use lib.Dec.{ltb}
+use mathlib.Core.Bool.{Bool}
 use mathlib.Core.List.{List}
-use Rattle.image.specs.Layout.{Layout, valueBound}
+use Rattle.image.specs.Layout.{Layout, layout as currentLayout}
 use Rattle.mask.specs.Masks.{Byte}
 use Rattle.mask.specs.Placements.{Placement, Usable, fromMask, sitesOf}
-use Rattle.method.specs.ControlPart.{ControlPart, part}
-use Rattle.control.specs.ControlBytes.{Serial, Setting, controlByte, controlOf}
+use Rattle.method.specs.ControlPart.{ControlPart}
+use Rattle.control.specs.ControlBytes.{Serial, Setting, controlByte, controlOf, tailByte}
 use Rattle.control_form.specs.ControlForm.{formOk}
-use Rattle.cabinet_rules.specs.Places.{placeRows}
+use Rattle.cabinet_rules.specs.Places.{PlaceArgument, argumentInRange, argumentRows, placementOf}
 
 -- How an image keeps a store: the layout, the control bytes that are written, at the front and behind the tables, the
 -- control part that such bytes show, and their control form.
@@ -53,19 +53,23 @@ pub record Delivery : Type 1 where
 abbrev pub PartOf : Delivery → Type 0
 PartOf D = ControlPart Byte (D .Placement) Setting (D .Serial)
 
--- ---- A.1 to A.5
--- Nothing lies behind the blocks of a table, nor behind the tables.
-abbrev pub bare : Layout
-bare = record { tableTail = 0; imageTail = 0 }
+-- ---- A.5: the values that store takes
+-- New feeder drives read this value as a broken wire, and store takes the values below it.
+abbrev pub brokenWire : ℕ
+brokenWire = 65535
 
--- The control bytes are those of the code; a card has no stamp.
-abbrev pub railMemory : Memory Placement Serial
-railMemory = record {
-  layout = bare;
+abbrev pub storable : ℕ → Bool
+storable n = ltb n brokenWire
+
+-- ---- A.6, the delivery in force
+-- The control bytes are those of the code, before and behind the tables; a card has no stamp.
+abbrev pub tableMemory : Memory Placement Serial
+tableMemory = record {
+  layout = currentLayout;
   bytes = controlByte;
-  tail = λ k n. 0;
-  part = λ g t. controlOf g;
-  form = λ g t. formOk g;
+  tail = tailByte;
+  part = controlOf;
+  form = formOk;
   Stamp = Unit {0};
   noStamp = tt;
   stampOf = λ k. tt;
@@ -73,13 +77,10 @@ railMemory = record {
   stampIn = λ g. tt;
 }
 
--- Place refuses the newest mask again where that one is marked 1: it may be placed anew by rails.
-abbrev pub againByRails : Placement → Byte → Bool
-againByRails newest m = newest .byRails && eqb (m .0) (newest .mask .0)
-
--- Sites are by the placement's mark, and start, place and fail write 1; store takes the values given here.
-abbrev pub railed : (ℕ → Bool) → Delivery
-railed values = record {
+-- Sites are by the placement's own choice. Start and fail place by rails; place does so with a mask, and by table with
+-- lines.
+abbrev pub byTables : Delivery
+byTables = record {
   Placement = Placement;
   mask = λ p. p .mask;
   sites = sitesOf;
@@ -89,31 +90,13 @@ railed values = record {
   firstSerial = tt;
   nextSerial = λ ν. tt;
   numbered = λ k. Unit {0};
-  PlaceArgument = Byte;
-  places = λ newest m. fromMask m;
-  placeInRange = λ m. true;
-  placeRefusal = placeRows againByRails;
-  valueInRange = values;
-  memory = railMemory;
+  PlaceArgument = PlaceArgument;
+  places = λ newest a. placementOf a;
+  placeInRange = argumentInRange;
+  placeRefusal = argumentRows;
+  valueInRange = storable;
+  memory = tableMemory;
 }
 
--- A.1 to A.4: every value that a slot has room for.
-abbrev pub anyValue : ℕ → Bool
-anyValue n = ltb n valueBound
-
-abbrev pub twoRails : Delivery
-twoRails = railed anyValue
-
--- A.5: new feeder drives read this value as a broken wire, and store takes the values below it.
-abbrev pub brokenWire : ℕ
-brokenWire = 65535
-
-abbrev pub storable : ℕ → Bool
-storable n = ltb n brokenWire
-
-abbrev pub belowWire : Delivery
-belowWire = railed storable
-
--- ---- the delivery in force
 abbrev pub current : Delivery
-current = belowWire
+current = byTables

@@ -1,11 +1,13 @@
 -- Demand 3 on images that earlier deliveries left: what a store may have come through, and the statements. Assumes
 -- nothing.
 use Prim.Native.Nat.{ℕ}
+use lib.ListN.{length}
 use mathlib.Core.List.{List}
 use mathlib.Core.Logic.{_⊎_}
 use mathlib.Core.Path.{_≡_}
+use Rattle.image.specs.Layout.{imageSize}
 use Rattle.mask.specs.Masks.{Byte}
-use Rattle.mask.specs.Placements.{olderFromMask}
+use Rattle.mask.specs.Placements.{olderFromMask, placed}
 use Rattle.method.specs.ControlPart.{partBy}
 use Rattle.method.specs.OneRecordList.{plainAfter, rulesAfter, runPlain, zeroed}
 use Rattle.method.specs.PlainList.{PlainList, plainStart}
@@ -14,8 +16,9 @@ use Rattle.control_form.specs.ControlForm.{formRefusal}
 use Rattle.cabinet_rules.specs.Cabinet.{cabinet, rulesOf}
 use Rattle.cabinet_rules.specs.Claims.{NoStopBy, NoisyCall, NoisyCallBy, imageAfter, imageAfterBy, imageCalls}
 use Rattle.cabinet_rules.specs.Claims.{imageCallsBy, runImage}
-use Rattle.cabinet_rules.specs.Delivery.{Delivery, PartOf, belowWire, current, twoRails}
-use Rattle.cabinet_rules.specs.Retired.{base}
+use Rattle.cabinet_rules.specs.Converting.{convertRefusal, longer}
+use Rattle.cabinet_rules.specs.Delivery.{Delivery, PartOf, byTables, current}
+use Rattle.cabinet_rules.specs.Retired.{base, belowWire, twoRails}
 use Rattle.cabinet_rules.specs.Images.{Image, answerBy, nextBy}
 
 -- ---- a store by a delivery
@@ -114,16 +117,28 @@ fromRails = record { older = λ p. p; olderSerial = λ ν. ν; olderStamps = λ 
 abbrev pub BeforeWire : StoreBy belowWire → Type 0
 BeforeWire = TakenOver twoRails belowWire fromRails LeftByRails
 
+-- Those that calls by A.5 left.
+abbrev pub LeftByWire : StoreBy belowWire → Type 0
+LeftByWire = LeftBy belowWire BeforeWire
+
+-- Those that A.6 has from the earlier ones. Their placements are by rails or as the base chose, and the converter made
+-- their images longer.
+abbrev pub fromWire : Succession belowWire byTables
+fromWire = record { older = placed; olderSerial = λ ν. ν; olderStamps = λ k m. m; carry = longer }
+
+abbrev pub BeforeTables : StoreBy byTables → Type 0
+BeforeTables = TakenOver belowWire byTables fromWire LeftByWire
+
 -- Those that the delivery in force has from the earlier ones.
 abbrev pub Store : Type 0
 Store = StoreBy current
 
 abbrev pub Earlier : Store → Type 0
-Earlier = BeforeWire
+Earlier = BeforeTables
 
 -- The images that the earlier ones left, of running and of stopped stores.
 abbrev pub EarlierImage : Image → Type 0
-EarlierImage = ImageLeftBy twoRails (ImageLeftBy base (λ g. ⊥))
+EarlierImage = ImageLeftBy belowWire (ImageLeftBy twoRails (ImageLeftBy base (λ g. ⊥)))
 
 -- DEMAND 3, going on from a store that earlier deliveries left: the calls since are answered as by the plain record list
 -- that was fed all calls.
@@ -133,4 +148,8 @@ GoesOnFromEarlier = (s : Store) → Earlier s → (l : List NoisyCall)
 
 -- There too refusals 1 and 2 never come again, whether the store runs or has stopped, by earlier calls or since.
 unfoldable pub FormStaysFromEarlier : Type 0
-FormStaysFromEarlier = (g : Image) → EarlierImage g → (l : List NoisyCall) → formRefusal (imageAfter l g) ≡ 0
+FormStaysFromEarlier = (g : Image) → EarlierImage g → (l : List NoisyCall) → formRefusal (imageAfter l (longer g)) ≡ 0
+
+-- And the converter takes them all.
+unfoldable pub ConvertsEarlier : Type 0
+ConvertsEarlier = (g buffer : Image) → EarlierImage g → length buffer ≡ imageSize → convertRefusal g buffer ≡ 0

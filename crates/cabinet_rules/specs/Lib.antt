@@ -6,6 +6,7 @@ pub mod Claims
 pub mod ByTheRules
 pub mod Rails
 pub mod Retired
+pub mod Converting
 pub mod GoesOn
 pub mod BrokenWire
 pub mod Protection

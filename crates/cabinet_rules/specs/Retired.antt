@@ -1,15 +1,20 @@
--- Deliveries whose memory a later one replaced, written over it; the base, which A.1 retired. Assumes nothing.
+-- Deliveries whose memory a later one replaced, written over it: A.1 to A.5, which A.6 retired, and the base, which A.1
+-- retired. Assumes nothing.
 use Prim.Native.Nat.{_≤_, ℕ}
-use lib.Dec.{eqb}
-use mathlib.Core.Bool.{Bool, _&&_, cond, true}
+use lib.Dec.{eqb, ltb}
+use mathlib.Core.Bool.{Bool, _&&_, cond, false, true}
 use Rattle.lists.specs.Tests.{allBelow}
-use Rattle.image.specs.Layout.{controlSize, copyCount}
+use Rattle.image.specs.Layout.{Layout, controlSize, copyCount, valueBound}
 use Rattle.mask.specs.Masks.{Byte, size}
-use Rattle.mask.specs.Placements.{Placement, chainedSites, olderFromMask}
+use Rattle.mask.specs.Placements.{Enough, Masked, Placement, chainedSites, isByRails, maskSites, olderFromMask, placed}
 use Rattle.method.specs.ControlPart.{ControlPart, partBy}
 use Rattle.control.specs.ControlBytes.{Serial, Setting, marksAt}
-use Rattle.cabinet_rules.specs.Delivery.{Delivery, Memory, anyValue, bare, railMemory}
+use Rattle.cabinet_rules.specs.Delivery.{Delivery, Memory, storable, tableMemory}
 use Rattle.cabinet_rules.specs.Places.{placeRows}
+
+-- Nothing lies behind the blocks of a table, nor behind the tables.
+abbrev pub bare : Layout
+bare = record { tableTail = 0; imageTail = 0 }
 
 -- ---- a memory that a later one replaced
 -- The later memory is M. It tells older placements and serials by older and olderSerial, and back and backSerial give
@@ -55,9 +60,60 @@ module _ {A S B T : Type 0} (M : Memory B T) (R : Retirement A S B T) where
     stampIn = λ g. tt;
   }
 
+-- ---- before A.6
+-- Nothing lay behind the blocks of a table, nor behind the tables, and no placement was by table. A.6 added no byte before
+-- the tables: the marks for tables were zero bits.
+abbrev pub beforeTables : Retirement Masked Serial Placement Serial
+beforeTables = record {
+  older = placed;
+  olderSerial = λ ν. ν;
+  back = λ p. record { mask = p .mask; byRails = isByRails (p .choice) };
+  backSerial = λ ν. ν;
+  added = λ n. false;
+  filled = λ n. 0;
+}
+
+abbrev pub railMemory : Memory Masked Serial
+railMemory = retired tableMemory beforeTables
+
+-- Place refused the newest mask again where that placement was marked 1: it could be placed anew by rails.
+abbrev pub againMarked : Masked → Byte → Bool
+againMarked newest m = newest .byRails && eqb (m .0) (newest .mask .0)
+
+-- A.1 to A.5: sites are by the placement's mark, and start, place and fail write 1; store takes the values given here.
+abbrev pub railed : (ℕ → Bool) → Delivery
+railed values = record {
+  Placement = Masked;
+  mask = λ q. q .mask;
+  sites = maskSites;
+  usable = λ q. Enough (q .mask);
+  fromMask = λ m. record { mask = m; byRails = true };
+  Serial = Serial;
+  firstSerial = tt;
+  nextSerial = λ ν. tt;
+  numbered = λ k. Unit {0};
+  PlaceArgument = Byte;
+  places = λ newest m. record { mask = m; byRails = true };
+  placeInRange = λ m. true;
+  placeRefusal = placeRows againMarked;
+  valueInRange = values;
+  memory = railMemory;
+}
+
+-- A.5: store takes the values below the broken wire's.
+abbrev pub belowWire : Delivery
+belowWire = railed storable
+
+-- A.1 to A.4: every value that a slot has room for.
+abbrev pub anyValue : ℕ → Bool
+anyValue n = ltb n valueBound
+
+abbrev pub twoRails : Delivery
+twoRails = railed anyValue
+
 -- ---- the base: the rules before the first request
 -- A.1 added the marks, and tells the base's placements with none.
-abbrev pub beforeMarks : Retirement Byte Serial Placement Serial
+abbrev pub beforeMarks : Retirement Byte Serial Masked Serial
 beforeMarks = record {
   older = olderFromMask;
   olderSerial = λ ν. ν;

@@ -1,26 +1,27 @@
 -- The refusal rows of fit, withdraw and place in the values that the code has, and what an accepted call has shown. Assumes nothing.
 use Prim.Native.Nat.{_-_, _<_, _≤_, ℕ}
-use borrow.Author.Tests.{le-leb, le-ltb, leb-false, leb-true, lt-leb, lt-ltb, ltb-true}
+use borrow.Author.Tests.{le-leb, leb-false, lt-leb, lt-ltb, ltb-true}
 use lib.Dec.{eqb, leb, ltb}
-use lib.ListN.{length}
-use mathlib.Core.Bool.{Bool, _||_, false, not, true}
-use mathlib.Core.Logic.{_⊎_, _≢_, inl, inr}
-use mathlib.Core.List.{[], _++_, _∷_}
+use lib.ListN.{length, length-map}
+use mathlib.Core.Bool.{Bool, _&&_, _||_, false, not, true}
+use mathlib.Core.Logic.{_≢_}
+use mathlib.Core.List.{List, [], _++_, _∷_, map}
 use mathlib.Core.Path.{_∙_, _≡_, ap, ap₂, refl, sym}
 use native.Mathlib.Omega.{arith}
-use Rattle.lists.specs.Tests.{anyBelow}
+use Rattle.lists.specs.Tests.{anyBelow, anyIn}
 use Rattle.image.specs.Layout.{cardCount, leastMembers, mostPlaced, tranBound, mostActive}
-use Rattle.lists.proofs.Bools.{split}
 use Rattle.mask.specs.Masks.{Byte, byte, hasCard, isWithin, size}
-use Rattle.method.specs.ControlPart.{begunAt}
+use Rattle.mask.specs.Placements.{Choice, Placement, byRails, byTable, chained, isByRails, pairless, pairlessChoice}
+use Rattle.method.specs.ControlPart.{active, begunAt}
 use Rattle.method.specs.PlainList.{noBlocks}
 use Rattle.method.specs.Rules.{Call, View, fit, inActive, place, refusal, row, withdraw}
 use Rattle.method.proofs.Refusals.{row-3, row-clear}
-use Rattle.control.specs.ControlBytes.{Part, placementsIn}
+use Rattle.control.specs.ControlBytes.{Part, frontPart, placementsIn}
+use Rattle.control.proofs.Front.{active-front}
 use Rattle.control.specs.Meaning.{Counted, meaning, placementIn}
 use Rattle.control.proofs.Struct.{active-is, length-placements}
 use Rattle.cabinet_rules.specs.Cabinet.{cabinet, placeRows}
-use Rattle.cabinet_rules.specs.Delivery.{againByRails}
+use Rattle.cabinet_rules.specs.Places.{againByRails, byMask, placedRow}
 use Rattle.promise.specs.Rows.{cardRows}
 use Rattle.promise.proofs.SharedRows.{card-accepted}
 use Rattle.tables.specs.Tables.{setOf}
@@ -40,9 +41,40 @@ module _ (k : Part) (v : View cabinet) where
   unfolding refusal
   withdraw-rows c = refl
 
-  pub place-rows : (m : Byte) → rowsOf (place m) k ≡ refusal cabinet (place m) k v
+  pub place-rows : (m : Byte) → rowsOf (place (byMask m)) k ≡ refusal cabinet (place (byMask m)) k v
   unfolding refusal
   place-rows m = refl
+
+-- ---- they ask nothing of pairs
+rails-front : (c : Choice) → isByRails (pairlessChoice c) ≡ isByRails c
+rails-front chained = refl
+rails-front byRails = refl
+rails-front (byTable x) = refl
+
+any-front : (f : Byte → Bool) (l : List Placement) → anyIn (λ p. f (p .mask)) (map pairless l) ≡ anyIn (λ p. f (p .mask)) l
+any-front f [] = refl
+any-front f (p ∷ l) = ap (λ (b : Bool). f (p .mask) || b) (any-front f l)
+
+module _ (k : Part) where
+  active-front-is : (c : ℕ) → inActive cabinet (frontPart k) c ≡ inActive cabinet k c
+  active-front-is c = ap (anyIn (λ (p : Placement). hasCard (p .mask) c)) (sym (active-front k)) ∙ any-front (λ m. hasCard m c) (active k)
+
+  count-front : length (active (frontPart k)) ≡ length (active k)
+  count-front = ap length (sym (active-front k)) ∙ length-map (active k) pairless
+
+  pub fit-front : (c : ℕ) → rowsOf (fit c) (frontPart k) ≡ rowsOf (fit c) k
+  unfolding refusal
+  fit-front c = ap (λ (a : Bool). row 3 (not (ltb c cardCount)) (row 4 (k .stopped) (row 8 (hasCard (k .working) c || a) 0))) (active-front-is c)
+
+  pub withdraw-front : (c : ℕ) → rowsOf (withdraw c) (frontPart k) ≡ rowsOf (withdraw c) k
+  unfolding refusal
+  withdraw-front c = ap (λ (a : Bool). row 3 (not (ltb c cardCount)) (row 4 (k .stopped) (row 8 (not (hasCard (k .working) c) || a) (row 14 (anyBelow tranBound (begunAt k c)) 0)))) (active-front-is c)
+
+  pub place-front : (m : Byte) → rowsOf (place (byMask m)) (frontPart k) ≡ rowsOf (place (byMask m)) k
+  unfolding refusal placeRows placedRow
+  place-front m = ap₂ (λ (r : Bool) (n : ℕ). row 4 (k .stopped)
+      (row 9 (ltb (size m) leastMembers || (not (isWithin m (k .working)) || (r && eqb (m .0) (k .newest .mask .0)))) (row 10 (leb mostPlaced n) 0)))
+      (rails-front (k .newest .choice)) count-front
 
 -- ---- by the code's tests
 -- fit: in range, stopped, working, in an active placement
@@ -74,14 +106,6 @@ module _ (k : Part) (c n : ℕ) (e : n ≡ cardRows k c) where
       go : (a s w o : Bool) (below : ℕ) → a ≡ true → s ≡ false → w ≡ true → row 8 o below ≡ row 3 (not a) (row 4 s (row 8 (not w || o) below))
       go a s w o below p q r = rw (p, q, r)
 
--- under two members is not usable
-few : (m : Byte) → ltb (size m) leastMembers ≡ not (leb leastMembers (size m))
-few m = go (split (leb leastMembers (size m)))
-  where
-    go : (leb leastMembers (size m) ≡ true) ⊎ (leb leastMembers (size m) ≡ false) → ltb (size m) leastMembers ≡ not (leb leastMembers (size m))
-    go (inl e) = rw e (le-ltb (size m) leastMembers (leb-true leastMembers (size m) e))
-    go (inr e) = rw e (lt-ltb (size m) leastMembers (leb-false leastMembers (size m) e))
-
 -- place: the number of each return, by the tests that lead there
 module _ (k : Struct) (c : Counted k) (m : ℕ) where
   abbrev again : Bool
@@ -90,43 +114,42 @@ module _ (k : Struct) (c : Counted k) (m : ℕ) where
   abbrev pub works : Bool
   works = isWithin (byte m) (byte (k .working))
 
-  abbrev pub usable : Bool
-  usable = leb leastMembers (size (byte m))
+  abbrev pub few : Bool
+  few = ltb (size (byte m)) leastMembers
 
   -- the rows over the tests in the code's values
-  by-tests : row 4 (k .stopped) (row 9 (not usable || (not works || again)) (row 10 (leb mostPlaced (k .count)) 0)) ≡ rowsOf (place (byte m)) (meaning k)
-  unfolding refusal placeRows meaning
+  by-tests : row 4 (k .stopped) (row 9 (few || (not works || again)) (row 10 (leb mostPlaced (k .count)) 0)) ≡ rowsOf (place (byMask (byte m))) (meaning k)
+  unfolding refusal placeRows placedRow meaning
   by-tests =
-      let rest : Bool = not works || again in
-      ap₂ (λ (b : Bool) (n : ℕ). row 4 (k .stopped) (row 9 (b || rest) (row 10 (leb mostPlaced n) 0))) (sym (few (byte m))) (sym count-is)
+      ap (λ (n : ℕ). row 4 (k .stopped) (row 9 (few || (not works || again)) (row 10 (leb mostPlaced n) 0))) (sym count-is)
     where
       count-is : length (placementsIn (placementIn k) (k .count - 1) ++ (placementIn k (k .count - 1) ∷ [])) ≡ k .count
       count-is = ap length (active-is k c) ∙ length-placements (placementIn k) (k .count)
 
-  tests-at : (s u w a f : Bool) → k .stopped ≡ s → usable ≡ u → works ≡ w → again ≡ a → leb mostPlaced (k .count) ≡ f
-      → row 4 s (row 9 (not u || (not w || a)) (row 10 f 0)) ≡ rowsOf (place (byte m)) (meaning k)
+  tests-at : (s u w a f : Bool) → k .stopped ≡ s → few ≡ u → works ≡ w → again ≡ a → leb mostPlaced (k .count) ≡ f
+      → row 4 s (row 9 (u || (not w || a)) (row 10 f 0)) ≡ rowsOf (place (byMask (byte m))) (meaning k)
   tests-at s u w a f es eu ew ea ef = rw (sym es, sym eu, sym ew, sym ea, sym ef) by-tests
 
-  pub says-4 : k .stopped ≡ true → 4 ≡ rowsOf (place (byte m)) (meaning k)
-  says-4 es = tests-at true usable works again _ es refl refl refl refl
+  pub says-4 : k .stopped ≡ true → 4 ≡ rowsOf (place (byMask (byte m))) (meaning k)
+  says-4 es = tests-at true few works again _ es refl refl refl refl
 
   module _ (run : k .stopped ≡ false) where
-    pub few-says-9 : usable ≡ false → 9 ≡ rowsOf (place (byte m)) (meaning k)
-    few-says-9 eu = tests-at false false works again _ run eu refl refl refl
+    pub few-says-9 : few ≡ true → 9 ≡ rowsOf (place (byMask (byte m))) (meaning k)
+    few-says-9 eu = tests-at false true works again _ run eu refl refl refl
 
-    module _ (eu : usable ≡ true) where
-      pub idle-says-9 : works ≡ false → 9 ≡ rowsOf (place (byte m)) (meaning k)
-      idle-says-9 ew = tests-at false true false again _ run eu ew refl refl
+    module _ (eu : few ≡ false) where
+      pub idle-says-9 : works ≡ false → 9 ≡ rowsOf (place (byMask (byte m))) (meaning k)
+      idle-says-9 ew = tests-at false false false again _ run eu ew refl refl
 
       module _ (ew : works ≡ true) where
-        pub again-says-9 : again ≡ true → 9 ≡ rowsOf (place (byte m)) (meaning k)
-        again-says-9 ea = tests-at false true true true _ run eu ew ea refl
+        pub again-says-9 : again ≡ true → 9 ≡ rowsOf (place (byMask (byte m))) (meaning k)
+        again-says-9 ea = tests-at false false true true _ run eu ew ea refl
 
-        pub full-says-10 : again ≡ false → mostPlaced ≤ k .count → 10 ≡ rowsOf (place (byte m)) (meaning k)
-        full-says-10 ea h = tests-at false true true false true run eu ew ea (le-leb mostPlaced (k .count) h)
+        pub full-says-10 : again ≡ false → mostPlaced ≤ k .count → 10 ≡ rowsOf (place (byMask (byte m))) (meaning k)
+        full-says-10 ea h = tests-at false false true false true run eu ew ea (le-leb mostPlaced (k .count) h)
 
-        pub room-says-0 : again ≡ false → k .count < mostPlaced → 0 ≡ rowsOf (place (byte m)) (meaning k)
-        room-says-0 ea h = tests-at false true true false false run eu ew ea (lt-leb mostPlaced (k .count) h)
+        pub room-says-0 : again ≡ false → k .count < mostPlaced → 0 ≡ rowsOf (place (byMask (byte m))) (meaning k)
+        room-says-0 ea h = tests-at false false true false false run eu ew ea (lt-leb mostPlaced (k .count) h)
 
 -- ---- what an accepted call has shown
 pub fit-range : (k : Part) (c : ℕ) → 0 ≡ rowsOf (fit c) k → c < cardCount
@@ -137,8 +160,8 @@ pub withdraw-range : (k : Part) (c : ℕ) → 0 ≡ rowsOf (withdraw c) k → c 
 unfolding refusal
 withdraw-range k c e = ltb-true c cardCount (row-3 (ltb c cardCount) (sym e) .0)
 
-pub place-few : (k : Struct) → Counted k → (m : Byte) → 0 ≡ rowsOf (place m) (meaning k) → k .count < mostActive
-unfolding refusal placeRows meaning
+pub place-few : (k : Struct) → Counted k → (m : Byte) → 0 ≡ rowsOf (place (byMask m)) (meaning k) → k .count < mostActive
+unfolding refusal placeRows placedRow meaning
 place-few k c m e =
     let bad : Bool = ltb (size m) leastMembers || (not (isWithin m (byte (k .working))) || againByRails (placementIn k (k .count - 1)) m) in
     let full : Bool = leb mostPlaced (length (placementsIn (placementIn k) (k .count - 1) ++ (placementIn k (k .count - 1) ∷ []))) in

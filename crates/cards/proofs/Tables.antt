@@ -1,16 +1,16 @@
 -- Tables that are zeroed, as blocks that are written. Assumes nothing.
 use Prim.Native.Nat.{_+_, _<_, ℕ}
-use borrow.Author.Tests.{eq-eqb, le-ltb, lt-ltb, ne-eqb}
-use lib.Dec.{eqb, ltb}
+use borrow.Author.Tests.{ne-eqb}
+use lib.Dec.{eqb}
 use lib.ListN.{getD}
 use mathlib.Core.Bool.{cond}
 use mathlib.Core.List.{List}
-use mathlib.Core.Logic.{_≢_, _⊎_, inl, inr}
+use mathlib.Core.Logic.{_≢_}
 use mathlib.Core.Option.{Option, none, some}
 use mathlib.Core.Path.{_∙_, _≡_, ap, refl, sym}
 use native.Mathlib.Omega.{arith}
 use Rattle.lists.proofs.Bools.{eqb-self}
-use Rattle.lists.proofs.Cases.{by-eq, lt-eq-gt}
+use Rattle.lists.proofs.Cases.{by-eq}
 use Rattle.lists.proofs.Segments.{getD-after}
 use Rattle.image.specs.Layout.{blockSize, blockStart, cardCount, layout, tableSize, tableStart, tailStartOf}
 use Rattle.image.specs.Parts.{Whole, blockAt, putTable, zeros}
@@ -22,11 +22,10 @@ use Rattle.method.specs.Rules.{clearCard, updated}
 use Rattle.cabinet_rules.specs.Cabinet.{cabinet}
 use Rattle.cabinet_rules.specs.Images.{Image, Writes, blockIn, tailIn}
 use Rattle.promise.specs.Laid.{laid}
-use Rattle.promise.proofs.Laid.{laid-block, laid-control, laid-ext, laid-none, laid-same, laid-tail, whole-laid}
-use Rattle.cards.specs.Clearing.{cleared}
+use Rattle.promise.proofs.Laid.{laid-block, laid-control, laid-ext, laid-none, laid-tail, whole-laid}
 
 -- card c's blocks are empty, the others as w has them
-abbrev pub emptied : ℕ → Writes → Writes
+abbrev emptied : ℕ → Writes → Writes
 emptied c w d b = cond (eqb d c) (some emptyBlock) (w d b)
 
 -- what lies behind the tables stays
@@ -35,7 +34,7 @@ unfolding putTable
 tail-kept w g c hc n h = getD-after (laid w g) (tableStart c) (zeros tableSize) (tailStartOf layout + n)
     (omega (arith, whole-laid w g, length-zeros tableSize)) (omega (arith, length-zeros tableSize)) ∙ laid-tail w g n h
 
-pub laid-table : (w : Writes) (g : Image) (c : ℕ) → c < cardCount → putTable (laid w g) c (zeros tableSize) ≡ laid (emptied c w) g
+laid-table : (w : Writes) (g : Image) (c : ℕ) → c < cardCount → putTable (laid w g) c (zeros tableSize) ≡ laid (emptied c w) g
 laid-table w g c hc = laid-ext (emptied c w) g (putTable (laid w g) c (zeros tableSize)) long
     (λ n h. sym (byte-of-control (putTable (laid w g) c (zeros tableSize)) n h)
     ∙ ap (λ (l : List ℕ). getD l n 0) (control-put-table (laid w g) (whole-laid w g) c hc (zeros tableSize) (length-zeros tableSize))
@@ -58,23 +57,3 @@ laid-table w g c hc = laid-ext (emptied c w) g (putTable (laid w g) c (zeros tab
 pub one-table : (g : Image) → Whole g → (c : ℕ) → c < cardCount → putTable g c (zeros tableSize) ≡ laid (clearCard cabinet c) g
 unfolding clearCard
 one-table g long c hc = ap (λ (i : Image). putTable i c (zeros tableSize)) (laid-none (λ d b. none) g long (λ d b hd hb. refl)) ∙ laid-table (λ d b. none) g c hc
-
--- ---- all tables, one after the other
-abbrev pub emptyTo : ℕ → Writes
-emptyTo i c b = cond (ltb c i) (some emptyBlock) none
-
-pub none-emptied : (g : Image) → Whole g → g ≡ laid (emptyTo 0) g
-none-emptied g long = laid-none (emptyTo 0) g long (λ c b hc hb. rw (le-ltb c 0 (omega arith)))
-
-pub one-emptied : (g : Image) (i : ℕ) → i < cardCount → putTable (laid (emptyTo i) g) i (zeros tableSize) ≡ laid (emptyTo (i + 1)) g
-one-emptied g i hi = laid-table (emptyTo i) g i hi
-    ∙ laid-same (emptied i (emptyTo i)) g (emptyTo (i + 1)) (λ c b hc hb. ap (λ (o : Option BlockBytes). updated o (blockIn g c b)) (go c b (lt-eq-gt c i)))
-  where
-    go : (c b : ℕ) → (c < i) ⊎ ((c ≡ i) ⊎ (i < c)) → emptied i (emptyTo i) c b ≡ emptyTo (i + 1) c b
-    go c b (inl h) = rw (ne-eqb c i (λ e. omega arith), lt-ltb c i h, lt-ltb c (i + 1) (omega arith))
-    go c b (inr (inl e)) = rw (eq-eqb c i e, lt-ltb c (i + 1) (omega arith))
-    go c b (inr (inr h)) = rw (ne-eqb c i (λ e. omega arith), le-ltb c i (omega arith), le-ltb c (i + 1) (omega arith))
-
-pub all-emptied : (g : Image) → laid (emptyTo cardCount) g ≡ cleared g
-unfolding cleared
-all-emptied g = laid-same (emptyTo cardCount) g (λ c b. some emptyBlock) (λ c b hc hb. rw (lt-ltb c cardCount hc))

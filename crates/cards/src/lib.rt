@@ -6,31 +6,17 @@ ghost use Rattle.image.specs.Parts.{Whole};
 ghost use Rattle.method.specs.Rules.{clearCard, inActive, refusal, fit, withdraw, place};
 ghost use Rattle.method.specs.PlainList.{noBlocks};
 ghost use Rattle.mask.specs.Masks.{byte};
-ghost use Rattle.mask.specs.Placements.{meant};
 ghost use Rattle.control.specs.Meaning.{Counted, meaning, putControl};
 ghost use Rattle.cabinet_rules.specs.Cabinet.{cabinet};
-ghost use Rattle.cabinet_rules.specs.Delivery.{againByRails};
+ghost use Rattle.cabinet_rules.specs.Places.{againByRails, byMask};
 ghost use Rattle.promise.specs.Promise.{Done, asked};
 ghost use Rattle.promise.specs.declared.Call.{Call};
 ghost use Rattle.promise.specs.Laid.{laid};
-ghost use Rattle.cards.specs.Clearing.{cleared};
 use control::Control;
 use control::codec;
 use image::Card;
 use mask::Placement;
 use promise::Answer;
-
-// All tables are zeroed.
-fn clear_tables(image: &mut [u8])
-    requires { ⌜ Whole (now image) ⌝ }
-    ensures { λ _. ⌜ now (image .exit) ≡ cleared (now (image .entry)) ⌝ }
-{
-    let mut c: u8 = 0;
-    while c < Placement::MOST_CARDS {
-        image::clear_table(image, Card(c));
-        c += 1;
-    }
-}
 
 // All zero, then the mask's cards work and are the one placement. Older contents are not examined.
 pub fn start(image: &mut [u8], mask: u8) -> Answer
@@ -39,12 +25,11 @@ pub fn start(image: &mut [u8], mask: u8) -> Answer
     if image.len() != image::IMAGE_SIZE {
         return Answer::Refused(1);
     }
-    let first = Placement::from_mask(mask);
-    if !first.is_usable() {
+    if mask::members(mask) < image::LEAST_MEMBERS {
         return Answer::Refused(9);
     }
-    clear_tables(image);
-    codec::write(image, Control::started(first));
+    image::clear(image);
+    codec::write(image, Control::started(mask));
     Answer::Ok
 }
 
@@ -147,31 +132,32 @@ pub fn withdraw(image: &mut [u8], card: Card) -> Answer
     Answer::Ok
 }
 
-// Whether the placement is the one that a place of this mask makes.
-fn is_again(newest: Placement, mask: u8) -> bool
-    ensures { λ r. ⌜ r ≡ againByRails (meant newest) (byte mask) ⌝ }
+// Whether the newest placement is the one that a place of this mask makes.
+fn is_again(k: Control, mask: u8) -> bool
+    requires { ⌜ Counted k ⌝ }
+    ensures { λ r. ⌜ r ≡ againByRails (meaning k .newest) (byte mask) ⌝ }
 {
-    if !newest.rails {
+    if mask != k.newest_mask() {
         return false;
     }
-    mask == newest.mask
+    k.newest_by_rails()
 }
 
 // The rows of place from 4 on.
-fn place_refusal(k: Control, placement: Placement) -> u8
+fn place_refusal(k: Control, mask: u8) -> u8
     requires { ⌜ Counted k ⌝ }
-    ensures { λ r. ⌜ r ≡ refusal cabinet (place (meant placement .mask)) (meaning k) (noBlocks cabinet) ⌝ }
+    ensures { λ r. ⌜ r ≡ refusal cabinet (place (byMask (byte mask))) (meaning k) (noBlocks cabinet) ⌝ }
 {
     if k.stopped {
         return 4;
     }
-    if !placement.is_usable() {
+    if mask::members(mask) < image::LEAST_MEMBERS {
         return 9;
     }
-    if !mask::within(placement.mask, k.working) {
+    if !mask::within(mask, k.working) {
         return 9;
     }
-    if is_again(k.newest(), placement.mask) {
+    if is_again(k, mask) {
         return 9;
     }
     if k.count >= image::MOST_PLACED {
@@ -180,7 +166,7 @@ fn place_refusal(k: Control, placement: Placement) -> u8
     0
 }
 
-// The mask becomes the newest placement.
+// The mask becomes the newest placement, by rails.
 pub fn place(image: &mut [u8], mask: u8) -> Answer
     ensures { λ r. ⌜ Done (asked (Call.Place mask)) (now (image .entry)) r (now (image .exit)) ⌝ }
 {
@@ -189,11 +175,10 @@ pub fn place(image: &mut [u8], mask: u8) -> Answer
         return Answer::Refused(found.refusal);
     }
     let k = found.control;
-    let placement = Placement::from_mask(mask);
-    let refusal = place_refusal(k, placement);
+    let refusal = place_refusal(k, mask);
     if refusal != 0 {
         return Answer::Refused(refusal);
     }
-    codec::write(image, k.add(placement));
+    codec::write(image, k.add(mask));
     Answer::Ok
 }

@@ -9,7 +9,7 @@ use Rattle.cabinet_rules.specs.Images.{Image, answer, next}
 use Rattle.command.specs.Meaning.{commandAnswer, commandNext}
 
 -- The kind of each answer, and its number: 0 where it has none. Kinds 11 and 12 are of the move list (ListCodes), 12 and 13 of
--- questions (ToldCodes); 14 is no kind.
+-- questions (ToldCodes), 14 is of calls that fill lent bytes (FilledCodes).
 unfoldable pub kindOf : Answer cabinet → ℕ
 kindOf ok = 0
 kindOf (value n) = 1

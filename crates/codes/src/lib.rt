@@ -1,14 +1,16 @@
 // Answers as numbers of 32 bits, for callers in other languages.
 ghost use mathlib.Core.Path.{_≡_};
 ghost use Prim.Native.Nat.{_<_};
-ghost use Rattle.promise.specs.Promise.{shown};
+ghost use Rattle.promise.specs.Promise.{shown, shownFilled};
 ghost use Rattle.move_list.specs.Promise.{shownList};
 ghost use Rattle.codes.specs.Codes.{codeOf, coded};
 ghost use Rattle.codes.specs.CommandCodes.{formCode};
+ghost use Rattle.codes.specs.FilledCodes.{filledCode};
 ghost use Rattle.codes.specs.ListCodes.{listCode};
 ghost use Rattle.codes.specs.ToldCodes.{toldCode};
 use move_list::Listed;
 use promise::Answer;
+use promise::Filled;
 use queries::Told;
 
 // Kinds of answers.
@@ -39,6 +41,8 @@ const LISTED: u32 = 11;
 const NONE: u32 = 12;
 
 const NUMBER: u32 = 13;
+
+const WRITTEN: u32 = 14;
 
 const REFUSED: u32 = 15;
 
@@ -95,6 +99,16 @@ pub fn told_code(told: Told) -> u32
         Told::Number(n) => pair(NUMBER, n as u16),
         Told::None => pair(NONE, 0),
         Told::Refused(n) => pair(REFUSED, n as u16),
+    }
+}
+
+// The code of an answer of a call that fills lent bytes.
+pub fn filled_code(filled: Filled) -> u32
+    ensures { λ r. ⌜ r ≡ filledCode (shownFilled filled) ⌝ }
+{
+    match filled {
+        Filled::Bytes(n) => pair(WRITTEN, n),
+        Filled::Refused(n) => pair(REFUSED, n as u16),
     }
 }
 

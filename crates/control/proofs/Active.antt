@@ -24,7 +24,7 @@ front : (n : ℕ) (f : ℕ → Bool) → (f 0 && allBelow n (λ i. f (suc i))) �
 front zero f = refl
 front (suc n) f = and-swap (f 0) (f (suc n)) (allBelow n (λ i. f (suc i))) ∙ ap (λ (b : Bool). f (suc n) && b) (front n f)
 
-all-placements : (p : Placement → Bool) (f : ℕ → Placement) (n : ℕ) → allIn p (placementsIn f n) ≡ allBelow n (λ i. p (f i))
+pub all-placements : (p : Placement → Bool) (f : ℕ → Placement) (n : ℕ) → allIn p (placementsIn f n) ≡ allBelow n (λ i. p (f i))
 all-placements p f zero = refl
 all-placements p f (suc n) = ap (λ (b : Bool). p (f 0) && b) (all-placements p (λ i. f (suc i)) n) ∙ front n (λ i. p (f i))
 

@@ -1,7 +1,7 @@
 -- The changes of the struct are the rules' changes of the control part. Assumes nothing.
 use mathlib.Core.Path.{_≡_, refl, sym, ap, ap₂, _∙_, fun-ext}
 use mathlib.Core.Logic.{_⊎_, inl, inr}
-use mathlib.Core.Bool.{Bool, true, false, _&&_, _||_, cond}
+use mathlib.Core.Bool.{Bool, true, false, _&&_, cond}
 use mathlib.Core.Option.{Option, some, none}
 use mathlib.Core.List.{List, [], _∷_}
 use Prim.Native.Nat.{ℕ, zero, suc, _+_, _-_, _*_, _/_, _%_, _<_}
@@ -10,17 +10,17 @@ use lib.Bits.{bitOr}
 use lib.Dec.{ltb, eqb}
 use lib.ListN.{getD, length, set, replicate}
 use lib.Seq.{getD-set-same, getD-set-other}
-use borrow.Author.Tests.{eqb-true, eqb-false, eq-eqb, ne-eqb, ltb-true, lt-ltb, le-leb}
-use Rattle.lists.proofs.Bools.{tf, split, and-l, and-r, and-in, or-r}
+use borrow.Author.Tests.{eqb-true, eqb-false, ltb-true, lt-ltb, le-leb}
+use Rattle.lists.proofs.Bools.{tf, split, and-l, and-r, and-in}
 use Rattle.image.specs.Layout.{cardCount, mostActive, tranBound, tranCount}
 use Rattle.mask.specs.Masks.{Byte, bitOf, byte, noCards}
-use Rattle.mask.specs.Placements.{Placement, fromMask, meant}
-use Rattle.mask.specs.declared.Placement.{Placement as Struct}
+use Rattle.mask.specs.Pairs.{noPairs}
+use Rattle.mask.specs.Placements.{Choice, Placement, byTable, fromMask, isByRails}
 use Rattle.method.specs.ControlPart.{active, isCard, begunAt, started, withHome, withCards, withPlacements, opened, closed, added, onlyNewest, halted}
-use Rattle.control.specs.ControlBytes.{field, fieldBound, homeIn, homeOf, keptAs, markIn, openBit, placementsIn}
-use Rattle.control.specs.Meaning.{placementIn, meaning, keptHome, Counted, Is}
+use Rattle.control.specs.ControlBytes.{chosenBy, field, fieldBound, homeIn, homeOf, keptAs, markIn, openBit, placementsIn, tableMarkIn}
+use Rattle.control.specs.Meaning.{cleanMarks, placementIn, meaning, newestMask, keptHome, Counted, Is}
 use Rattle.control.specs.declared.Control.{Control}
-use Rattle.control.proofs.Marks.{mark-first, mark-set}
+use Rattle.control.proofs.Marks.{chosen-rails, kind-first, marked-is, marked-same, rails-added, rails-kept, table-added, table-kept}
 use Rattle.control.proofs.Struct.{placements-same, active-is}
 
 -- The homes after a store at transaction t's place.
@@ -51,18 +51,9 @@ kept-home c b = go (isCard (homeIn b) c)
     go true = refl
     go false = refl
 
--- A test that passes already needs no more.
-no-more : (b : Bool) → (b || false) ≡ b
-no-more true = refl
-no-more false = refl
-
 -- Other homes; other working and failed cards: all else as it was.
 abbrev pub withHomes : Control → List ℕ → Control
 withHomes k l = record { stopped = k .stopped; count = k .count; masks = k .masks; working = k .working; failed = k .failed; marks = k .marks; homes = l }
-
--- A placement by rails is the one that comes from its mask.
-from-mask : (p : Struct) → p .rails ≡ true → fromMask (byte (p .mask)) ≡ meant p
-from-mask p e = λ i. record { mask = byte (p .mask); byRails = sym e i }
 
 module _ (k : Control) (w : Counted k) where
   homes-are : (l : List ℕ) (f : ℕ → Option ℕ) → ((t : ℕ) → homeOf t (getD l (t - 1) 0) ≡ f t) → Is (withHomes k l) (withHome (meaning k) f)
@@ -99,50 +90,99 @@ module _ (k : Control) (w : Counted k) where
           let b : t < tranBound = ltb-true t tranBound (and-r (ltb 0 t) (ltb t tranBound) e) in
           rw e (ap homeIn (same (t - 1) (omega arith)) ∙ kept-home c (getD (k .homes) (t - 1) 0))
 
-  pub add-is : (p : Struct) → p .rails ≡ true → length (k .masks) ≡ mostActive → k .count < mostActive
-      → Is (record {
-        stopped = k .stopped;
-        count = k .count + 1;
-        masks = set (k .masks) (k .count) (p .mask);
-        working = k .working;
-        failed = k .failed;
-        marks = bitOr (k .marks) (bitOf (k .count));
-        homes = k .homes;
-      })
-      (added (meaning k) (meant p) tt)
+  -- a placement is added: its mask and its marks, which keep the kinds of the others
+  module _ (m marks : ℕ) (n : length (k .masks) ≡ mostActive) (h : k .count < mostActive) (p : Placement)
+      (new : keptAs (k .count) m marks noPairs ≡ p)
+      (same : (i : ℕ) → i < k .count → chosenBy (tableMarkIn marks i) (markIn marks i) noPairs ≡ chosenBy (tableMarkIn (k .marks) i) (markIn (k .marks) i) noPairs) where
+    masks : List ℕ
+    masks = set (k .masks) (k .count) m
+
+    c : k .count + 1 - 1 ≡ k .count
+    c = omega arith
+
+    kept : (i : ℕ) → i < k .count → keptAs i (getD masks i 0) marks noPairs ≡ placementIn k i
+    unfolding masks
+    kept i b = ap₂ (λ (x : ℕ) (r : Choice). record { mask = byte x; choice = r }) (getD-set-other (k .masks) (k .count) i m 0 (λ e. omega arith)) (same i b)
+
+    old : placementsIn (λ i. keptAs i (getD masks i 0) marks noPairs) (k .count + 1 - 1) ≡ active (meaning k)
+    unfolding meaning
+    old = ap (placementsIn (λ i. keptAs i (getD masks i 0) marks noPairs)) c
+        ∙ placements-same (λ i. keptAs i (getD masks i 0) marks noPairs) (placementIn k) (k .count) kept ∙ sym (active-is k w)
+
+    last : keptAs (k .count + 1 - 1) (getD masks (k .count + 1 - 1) 0) marks noPairs ≡ p
+    unfolding masks
+    last = ap (λ (i : ℕ). keptAs i (getD masks i 0) marks noPairs) c
+        ∙ ap (λ (x : ℕ). keptAs (k .count) x marks noPairs) (getD-set-same (k .masks) (k .count) m 0 (omega arith)) ∙ new
+
+    pub more-is : Is (record {
+      stopped = k .stopped;
+      count = k .count + 1;
+      masks = set (k .masks) (k .count) m;
+      working = k .working;
+      failed = k .failed;
+      marks = marks;
+      homes = k .homes;
+    })
+        (added (meaning k) p tt)
+    unfolding meaning masks
+    more-is = record { counted = record { some = omega arith; few = omega arith }; means = ap₂ (withPlacements (meaning k)) old last }
+
+  module _ (m marks : ℕ) (n : length (k .masks) ≡ mostActive) (h : k .count < mostActive) (byte-marks : k .marks < 256) (clean : marks ≡ cleanMarks (k .count) (k .marks)) where
+    abbrev pub with : ℕ → Control
+    with b = record {
+      stopped = k .stopped;
+      count = k .count + 1;
+      masks = set (k .masks) (k .count) m;
+      working = k .working;
+      failed = k .failed;
+      marks = bitOr marks b;
+      homes = k .homes;
+    }
+
+    pub add-is : Is (with (bitOf (k .count))) (added (meaning k) (fromMask (byte m)) tt)
+    add-is = more-is m (bitOr marks (bitOf (k .count))) n h (fromMask (byte m))
+        (ap (λ (x : ℕ). keptAs (k .count) m (bitOr x (bitOf (k .count))) noPairs) clean
+        ∙ ap (λ (c : Choice). record { mask = byte m; choice = c })
+        (marked-is (bitOr (cleanMarks (k .count) (k .marks)) (bitOf (k .count))) (k .count) false true noPairs (rails-added (k .count) (k .marks) h byte-marks)))
+        (λ i p. ap (λ (x : ℕ). chosenBy (tableMarkIn (bitOr x (bitOf (k .count))) i) (markIn (bitOr x (bitOf (k .count))) i) noPairs) clean
+        ∙ marked-same (bitOr (cleanMarks (k .count) (k .marks)) (bitOf (k .count))) (k .marks) i noPairs (rails-kept (k .count) (k .marks) h byte-marks i p))
+
+    pub add-table-is : Is (with (bitOf (mostActive + k .count))) (added (meaning k) (record { mask = byte m; choice = byTable noPairs }) tt)
+    add-table-is = more-is m (bitOr marks (bitOf (mostActive + k .count))) n h (record { mask = byte m; choice = byTable noPairs })
+        (ap (λ (x : ℕ). keptAs (k .count) m (bitOr x (bitOf (mostActive + k .count))) noPairs) clean
+        ∙ ap (λ (c : Choice). record { mask = byte m; choice = c })
+        (marked-is (bitOr (cleanMarks (k .count) (k .marks)) (bitOf (mostActive + k .count))) (k .count) true false noPairs (table-added (k .count) (k .marks) h byte-marks)))
+        (λ i p. ap (λ (x : ℕ). chosenBy (tableMarkIn (bitOr x (bitOf (mostActive + k .count))) i) (markIn (bitOr x (bitOf (mostActive + k .count))) i) noPairs) clean
+        ∙ marked-same (bitOr (cleanMarks (k .count) (k .marks)) (bitOf (mostActive + k .count))) (k .marks) i noPairs (table-kept (k .count) (k .marks) h byte-marks i p))
+
+  -- by rails, and not by table
+  pub newest-rails : isByRails (meaning k .newest .choice) ≡ cond (tableMarkIn (k .marks) (k .count - 1)) false (markIn (k .marks) (k .count - 1))
   unfolding meaning
-  add-is p e n h = record { counted = record { some = omega arith; few = omega arith }; means = ap₂ (withPlacements (meaning k)) old new }
-    where
-      masks : List ℕ
-      masks = set (k .masks) (k .count) (p .mask)
+  newest-rails = chosen-rails (tableMarkIn (k .marks) (k .count - 1)) (markIn (k .marks) (k .count - 1)) noPairs
 
-      marks : ℕ
-      marks = bitOr (k .marks) (bitOf (k .count))
-
-      c : k .count + 1 - 1 ≡ k .count
-      c = omega arith
-
-      kept : (i : ℕ) → i < k .count → keptAs i (getD masks i 0) marks ≡ placementIn k i
-      kept i b = ap₂ (λ (x : ℕ) (r : Bool). record { mask = byte x; byRails = r }) (getD-set-other (k .masks) (k .count) i (p .mask) 0 (λ e. omega arith))
-          (mark-set (k .marks) (k .count) i h (omega arith) ∙ rw (ne-eqb i (k .count) (λ e. omega arith)) (no-more (markIn (k .marks) i)))
-
-      old : placementsIn (λ i. keptAs i (getD masks i 0) marks) (k .count + 1 - 1) ≡ active (meaning k)
-      old = ap (placementsIn (λ i. keptAs i (getD masks i 0) marks)) c
-          ∙ placements-same (λ i. keptAs i (getD masks i 0) marks) (placementIn k) (k .count) kept ∙ sym (active-is k w)
-
-      new : keptAs (k .count + 1 - 1) (getD masks (k .count + 1 - 1) 0) marks ≡ meant p
-      new = ap (λ (i : ℕ). keptAs i (getD masks i 0) marks) c
-          ∙ ap₂ (λ (x : ℕ) (r : Bool). record { mask = byte x; byRails = r }) (getD-set-same (k .masks) (k .count) (p .mask) 0 (omega arith))
-          (mark-set (k .marks) (k .count) (k .count) h h ∙ rw (eq-eqb (k .count) (k .count) refl) (or-r (markIn (k .marks) (k .count)) true refl) ∙ sym e)
-
-  pub retire-is : (p : Struct) (marks : ℕ) → meant p ≡ meaning k .newest → marks ≡ cond (p .rails) (bitOf 0) 0
-      → Is (record { stopped = k .stopped; count = 1; masks = p .mask ∷ 0 ∷ 0 ∷ 0 ∷ []; working = k .working; failed = k .failed; marks = marks; homes = k .homes })
+  pub retire-is : (m marks : ℕ) (table rails : Bool) → m ≡ newestMask k → table ≡ tableMarkIn (k .marks) (k .count - 1)
+      → rails ≡ isByRails (meaning k .newest .choice) → marks ≡ cond table (bitOf mostActive) (cond rails (bitOf 0) 0)
+      → Is (record { stopped = k .stopped; count = 1; masks = m ∷ 0 ∷ 0 ∷ 0 ∷ []; working = k .working; failed = k .failed; marks = marks; homes = k .homes })
       (onlyNewest (meaning k))
   unfolding meaning
-  retire-is p marks e d = record {
+  retire-is m marks table rails em et er e = record {
     counted = record { some = omega arith; few = omega arith };
-    means = ap (withPlacements (meaning k) []) (ap (λ (r : Bool). record { mask = byte (p .mask); byRails = r }) (ap (λ (n : ℕ). markIn n 0) d ∙ mark-first (p .rails)) ∙ e);
+    means = means;
   }
+    where
+      choice : chosenBy (tableMarkIn marks 0) (markIn marks 0) noPairs ≡ chosenBy (tableMarkIn (k .marks) (k .count - 1)) (markIn (k .marks) (k .count - 1)) noPairs
+      choice = ap (λ (x : ℕ). chosenBy (tableMarkIn x 0) (markIn x 0) noPairs) e
+          ∙ marked-is (cond table (bitOf mostActive) (cond rails (bitOf 0) 0)) 0 table rails noPairs (kind-first table rails)
+          ∙ ap₂ (λ (t r : Bool). chosenBy t r noPairs) et (er ∙ newest-rails)
+          ∙ settled (tableMarkIn (k .marks) (k .count - 1)) (markIn (k .marks) (k .count - 1))
+        where
+          settled : (t r : Bool) → chosenBy t (cond t false r) noPairs ≡ chosenBy t r noPairs
+          settled true r = refl
+          settled false r = refl
+
+      means : meaning (record { stopped = k .stopped; count = 1; masks = m ∷ 0 ∷ 0 ∷ 0 ∷ []; working = k .working; failed = k .failed; marks = marks; homes = k .homes })
+          ≡ onlyNewest (meaning k)
+      means = ap (withPlacements (meaning k) []) (ap₂ (λ (x : ℕ) (c : Choice). record { mask = byte x; choice = c }) em choice)
 
   pub cards-are : (x y : ℕ) (p q : Byte) → byte x ≡ p → byte y ≡ q
       → Is (record { stopped = k .stopped; count = k .count; masks = k .masks; working = x; failed = y; marks = k .marks; homes = k .homes }) (withCards (meaning k) p q)
@@ -167,12 +207,11 @@ pub halt-is : (k : Control) → Counted k
 unfolding meaning
 halt-is k w = record { counted = record { some = w .some; few = w .few }; means = ap (withHome (halted (meaning k))) (fun-ext none-open) }
 
-pub start-is : (p : Struct) → p .rails ≡ true
-    → Is (record { stopped = false; count = 1; masks = p .mask ∷ 0 ∷ 0 ∷ 0 ∷ []; working = p .mask; failed = 0; marks = bitOf 0; homes = replicate tranCount 0 })
-    (started (meant p) (byte (p .mask)) noCards tt tt)
+pub start-is : (m : ℕ)
+    → Is (record { stopped = false; count = 1; masks = m ∷ 0 ∷ 0 ∷ 0 ∷ []; working = m; failed = 0; marks = bitOf 0; homes = replicate tranCount 0 })
+    (started (fromMask (byte m)) (byte m) noCards tt tt)
 unfolding meaning
-start-is p e = record {
+start-is m = record {
   counted = record { some = omega arith; few = omega arith };
-  means = ap (withHome (started (fromMask (byte (p .mask))) (byte (p .mask)) noCards tt tt)) (fun-ext none-open)
-      ∙ ap (λ (q : Placement). started q (byte (p .mask)) noCards tt tt) (from-mask p e);
+  means = ap (withHome (started (fromMask (byte m)) (byte m) noCards tt tt)) (fun-ext none-open);
 }

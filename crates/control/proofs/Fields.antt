@@ -13,7 +13,7 @@ use Rattle.mask.specs.Masks.{byte}
 use Rattle.mask.specs.Placements.{Placement}
 use Rattle.method.specs.ControlPart.{active}
 use Rattle.control.specs.ControlBytes.{Part, controlByte, controlOf, countIn, failedAt, firstByte, homeAt, homeByte, homeOf, homesAt, homesEnd}
-use Rattle.control.specs.ControlBytes.{keptAs, lastMaskAt, marksAt, marksFrom, maskBytes, masksAt, placementAt, placementsIn, stoppedIn, workingAt}
+use Rattle.control.specs.ControlBytes.{keptAs, lastMaskAt, marksAt, marksFrom, maskBytes, masksAt, pairsIn, placementAt, placementsIn, stoppedIn, workingAt}
 
 -- ---- what is written
 module _ (k : Part) where
@@ -74,40 +74,40 @@ pub placements-more : (f : ℕ → Placement) (n : ℕ) → placementsIn f n ++ 
 placements-more f zero = refl
 placements-more f (suc n) = ap (λ (l : List Placement). f 0 ∷ l) (placements-more (λ i. f (suc i)) n)
 
-module _ (g : ℕ → ℕ) where
-  pub shown-first : controlOf g .stopped ≡ stoppedIn (g 0)
+module _ (g t : ℕ → ℕ) where
+  pub shown-first : controlOf g t .stopped ≡ stoppedIn (g 0)
   unfolding controlOf
   shown-first = refl
 
-  pub shown-older : controlOf g .older ≡ placementsIn (placementAt g) (countIn (g 0) - 1)
+  pub shown-older : controlOf g t .older ≡ placementsIn (placementAt g t) (countIn (g 0) - 1)
   unfolding controlOf
   shown-older = refl
 
-  pub shown-working : controlOf g .working ≡ byte (g workingAt)
+  pub shown-working : controlOf g t .working ≡ byte (g workingAt)
   unfolding controlOf
   shown-working = refl
 
-  pub shown-failed : controlOf g .failed ≡ byte (g failedAt)
+  pub shown-failed : controlOf g t .failed ≡ byte (g failedAt)
   unfolding controlOf
   shown-failed = refl
 
-  pub shown-home : (t : ℕ) → controlOf g .home t ≡ homeOf t (g (homeAt t))
+  pub shown-home : (x : ℕ) → controlOf g t .home x ≡ homeOf x (g (homeAt x))
   unfolding controlOf
-  shown-home t = refl
+  shown-home x = refl
 
   -- where the count is not 0, the newest is the last of the placements that the bytes show
   module _ (some : 1 ≤ countIn (g 0)) where
-    pub shown-newest : controlOf g .newest ≡ placementAt g (countIn (g 0) - 1)
+    pub shown-newest : controlOf g t .newest ≡ placementAt g t (countIn (g 0) - 1)
     unfolding controlOf
-    shown-newest = ap (λ (n : ℕ). keptAs (countIn (g 0) - 1) (g n) (g marksAt)) e
+    shown-newest = ap (λ (n : ℕ). keptAs (countIn (g 0) - 1) (g n) (g marksAt) (pairsIn t (countIn (g 0) - 1))) e
       where
         e : lastMaskAt (countIn (g 0)) ≡ masksAt + (countIn (g 0) - 1)
         e = omega arith
 
-    pub shown-active : active (controlOf g) ≡ placementsIn (placementAt g) (countIn (g 0))
-    shown-active = ap (λ (p : Placement). controlOf g .older ++ (p ∷ [])) shown-newest
-        ∙ ap (λ (l : List Placement). l ++ (placementAt g (countIn (g 0) - 1) ∷ [])) shown-older
-        ∙ placements-more (placementAt g) (countIn (g 0) - 1) ∙ ap (placementsIn (placementAt g)) e
+    pub shown-active : active (controlOf g t) ≡ placementsIn (placementAt g t) (countIn (g 0))
+    shown-active = ap (λ (p : Placement). controlOf g t .older ++ (p ∷ [])) shown-newest
+        ∙ ap (λ (l : List Placement). l ++ (placementAt g t (countIn (g 0) - 1) ∷ [])) shown-older
+        ∙ placements-more (placementAt g t) (countIn (g 0) - 1) ∙ ap (placementsIn (placementAt g t)) e
       where
         e : suc (countIn (g 0) - 1) ≡ countIn (g 0)
         e = omega arith

@@ -4,3 +4,7 @@ pub mod Struct
 pub mod Active
 pub mod Changes
 pub mod Written
+pub mod Front
+pub mod Tail
+pub mod ShownSites
+pub mod PutTail

@@ -2,28 +2,28 @@
 use mathlib.Core.Path.{_≡_, refl, sym, ap, ap₂, _∙_, fun-ext}
 use mathlib.Core.Logic.{_⊎_, inl, inr, ⊎-elim}
 use mathlib.Core.Bool.{Bool, true, false, _&&_, cond}
-use mathlib.Core.List.{List, [], _∷_, _++_}
+use mathlib.Core.List.{List, [], _∷_, _++_, map}
 use mathlib.Core.Option.{none, some}
 use Prim.Native.Nat.{ℕ, zero, suc, _+_, _-_, _/_, _%_, _≤_, _<_}
 use native.Mathlib.Omega.{arith}
 use native.Mathlib.Nat.{mod-eq-of-lt}
-use lib.Bits.{bitAnd}
 use lib.Dec.{leb, ltb}
-use lib.ListN.{getD, length}
+use lib.ListN.{getD, length, length-map}
 use borrow.Author.Tests.{ltb-true, lt-ltb, le-ltb}
 use Rattle.lists.proofs.Bools.{split, and-l, and-r}
 use Rattle.lists.proofs.Cases.{lt-or-ge}
 use Rattle.image.specs.Layout.{mostActive, tranBound, tranCount}
 use Rattle.mask.specs.Masks.{byte}
-use Rattle.mask.specs.Placements.{Placement}
+use Rattle.mask.specs.Pairs.{Pairs, noPairs}
+use Rattle.mask.specs.Placements.{Choice, Placement, pairless}
 use Rattle.method.specs.Slots.{isSome}
 use Rattle.control.specs.ControlBytes.{Part, controlByte, controlOf, countIn, failedAt, field, fieldBound, firstByte, homeAt, homeByte, homeIn}
 use Rattle.control.specs.ControlBytes.{homeOf, homesAt, homesEnd, keptAs, lastMaskAt, marksAt, marksFrom, maskBytes, masksAt, openBit}
-use Rattle.control.specs.ControlBytes.{placementAt, placementsIn, stoppedBit, stoppedIn, workingAt}
-use Rattle.control.specs.Meaning.{rowOf, structOf, bitsFrom, maskIn, newestMask, placementIn, meaning, Counted}
+use Rattle.control.specs.ControlBytes.{frontPart, markIn, pairsIn, placementAt, placementsIn, stoppedBit, stoppedIn, tableMarkIn, workingAt}
+use Rattle.control.specs.Meaning.{rowOf, structOf, cleanMarks, maskIn, newestMask, placementIn, meaning, Counted}
 use Rattle.control.specs.declared.Control.{Control}
 use Rattle.control.proofs.Fields.{at-failed, at-first, at-home, at-marks, at-mask, at-rest, at-working, placements-more}
-use Rattle.control.proofs.Marks.{marks-kept}
+use Rattle.control.proofs.Marks.{chosen-pairless, kind-kept, marks-kept}
 
 -- The highest bit of a transaction's byte says that it is open.
 pub open-bit : (n : ℕ) → leb openBit n ≡ isSome (homeIn n)
@@ -66,13 +66,21 @@ at-row l (suc n) a (suc i) h = at-row l n (suc a) i (omega arith) ∙ ap (λ (j 
     e : suc a + i ≡ a + suc i
     e = omega arith
 
--- The struct that is read off bytes with a count of 1 to 4 means the control part that they show.
-pub read-means : (l : List ℕ) → 1 ≤ countIn (getD l 0 0) → countIn (getD l 0 0) ≤ mostActive → meaning (structOf l) ≡ controlOf (λ n. getD l n 0)
+-- A placement without its pairs is what a mask and marks keep.
+pub kept-pairless : (i mask marks : ℕ) (x : Pairs) → keptAs i mask marks noPairs ≡ pairless (keptAs i mask marks x)
+kept-pairless i mask marks x = ap (λ (c : Choice). record { mask = byte mask; choice = c }) (sym (chosen-pairless (tableMarkIn marks i) (markIn marks i) x))
+
+map-placements : (h : Placement → Placement) (f : ℕ → Placement) (n : ℕ) → map h (placementsIn f n) ≡ placementsIn (λ i. h (f i)) n
+map-placements h f zero = refl
+map-placements h f (suc n) = ap (λ (l : List Placement). h (f 0) ∷ l) (map-placements h (λ i. f (suc i)) n)
+
+-- The struct that is read off bytes with a count of 1 to 4 means the control part that they show, without its pairs.
+pub read-means : (l : List ℕ) (t : ℕ → ℕ) → 1 ≤ countIn (getD l 0 0) → countIn (getD l 0 0) ≤ mostActive → meaning (structOf l) ≡ frontPart (controlOf (λ n. getD l n 0) t)
 unfolding meaning structOf controlOf
-read-means l lo hi = λ i. record {
+read-means l t lo hi = λ i. record {
   stopped = stoppedIn (getD l 0 0);
   older = old i;
-  newest = keptAs (n - 1) (new i) (getD l marksAt 0);
+  newest = new i;
   working = byte (getD l workingAt 0);
   failed = byte (getD l failedAt 0);
   home = fun-ext homes i;
@@ -83,15 +91,22 @@ read-means l lo hi = λ i. record {
     n : ℕ
     n = countIn (getD l 0 0)
 
-    old : placementsIn (λ i. keptAs i (getD (rowOf l masksAt mostActive) i 0) (getD l marksAt 0)) (n - 1) ≡ placementsIn (placementAt (λ n. getD l n 0)) (n - 1)
-    old = placements-same (λ i. keptAs i (getD (rowOf l masksAt mostActive) i 0) (getD l marksAt 0)) (placementAt (λ n. getD l n 0)) (n - 1)
-        (λ i h. ap (λ (m : ℕ). keptAs i m (getD l marksAt 0)) (at-row l mostActive masksAt i (omega arith)))
+    one : (i : ℕ) → i < mostActive → keptAs i (getD (rowOf l masksAt mostActive) i 0) (getD l marksAt 0) noPairs ≡ pairless (placementAt (λ n. getD l n 0) t i)
+    one i h = ap (λ (m : ℕ). keptAs i m (getD l marksAt 0) noPairs) (at-row l mostActive masksAt i h)
+        ∙ kept-pairless i (getD l (masksAt + i) 0) (getD l marksAt 0) (pairsIn t i)
+
+    old : placementsIn (λ i. keptAs i (getD (rowOf l masksAt mostActive) i 0) (getD l marksAt 0) noPairs) (n - 1)
+        ≡ map pairless (placementsIn (placementAt (λ n. getD l n 0) t) (n - 1))
+    old = placements-same (λ i. keptAs i (getD (rowOf l masksAt mostActive) i 0) (getD l marksAt 0) noPairs) (λ i. pairless (placementAt (λ n. getD l n 0) t i)) (n - 1)
+        (λ i h. one i (omega arith))
+        ∙ sym (map-placements pairless (placementAt (λ n. getD l n 0) t) (n - 1))
 
     last : masksAt + (n - 1) ≡ lastMaskAt n
     last = omega arith
 
-    new : getD (rowOf l masksAt mostActive) (n - 1) 0 ≡ getD l (lastMaskAt n) 0
-    new = at-row l mostActive masksAt (n - 1) (omega arith) ∙ ap (λ (j : ℕ). getD l j 0) last
+    new : keptAs (n - 1) (getD (rowOf l masksAt mostActive) (n - 1) 0) (getD l marksAt 0) noPairs
+        ≡ pairless (keptAs (n - 1) (getD l (lastMaskAt n) 0) (getD l marksAt 0) (pairsIn t (n - 1)))
+    new = one (n - 1) (omega arith) ∙ ap (λ (j : ℕ). pairless (keptAs (n - 1) (getD l j 0) (getD l marksAt 0) (pairsIn t (n - 1)))) last
 
     homes : (t : ℕ) → homeOf t (getD (rowOf l homesAt tranCount) (t - 1) 0) ≡ homeOf t (getD l (homeAt t) 0)
     homes t = go (split (ltb 0 t && ltb t tranBound))
@@ -105,11 +120,12 @@ read-means l lo hi = λ i. record {
             ap (homeOf t) (at-row l tranCount homesAt (t - 1) (omega arith))
 
 -- A struct that means the placements that bytes show has their count.
-pub shown-count : (g : ℕ → ℕ) → 1 ≤ countIn (g 0) → (k : Control) → Counted k → meaning k ≡ controlOf g → k .count ≡ countIn (g 0)
+pub shown-count : (g t : ℕ → ℕ) → 1 ≤ countIn (g 0) → (k : Control) → Counted k → meaning k ≡ frontPart (controlOf g t) → k .count ≡ countIn (g 0)
 unfolding meaning controlOf
-shown-count g lo k w e =
+shown-count g t lo k w e =
     let same : k .count - 1 ≡ countIn (g 0) - 1 = sym (length-placements (placementIn k) (k .count - 1))
-    ∙ ap (λ (p : Part). length (p .older)) e ∙ length-placements (placementAt g) (countIn (g 0) - 1) in
+    ∙ ap (λ (p : Part). length (p .older)) e ∙ length-map (placementsIn (placementAt g t) (countIn (g 0) - 1)) pairless
+    ∙ length-placements (placementAt g t) (countIn (g 0) - 1) in
     omega (arith, w .some)
 
 -- The newest placement's mask.
@@ -158,9 +174,10 @@ module _ (k : Control) (w : Counted k) where
   unfolding meaning
   byte-failed h = sym (at-failed (meaning k) ∙ mod-eq-of-lt h)
 
-  pub byte-marks : k .marks < 256 → bitAnd (k .marks) (255 - bitsFrom (k .count)) ≡ controlByte (meaning k) marksAt
+  pub byte-marks : k .marks < 256 → cleanMarks (k .count) (k .marks) ≡ controlByte (meaning k) marksAt
   unfolding meaning
-  byte-marks h = marks-kept (maskIn k) (k .count) (k .marks) (w .few) h ∙ sym (at-marks (meaning k) ∙ ap (marksFrom 0) active-is)
+  byte-marks h = marks-kept (placementIn k) (k .count) (k .marks) (λ i p. kind-kept (k .marks) i noPairs) (w .few) h
+      ∙ sym (at-marks (meaning k) ∙ ap (marksFrom 0) active-is)
 
   pub byte-home : (i : ℕ) → i < tranCount → homeByte (homeIn (getD (k .homes) i 0)) ≡ controlByte (meaning k) (homesAt + i)
   unfolding meaning

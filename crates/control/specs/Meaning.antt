@@ -2,12 +2,15 @@
 use mathlib.Core.Path.{_≡_}
 use mathlib.Core.Bool.{cond}
 use mathlib.Core.List.{List, [], _∷_}
-use Prim.Native.Nat.{ℕ, zero, suc, _-_, _/_, _^_, _≤_}
+use Prim.Native.Nat.{ℕ, zero, suc, _+_, _-_, _*_, _/_, _%_, _^_, _≤_}
+use lib.Bits.{bitAnd}
+use lib.Dec.{ltb}
 use lib.ListN.{getD}
 use Rattle.lists.specs.Tabulate.{tabulate}
 use Rattle.lists.specs.Segments.{splice}
-use Rattle.image.specs.Layout.{controlSize, mostActive, tranCount}
+use Rattle.image.specs.Layout.{controlSize, mostActive, pairsSize, tailSize, tailStart, tranCount}
 use Rattle.mask.specs.Masks.{byte}
+use Rattle.mask.specs.Pairs.{noPairs}
 use Rattle.mask.specs.Placements.{Placement}
 use Rattle.method.specs.ControlPart.{isCard}
 use Rattle.control.specs.ControlBytes.{Part, controlByte, countIn, failedAt, homeIn, homeOf, homesAt, keptAs}
@@ -38,12 +41,12 @@ maskIn k i = getD (k .masks) i 0
 abbrev pub newestMask : Control → ℕ
 newestMask k = maskIn k (k .count - 1)
 
--- Placement i: its mask and its mark.
+-- Placement i: its mask and its marks. The struct has no pairs.
 abbrev pub placementIn : Control → ℕ → Placement
-placementIn k i = keptAs i (maskIn k i) (k .marks)
+placementIn k i = keptAs i (maskIn k i) (k .marks) noPairs
 
--- The meaning of the struct. Masks and marks from the count on, and what the byte of a closed transaction has, mean
--- nothing.
+-- The meaning of the struct: a control part without pairs. Masks and marks from the count on, and what the byte of a closed
+-- transaction has, mean nothing.
 unfoldable pub meaning : Control → Part
 meaning k = record {
   stopped = k .stopped;
@@ -70,10 +73,21 @@ pub record Is (k : Control) (part : Part) : Type 0 where
 unfoldable pub keptHome : ℕ → ℕ → ℕ
 keptHome c b = cond (isCard (homeIn b) c) 0 b
 
--- The bits of a byte from bit i on.
-unfoldable pub bitsFrom : ℕ → ℕ
-bitsFrom i = 255 / 2 ^ i
+-- The marks of placements that are not there, where this is the count: those for rails and those for tables.
+unfoldable pub freeMarks : ℕ → ℕ
+freeMarks count = 15 / 2 ^ count * 17
 
--- The image with a whole new control part.
+-- Marks as they are written: none of a placement that is not there, and none for rails beside one for a table.
+unfoldable pub cleanMarks : ℕ → ℕ → ℕ
+cleanMarks count marks = bitAnd (bitAnd marks (255 - marks % 16 * 16)) (255 - freeMarks count)
+
+-- The image with other control bytes before the tables; with other bytes behind them.
 unfoldable pub putControl : List ℕ → Part → List ℕ
 putControl image part = splice image 0 (tabulate controlSize (controlByte part))
+
+unfoldable pub putTail : List ℕ → (ℕ → ℕ) → List ℕ
+putTail image f = splice image tailStart (tabulate tailSize f)
+
+-- Bytes behind the tables that have the pairs of placement i first, and nothing else.
+unfoldable pub onlyPairs : (ℕ → ℕ) → ℕ → ℕ → ℕ
+onlyPairs t i n = cond (ltb n pairsSize) (t (i * pairsSize + n)) 0

@@ -1,25 +1,21 @@
-// The control part's 32 bytes: the struct read off them, and written as a whole.
+// The control part's 32 bytes before the tables: the struct read off them, and written as a whole.
 ghost use mathlib.Core.Path.{_≡_};
 ghost use mathlib.Core.Bool.{true, cond};
 ghost use mathlib.Core.Option.{some};
 ghost use Prim.Native.Nat.{_-_, _≤_, _<_};
-ghost use lib.Bits.{bitAnd};
 ghost use lib.Dec.{ltb};
 ghost use lib.ListN.{getD, length};
 ghost use Rattle.lists.specs.Tabulate.{tabulate};
 ghost use Rattle.image.specs.Layout.{cardCount, controlSize, tranBound, mostActive};
-ghost use Rattle.mask.specs.Placements.{meant};
 ghost use Rattle.method.specs.ControlPart.{isCard, isOpen};
 ghost use Rattle.method.specs.Slots.{isSome};
-ghost use Rattle.control.specs.ControlBytes.{controlByte, controlOf, homeByte, homeIn, placementAt, stoppedBit};
-ghost use Rattle.control.specs.Meaning.{structOf, meaning, bitsFrom, Counted, putControl};
+ghost use Rattle.control.specs.ControlBytes.{controlByte, controlOf, homeByte, homeIn, stoppedBit, tailAt};
+ghost use Rattle.control.specs.Meaning.{cleanMarks, freeMarks, structOf, meaning, Counted, putControl};
 use crate::Control;
-use crate::FIRST_MARK;
 use crate::MASK_COUNT;
 use image::Card;
 use image::TRAN_COUNT;
 use image::Tran;
-use mask::Placement;
 
 // Where the fields start, each behind the one before; the first byte, 0, has the stopped bit and the count. Those from
 // HOMES_END on are zero.
@@ -35,8 +31,15 @@ pub const HOMES_AT: usize = MARKS_AT + 1;
 
 pub const HOMES_END: usize = HOMES_AT + TRAN_COUNT;
 
-// All bits of the marks.
+// All bits of the marks; those for tables; by how much a mark for rails outweighs that for a table; both halves of a
+// byte.
 const ALL_MARKS: u8 = 0xff;
+
+pub const TABLE_MARKS: u8 = 0x0f;
+
+pub const RAIL_WEIGHT: u8 = 16;
+
+const BOTH_HALVES: u8 = RAIL_WEIGHT + 1;
 
 // The highest bit: stopped in the first byte, open in a transaction's byte.
 pub const STOPPED: u8 = 0x80;
@@ -94,20 +97,21 @@ fn mask_byte(count: u8, i: usize, mask: u8) -> u8
     0
 }
 
-// The bits of the marks from the count on.
-pub fn no_marks(count: u8) -> u8
+// The marks of placements that are not there.
+pub fn free_marks(count: u8) -> u8
     requires { ⌜ count ≤ mostActive ⌝ }
-    ensures { λ r. ⌜ r ≡ bitsFrom count ⌝ }
+    ensures { λ r. ⌜ r ≡ freeMarks count ⌝ }
 {
-    ALL_MARKS >> count
+    (TABLE_MARKS >> count) * BOTH_HALVES
 }
 
-// The byte of the marks, zero from the count on.
-fn marks_byte(count: u8, marks: u8) -> u8
+// The marks as they are written: none of a placement that is not there, and none for rails beside one for a table.
+pub fn clean_marks(count: u8, marks: u8) -> u8
     requires { ⌜ count ≤ mostActive ⌝ }
-    ensures { λ r. ⌜ r ≡ bitAnd marks (255 - bitsFrom count) ⌝ }
+    ensures { λ r. ⌜ r ≡ cleanMarks count marks ⌝ }
 {
-    marks & (ALL_MARKS - no_marks(count))
+    let single = marks & (ALL_MARKS - marks % RAIL_WEIGHT * RAIL_WEIGHT);
+    single & (ALL_MARKS - free_marks(count))
 }
 
 // A whole new control part.
@@ -124,7 +128,7 @@ pub fn encode(k: Control) -> [u8; image::CONTROL_SIZE]
     }
     bytes[WORKING_AT] = k.working;
     bytes[FAILED_AT] = k.failed;
-    bytes[MARKS_AT] = marks_byte(k.count, k.marks);
+    bytes[MARKS_AT] = clean_marks(k.count, k.marks);
     let mut t = 0;
     while t < TRAN_COUNT {
         bytes[HOMES_AT + t] = home_byte(k.homes[t]);
@@ -133,7 +137,7 @@ pub fn encode(k: Control) -> [u8; image::CONTROL_SIZE]
     bytes
 }
 
-// Writes a whole new control part at the front of the image.
+// Writes other control bytes before the tables.
 pub fn write(image: &mut [u8], k: Control)
     requires { ⌜ controlSize ≤ length (now image) ⌝ }
     requires { ⌜ Counted k ⌝ }
@@ -184,19 +188,7 @@ pub fn decode(s: &[u8]) -> Control
 pub fn is_open_at(s: &[u8], tran: Tran) -> bool
     requires { ⌜ controlSize ≤ length (now s) ⌝ }
     requires { ⌜ (0 < tran .0) × (tran .0 < tranBound) ⌝ }
-    ensures { λ r. ⌜ r ≡ isOpen (controlOf (λ n. getD (now (s .entry)) n 0)) (tran .0) ⌝ }
+    ensures { λ r. ⌜ r ≡ isOpen (controlOf (λ n. getD (now (s .entry)) n 0) (tailAt (now (s .entry)))) (tran .0) ⌝ }
 {
     s[HOMES_AT + (tran.0 - 1) as usize] >= OPEN
-}
-
-// Active placement i, oldest first, read off the bytes without the rest of the struct.
-pub fn placement_at(s: &[u8], i: usize) -> Placement
-    requires { ⌜ controlSize ≤ length (now s) ⌝ }
-    requires { ⌜ i < mostActive ⌝ }
-    ensures { λ r. ⌜ meant r ≡ placementAt (λ n. getD (now (s .entry)) n 0) i ⌝ }
-{
-    Placement {
-        mask: s[MASKS_AT + i],
-        rails: (s[MARKS_AT] & (FIRST_MARK >> i)) != 0,
-    }
 }

@@ -4,8 +4,9 @@ ghost use mathlib.Core.Bool.{cond, true};
 ghost use Prim.Native.Nat.{_+_, _-_, _<_};
 ghost use lib.Dec.{eqb};
 ghost use Rattle.image.specs.Layout.{cardCount, tranBound, mostActive};
-ghost use Rattle.mask.specs.Masks.{bitOf, noCards, withCard, withoutCard};
-ghost use Rattle.mask.specs.Placements.{meant};
+ghost use Rattle.mask.specs.Masks.{bitOf, byte, noCards, withCard, withoutCard};
+ghost use Rattle.mask.specs.Pairs.{noPairs};
+ghost use Rattle.mask.specs.Placements.{byTable, fromMask, isByRails};
 ghost use Rattle.method.specs.ControlPart.{
   begunAt,
   started,
@@ -17,25 +18,29 @@ ghost use Rattle.method.specs.ControlPart.{
   halted,
   isOpen,
 };
-ghost use Rattle.control.specs.Meaning.{meaning, newestMask, placementIn, keptHome, Counted, Is};
+ghost use Rattle.control.specs.ControlBytes.{tableMarkIn};
+ghost use Rattle.control.specs.Meaning.{meaning, newestMask, keptHome, Counted, Is};
 
 pub mod codec;
+pub mod pairs;
+pub mod sites;
 
 use codec::FIELD;
 use codec::OPEN;
 use image::Card;
 use image::TRAN_COUNT;
 use image::Tran;
-use mask::Placement;
 
 // As many masks as active placements at most.
 pub const MASK_COUNT: usize = image::MOST_ACTIVE as usize;
 
-// The mark of the oldest placement: the highest bit.
+// The marks of the oldest placement: for rails the highest bit of the byte, for a table the highest of its lower half.
 pub const FIRST_MARK: u8 = 0x80;
 
-// The masks are of the active placements, oldest first, and so are the marks, highest bit first: which of them have
-// their sites by rails. A home is the transaction's byte, transaction 1 first.
+pub const FIRST_TABLE_MARK: u8 = FIRST_MARK >> MASK_COUNT;
+
+// The masks are of the active placements, oldest first, and so are the marks, highest bit first. The pairs of placements
+// by table stay in the image. A home is the transaction's byte, transaction 1 first.
 pub struct Control {
     pub stopped: bool,
     pub count: u8,
@@ -47,16 +52,15 @@ pub struct Control {
 }
 
 impl Control {
-    // The members of a placement by rails work, and it is the one placement; none failed, none open.
-    pub fn started(placement: Placement) -> Control
-        requires { ⌜ meant placement .byRails ≡ true ⌝ }
-        ensures { λ r. ⌜ Is r (started (meant placement) (meant placement .mask) noCards tt tt) ⌝ }
+    // The mask's cards work and are the one placement, by rails; none failed, none open.
+    pub fn started(mask: u8) -> Control
+        ensures { λ r. ⌜ Is r (started (fromMask (byte mask)) (byte mask) noCards tt tt) ⌝ }
     {
         Control {
             stopped: false,
             count: 1,
-            masks: [placement.mask, 0, 0, 0],
-            working: placement.mask,
+            masks: [mask, 0, 0, 0],
+            working: mask,
             failed: 0,
             marks: FIRST_MARK,
             homes: [0u8; TRAN_COUNT],
@@ -81,23 +85,23 @@ impl Control {
         self.masks[i]
     }
 
-    // Active placement i, oldest first.
-    pub fn placement(self, i: usize) -> Placement
-        requires { ⌜ i < mostActive ⌝ }
-        ensures { λ r. ⌜ meant r ≡ placementIn self i ⌝ }
+    // Whether the newest placement is by table.
+    fn newest_by_table(self) -> bool
+        requires { ⌜ Counted self ⌝ }
+        ensures { λ r. ⌜ r ≡ tableMarkIn (self .marks) (self .count - 1) ⌝ }
     {
-        Placement {
-            mask: self.masks[i],
-            rails: (self.marks & (FIRST_MARK >> i)) != 0,
-        }
+        (self.marks & (FIRST_TABLE_MARK >> (self.count - 1))) != 0
     }
 
-    // The newest placement.
-    pub fn newest(self) -> Placement
+    // Whether it is by rails.
+    pub fn newest_by_rails(self) -> bool
         requires { ⌜ Counted self ⌝ }
-        ensures { λ r. ⌜ meant r ≡ meaning self .newest ⌝ }
+        ensures { λ r. ⌜ r ≡ isByRails (meaning self .newest .choice) ⌝ }
     {
-        self.placement((self.count - 1) as usize)
+        if self.newest_by_table() {
+            return false;
+        }
+        (self.marks & (FIRST_MARK >> (self.count - 1))) != 0
     }
 
     // The transaction opens with its home.
@@ -138,28 +142,41 @@ impl Control {
         self
     }
 
-    // The placement, by rails, becomes the newest, marked 1.
-    pub fn add(mut self, placement: Placement) -> Self
+    // A placement of the mask by rails becomes the newest.
+    pub fn add(mut self, mask: u8) -> Self
         requires { ⌜ Counted self ⌝ }
         requires { ⌜ self .count < mostActive ⌝ }
-        requires { ⌜ meant placement .byRails ≡ true ⌝ }
-        ensures { λ r. ⌜ Is r (added (meaning self) (meant placement) tt) ⌝ }
+        ensures { λ r. ⌜ Is r (added (meaning self) (fromMask (byte mask)) tt) ⌝ }
     {
         let i = self.count as usize;
-        self.masks[i] = placement.mask;
-        self.marks = self.marks | (FIRST_MARK >> self.count);
+        self.masks[i] = mask;
+        self.marks = codec::clean_marks(self.count, self.marks) | (FIRST_MARK >> self.count);
         self.count = self.count + 1;
         self
     }
 
-    // Only the newest placement remains, and its mark moves with it.
+    // One of the mask by table becomes the newest; its pairs are not in the struct.
+    pub fn add_table(mut self, mask: u8) -> Self
+        requires { ⌜ Counted self ⌝ }
+        requires { ⌜ self .count < mostActive ⌝ }
+        ensures { λ r.
+            ⌜ Is r (added (meaning self) (record { mask = byte mask; choice = byTable noPairs }) tt) ⌝ }
+    {
+        let i = self.count as usize;
+        self.masks[i] = mask;
+        self.marks = codec::clean_marks(self.count, self.marks) | (FIRST_TABLE_MARK >> self.count);
+        self.count = self.count + 1;
+        self
+    }
+
+    // Only the newest placement remains, and its marks move with it.
     pub fn retire(mut self) -> Self
         requires { ⌜ Counted self ⌝ }
         ensures { λ r. ⌜ Is r (onlyNewest (meaning self)) ⌝ }
     {
-        let newest = self.newest();
-        self.masks = [newest.mask, 0, 0, 0];
-        self.marks = first_mark(newest.rails);
+        let newest = self.newest_mask();
+        self.marks = first_marks(self.newest_by_table(), self.newest_by_rails());
+        self.masks = [newest, 0, 0, 0];
         self.count = 1;
         self
     }
@@ -213,9 +230,12 @@ impl Control {
 }
 
 // The marks of one placement.
-fn first_mark(rails: bool) -> u8
-    ensures { λ r. ⌜ r ≡ cond rails (bitOf 0) 0 ⌝ }
+fn first_marks(table: bool, rails: bool) -> u8
+    ensures { λ r. ⌜ r ≡ cond table (bitOf mostActive) (cond rails (bitOf 0) 0) ⌝ }
 {
+    if table {
+        return FIRST_TABLE_MARK;
+    }
     if rails {
         return FIRST_MARK;
     }

@@ -12,7 +12,7 @@ use Rattle.lists.proofs.Bools.{and-l, and-r}
 use Rattle.image.specs.Layout.{mostActive, mostPlaced, tranBound}
 use Rattle.mask.specs.Masks.{Byte, byte, isOneMore}
 use Rattle.mask.specs.Placements.{Placement}
-use Rattle.control.specs.ControlBytes.{countIn, homeIn, homeOf, placementsIn, controlOf}
+use Rattle.control.specs.ControlBytes.{frontPart, tailAt, countIn, homeIn, homeOf, placementsIn, controlOf}
 use Rattle.control_form.specs.ControlForm.{chainOk, controlForm, countOk, homeOk, masksOf}
 use Rattle.control_form.specs.Reading.{masksBack}
 use Rattle.control.specs.Meaning.{structOf, maskIn, placementIn, meaning, Counted, Is}
@@ -77,8 +77,8 @@ module _ (l : List ℕ) (k : Control) (e : k ≡ structOf l) where
   unfolding structOf
   count-is = ap (λ (x : Control). x .count) e
 
-  pub means-is : Counted k → meaning k ≡ controlOf (λ n. getD l n 0)
-  means-is w = ap meaning e ∙ read-means l (omega (arith, count-is, w .some)) (omega (arith, count-is, w .few))
+  pub means-is : (t : ℕ → ℕ) → Counted k → meaning k ≡ frontPart (controlOf (λ n. getD l n 0) t)
+  means-is t w = ap meaning e ∙ read-means l t (omega (arith, count-is, w .some)) (omega (arith, count-is, w .few))
 
   pub count-counted : countOk (λ n. getD l n 0) ≡ true → Counted k
   unfolding countOk
@@ -88,9 +88,9 @@ module _ (l : List ℕ) (k : Control) (e : k ≡ structOf l) where
       let hi : n ≤ mostActive = leb-true n mostActive (and-r (leb 1 n) (leb n mostActive) h) in
       record { some = omega (arith, count-is); few = omega (arith, count-is) }
 
-  -- Where the form holds, the struct is the control part that the bytes show.
-  pub form-reads : controlForm l ≡ true → Is k (controlOf (λ n. getD l n 0))
+  -- Where the form holds, the struct is the control part that the bytes show, without its pairs.
+  pub form-reads : controlForm l ≡ true → Is k (frontPart (controlOf (λ n. getD l n 0) (tailAt l)))
   form-reads h =
-      let b = form-count (λ n. getD l n 0) h in
+      let b = form-count (λ n. getD l n 0) (tailAt l) h in
       let w : Counted k = record { some = omega (arith, count-is, b .0); few = omega (arith, count-is, b .1) } in
-      record { counted = w; means = means-is w }
+      record { counted = w; means = means-is (tailAt l) w }

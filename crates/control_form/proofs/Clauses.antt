@@ -5,7 +5,6 @@ use mathlib.Core.Bool.{Bool, true, false, _&&_, _||_}
 use mathlib.Core.List.{List, _∷_, reverse}
 use Prim.Native.Nat.{ℕ, zero, suc, _+_, _-_, _%_, _≤_, _<_}
 use native.Mathlib.Omega.{arith}
-use lib.Bits.{bitAnd}
 use lib.Dec.{eqb}
 use lib.ListN.{getD}
 use borrow.Author.Tests.{eqb-true}
@@ -17,14 +16,15 @@ use Rattle.mask.specs.Masks.{Byte, areApart, byte, isWithin}
 use Rattle.method.specs.ControlPart.{active}
 use Rattle.control.specs.ControlBytes.{controlOf, countIn, failedAt, field, homeByte, homeIn}
 use Rattle.control.specs.ControlBytes.{homesAt, homesEnd, lastMaskAt, marksAt, masksAt, stoppedIn, workingAt}
-use Rattle.control.specs.Meaning.{Counted, bitsFrom, maskIn, meaning, rowOf, structOf}
+use Rattle.control.specs.Meaning.{Counted, maskIn, meaning, rowOf, structOf}
 use Rattle.control.proofs.Active.{every-active, maskPasses}
 use Rattle.control.proofs.Struct.{at-row}
-use Rattle.control_form.specs.ControlForm.{allSafe, chainOk, countOk, formOk, homeOk, isSafe, masksOf, membersOk, partOk, zeroFieldsOk}
-use Rattle.control_form.specs.Reading.{allFrom, chainIn, homeFitsAt, homeOkAt, isHomeAt, isZeroAt}
+use Rattle.control_form.specs.ControlForm.{allSafe, chainOk, countOk, frontOk, homeOk, isSafe, masksOf, membersOk, partOk, zeroFieldsOk}
+use Rattle.control_form.specs.Reading.{allFrom, chainIn, homeFitsAt, homeOkAt, isHomeAt, isZeroAt, marksOk}
 use Rattle.control_form.specs.Reading.{maskAt, maskTest, masksBack, newestIn, otherZeros, placementOk, wordsEnd}
 use Rattle.control_form.proofs.Checks.{chain-is, count-counted, home-none, home-test, homeTest, homes-are}
 use Rattle.control_form.proofs.Checks.{means-is}
+use Rattle.control_form.proofs.FrontPart.{front-part}
 use Rattle.control_form.proofs.Ranges.{from-all, from-both, from-each}
 use Rattle.control_form.proofs.ZeroFields.{zero-fields-by}
 
@@ -118,7 +118,7 @@ zero-fits : (w : Byte) (stopped : Bool) (b : ℕ) → b ≡ 0 → (eqb b (homeBy
 unfolding homeOk
 zero-fits w stopped b e = rw e
 
-module _ (l : List ℕ) (ok : countOk (λ n. getD l n 0) ≡ true) (bytes : (n : ℕ) → getD l n 0 < 256) where
+module _ (l : List ℕ) (t : ℕ → ℕ) (ok : countOk (λ n. getD l n 0) ≡ true) (bytes : (n : ℕ) → getD l n 0 < 256) where
   w : Counted (structOf l)
   w = count-counted l (structOf l) refl ok
 
@@ -189,30 +189,30 @@ module _ (l : List ℕ) (ok : countOk (λ n. getD l n 0) ≡ true) (bytes : (n :
   homes-as = ap (λ (t : Bool). allFrom homesAt homesEnd (isHomeAt l) && t) (homes-are (structOf l) ∙ opened-as)
       ∙ sym (from-both homesAt homesEnd (isHomeAt l) (homeOkAt (stoppedIn (getD l 0 0)) l))
 
-  zeros-as : zeroFieldsOk (λ n. getD l n 0) ≡ (otherZeros l && allFrom homesAt homesEnd (isHomeAt l))
+  zeros-as : zeroFieldsOk (controlOf (λ n. getD l n 0) t) (λ n. getD l n 0) ≡ (otherZeros l && allFrom homesAt homesEnd (isHomeAt l))
   unfolding otherZeros
-  zeros-as = zero-fields-by l ok bytes
-      ∙ tail-four (eqb (getD l 0 0 % field) 0) (allFrom (masksAt + countIn (getD l 0 0)) workingAt (isZeroAt l)) (eqb (bitAnd (getD l marksAt 0) (bitsFrom (countIn (getD l 0 0)))) 0)
+  zeros-as = zero-fields-by l t ok bytes
+      ∙ tail-four (eqb (getD l 0 0 % field) 0) (allFrom (masksAt + countIn (getD l 0 0)) workingAt (isZeroAt l)) (marksOk (countIn (getD l 0 0)) (getD l marksAt 0))
       (allFrom homesEnd controlSize (isZeroAt l)) (allFrom homesAt homesEnd (isHomeAt l))
 
   zero-behind : otherZeros l ≡ true → getD l homesEnd 0 ≡ 0
   unfolding otherZeros
   zero-behind t =
       let z : allFrom homesEnd controlSize (isZeroAt l) ≡ true = last-of (eqb (getD l 0 0 % field) 0) (allFrom (masksAt + countIn (getD l 0 0)) workingAt (isZeroAt l))
-      (eqb (bitAnd (getD l marksAt 0) (bitsFrom (countIn (getD l 0 0)))) 0) (allFrom homesEnd controlSize (isZeroAt l)) t in
+      (marksOk (countIn (getD l 0 0)) (getD l marksAt 0)) (allFrom homesEnd controlSize (isZeroAt l)) t in
       zero-out l homesEnd (from-all homesEnd (isZeroAt l) controlSize homesEnd z (omega arith) (omega arith))
 
   apart-as : areApart (meaning (structOf l) .working) (meaning (structOf l) .failed) ≡ areApart (byte (getD l workingAt 0)) (byte (getD l failedAt 0))
   unfolding meaning structOf
   apart-as = refl
 
-  part-as : partOk (controlOf (λ n. getD l n 0)) ≡ (areApart (byte (getD l workingAt 0)) (byte (getD l failedAt 0))
+  part-as : partOk (controlOf (λ n. getD l n 0) t) ≡ (areApart (byte (getD l workingAt 0)) (byte (getD l failedAt 0))
       && (allBelow (countIn (getD l 0 0)) (maskTest membersOk l)
       && (chainIn l
       && (newestIn l
       && ((stoppedIn (getD l 0 0) || allBelow (countIn (getD l 0 0)) (maskTest isSafe l)) && homesOpen)))))
   unfolding partOk
-  part-as = ap partOk (sym (means-is l (structOf l) refl w))
+  part-as = sym (front-part (controlOf (λ n. getD l n 0) t)) ∙ ap partOk (sym (means-is l (structOf l) refl t w))
       ∙ ap₂ _&&_ apart-as (ap₂ _&&_ (masks-are membersOk) (ap₂ _&&_ chain-as (ap₂ _&&_ newest-as (ap (λ (t : Bool). t && homesOpen) safe-as))))
 
   placements-as : (allBelow (countIn (getD l 0 0)) (maskTest membersOk l) && (stoppedIn (getD l 0 0) || allBelow (countIn (getD l 0 0)) (maskTest isSafe l)))
@@ -232,9 +232,9 @@ module _ (l : List ℕ) (ok : countOk (λ n. getD l n 0) ≡ true) (bytes : (n :
       go false e = refl
       go true e = ap x (unfold allFrom in (rw (last e)))
 
-  pub form-by : formOk (λ n. getD l n 0) ≡ clauses l
-  unfolding formOk
-  form-by = ap (λ (t : Bool). t && (zeroFieldsOk (λ n. getD l n 0) && partOk (controlOf (λ n. getD l n 0)))) ok
+  pub form-by : frontOk (controlOf (λ n. getD l n 0) t) (λ n. getD l n 0) ≡ clauses l
+  unfolding frontOk
+  form-by = ap (λ (b : Bool). b && (zeroFieldsOk (controlOf (λ n. getD l n 0) t) (λ n. getD l n 0) && partOk (controlOf (λ n. getD l n 0) t))) ok
       ∙ ap₂ _&&_ zeros-as part-as
       ∙ order (otherZeros l) (allFrom homesAt homesEnd (isHomeAt l)) (areApart (byte (getD l workingAt 0)) (byte (getD l failedAt 0)))
       (allBelow (countIn (getD l 0 0)) (maskTest membersOk l)) (chainIn l) (newestIn l)

@@ -3,15 +3,17 @@
 use mathlib.Core.Path.{_≡_, refl}
 use mathlib.Core.Bool.{Bool, true, false, _||_, cond}
 use mathlib.Core.List.{List, [], _∷_, _++_, reverse}
-use Prim.Native.Nat.{ℕ}
+use Prim.Native.Nat.{ℕ, _%_, _/_}
 use lib.Dec.{eqb}
 use lib.ListN.{getD}
+use Rattle.lists.specs.Tabulate.{tabulate}
 use Rattle.lists.specs.Tests.{allIn, allBelow}
-use Rattle.image.specs.Layout.{mostPlaced, tranBound}
+use Rattle.image.specs.Layout.{mostPlaced, pairsSize, tranBound}
 use Rattle.mask.specs.Masks.{hasCard, withCard, size, common, isWithin, areApart, isWithinEither, isOneMore}
+use Rattle.mask.specs.Pairs.{arePairsOf, isPairOf, pairAt}
 use Rattle.method.specs.ControlPart.{active}
-use Rattle.control.specs.ControlBytes.{Part, controlByte, controlOf}
-use Rattle.control_form.specs.ControlForm.{allSafe, chainOk, countOk, formOk, homeOk, isSafe, masksOf, membersOk, partOk, zeroFieldsOk}
+use Rattle.control.specs.ControlBytes.{Part, controlByte, controlOf, tailOf}
+use Rattle.control_form.specs.ControlForm.{allSafe, chainOk, countOk, formOk, frontOk, homeOk, isSafe, keptOk, masksOf, membersOk, partOk, tablesOk, zeroFieldsOk}
 
 -- A clause of the control form.
 pub data Clause : Type 0 where
@@ -31,6 +33,10 @@ pub data Clause : Type 0 where
   safe : Clause
   -- in a running store the homes work; in a stopped one no transaction is open
   homes : Clause
+  -- nothing is kept for a placement that is not by table or not there
+  kept : Clause
+  -- the pairs of a placement by table are two different members each
+  pairs : Clause
 
 abbrev fault : Bool → Clause → List Clause
 fault true x = []
@@ -45,8 +51,12 @@ faultsOf k = fault (areApart (k .working) (k .failed)) apart
     ++ (fault (k .stopped || allSafe k) safe
     ++ fault (allBelow tranBound (λ t. homeOk (k .stopped) (k .working) (k .home t))) homes))))
 
-abbrev pub faults : (ℕ → ℕ) → List Clause
-faults g = fault (countOk g) count ++ (fault (zeroFieldsOk g) zeroFields ++ faultsOf (controlOf g))
+abbrev pub faultsBy : Part → (ℕ → ℕ) → (ℕ → ℕ) → List Clause
+faultsBy k g t =
+    fault (countOk g) count ++ (fault (zeroFieldsOk k g) zeroFields ++ (faultsOf k ++ (fault (keptOk k t) kept ++ fault (tablesOk k) pairs)))
+
+abbrev pub faults : (ℕ → ℕ) → (ℕ → ℕ) → List Clause
+faults g t = faultsBy (controlOf g t) g t
 
 -- 32 bytes by their first ones, the rest zero; and with byte n changed.
 abbrev pub bytes : List ℕ → ℕ → ℕ
@@ -55,14 +65,22 @@ bytes l n = getD l n 0
 abbrev pub changed : ℕ → ℕ → (ℕ → ℕ) → ℕ → ℕ
 changed n x g i = cond (eqb i n) x (g i)
 
--- A row: the bytes and the clauses that they break.
+-- A row: the bytes before the tables, those behind them, and the clauses that they break.
 pub record Row : Type 0 where
   pub control : ℕ → ℕ
+  pub behind : ℕ → ℕ
   pub broken : List Clause
 
 infixl 3 _breaks_
 abbrev pub _breaks_ : (ℕ → ℕ) → List Clause → Row
-g breaks l = record { control = g; broken = l }
+g breaks l = record { control = g; behind = λ n. 0; broken = l }
+
+abbrev pub with-tail : (ℕ → ℕ) → (ℕ → ℕ) → List Clause → Row
+with-tail g t l = record { control = g; behind = t; broken = l }
+
+-- The pairs of placement i are cards 0 and 1 for every block.
+abbrev pub zeroOne : ℕ → ℕ → ℕ
+zeroOne i n = cond (eqb (n / pairsSize) i) (getD (0x04 ∷ 0x10 ∷ 0x41 ∷ []) (n % 3) 0) 0
 
 -- ---- good controls
 -- cards 0, 1, 2 work and are the one placement
@@ -90,6 +108,28 @@ good =
     ∷ (changed 7 0x80 running breaks [])
     -- two failed cards, each in another placement
     ∷ (bytes (0x30 ∷ 0xf0 ∷ 0xe8 ∷ 0xe0 ∷ 0 ∷ 0xe0 ∷ 0x18 ∷ []) breaks [])
+    -- one placement, by table; four of all three kinds, the second by table
+    ∷ with-tail (changed 7 0x08 running) (zeroOne 0) []
+    ∷ with-tail (changed 7 0x94 four) (zeroOne 1) []
+    ∷ []
+
+-- ---- tables
+abbrev pub badTables : List Row
+badTables =
+    -- both marks on one placement; a mark for a table of a placement that is not there
+    with-tail (changed 7 0x88 running) (zeroOne 0) (zeroFields ∷ [])
+    ∷ with-tail (changed 7 0x04 running) (λ n. 0) (zeroFields ∷ [])
+    -- a bit kept for a placement that is not by table, by rails or as the base chose; for one that is not there; behind a table
+    ∷ with-tail running (changed 0 0x80 (λ n. 0)) (kept ∷ [])
+    ∷ with-tail (changed 7 0x80 running) (changed 47 0x01 (λ n. 0)) (kept ∷ [])
+    ∷ with-tail running (changed 191 0x01 (λ n. 0)) (kept ∷ [])
+    ∷ with-tail (changed 7 0x08 running) (changed 48 0x80 (zeroOne 0)) (kept ∷ [])
+    -- pairs of equal cards; the last second card is 3, the first first card is 4, neither of them a member
+    ∷ with-tail (changed 7 0x08 running) (λ n. 0) (pairs ∷ [])
+    ∷ with-tail (changed 7 0x08 running) (changed 47 0x43 (zeroOne 0)) (pairs ∷ [])
+    ∷ with-tail (changed 7 0x08 running) (changed 0 0x84 (zeroOne 0)) (pairs ∷ [])
+    -- the pairs of another placement
+    ∷ with-tail (changed 7 0x94 four) (zeroOne 0) (kept ∷ pairs ∷ [])
     ∷ []
 
 -- ---- the count
@@ -118,7 +158,7 @@ badZeros =
     -- the mark of a placement that is not there, the next one and the fourth; a low bit of the marks, the highest and the lowest
     ∷ (changed 7 0x40 running breaks (zeroFields ∷ []))
     ∷ (changed 7 0x90 running breaks (zeroFields ∷ []))
-    ∷ (changed 7 0xf8 four breaks (zeroFields ∷ []))
+    ∷ (changed 7 0xf8 four breaks (zeroFields ∷ pairs ∷ []))
     ∷ (changed 7 0x01 running breaks (zeroFields ∷ []))
     -- the low bits of an open transaction's byte; a home and low bits in the byte of one that is not open
     ∷ (changed 8 0x81 running breaks (zeroFields ∷ []))
@@ -165,7 +205,7 @@ badRuns =
 
 -- ---- the table
 abbrev pub table : List Row
-table = good ++ (badCount ++ (badZeros ++ (badPlacements ++ badRuns)))
+table = good ++ (badCount ++ (badZeros ++ (badPlacements ++ (badRuns ++ badTables))))
 
 abbrev broken-in : List Row → List (List Clause)
 broken-in [] = []
@@ -173,11 +213,11 @@ broken-in (r ∷ l) = r .broken ∷ broken-in l
 
 abbrev faults-in : List Row → List (List Clause)
 faults-in [] = []
-faults-in (r ∷ l) = faults (r .control) ∷ faults-in l
+faults-in (r ∷ l) = faults (r .control) (r .behind) ∷ faults-in l
 
 abbrev forms-in : List Row → List Bool
 forms-in [] = []
-forms-in (r ∷ l) = formOk (r .control) ∷ forms-in l
+forms-in (r ∷ l) = formOk (r .control) (r .behind) ∷ forms-in l
 
 abbrev none-broken : List Row → List Bool
 none-broken [] = []
@@ -185,10 +225,12 @@ none-broken (r ∷ l) = elim (r .broken) [ [] ↦ true | x ∷ m ↦ false ] ∷
 
 -- The clauses that each row's bytes break are those that it names.
 pub table-faults : faults-in table ≡ broken-in table
-unfolding countOk zeroFieldsOk areApart membersOk size isWithinEither chainOk isOneMore withCard isWithin isSafe common homeOk hasCard controlOf controlByte
+unfolding tabulate keptOk tablesOk tailOf arePairsOf isPairOf pairAt
+    countOk zeroFieldsOk areApart membersOk size isWithinEither chainOk isOneMore withCard isWithin isSafe common homeOk hasCard controlOf controlByte
 table-faults = refl
 
 -- The control form holds of a row's bytes exactly where the row names no clause.
 pub table-forms : forms-in table ≡ none-broken table
-unfolding formOk partOk countOk zeroFieldsOk areApart membersOk size isWithinEither chainOk isOneMore withCard isWithin isSafe common homeOk hasCard controlOf controlByte
+unfolding tabulate keptOk tablesOk tailOf arePairsOf isPairOf pairAt
+    formOk frontOk partOk countOk zeroFieldsOk areApart membersOk size isWithinEither chainOk isOneMore withCard isWithin isSafe common homeOk hasCard controlOf controlByte
 table-forms = refl

@@ -8,3 +8,5 @@ pub mod Idle
 pub mod Clauses
 pub mod Put
 pub mod FormTable
+pub mod FrontPart
+pub mod Kept

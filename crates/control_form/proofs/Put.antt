@@ -13,7 +13,7 @@ use Rattle.lists.proofs.Tabulate.{length-tabulate, at-tabulate}
 use Rattle.lists.proofs.Segments.{length-splice, getD-in, getD-after, get-put-after}
 use Rattle.image.specs.Layout.{cardCount, blockCount, controlSize}
 use Rattle.image.specs.Parts.{Whole, blockAt}
-use Rattle.control.specs.ControlBytes.{Part, controlByte, controlOf}
+use Rattle.control.specs.ControlBytes.{Part, controlByte, controlOf, tailAt}
 use Rattle.control_form.specs.ControlForm.{controlForm}
 use Rattle.control.specs.Meaning.{putControl}
 use Rattle.control_form.proofs.RoundTrip.{control-back}
@@ -51,14 +51,14 @@ module _ (image : List ℕ) (k : Part) (long : controlSize ≤ length image) whe
   put-blocks w c hc b hb = get-put-after image 0 new _ _ fits (omega (arith, new-length)) (omega arith)
 
 -- What was read, put back.
-pub put-same : (image : List ℕ) → controlSize ≤ length image → controlForm image ≡ true → putControl image (controlOf (λ n. getD image n 0)) ≡ image
+pub put-same : (image : List ℕ) → controlSize ≤ length image → controlForm image ≡ true → putControl image (controlOf (λ n. getD image n 0) (tailAt image)) ≡ image
 put-same image long form = ext-getD 0 (putControl image k) image (length-put image k long) (λ n l. ⊎-elim (in-it n) (behind n) (lt-or-ge n controlSize))
   where
     k : Part
-    k = controlOf (λ n. getD image n 0)
+    k = controlOf (λ n. getD image n 0) (tailAt image)
 
     in-it : (n : ℕ) → n < controlSize → getD (putControl image k) n 0 ≡ getD image n 0
-    in-it n h = put-in image k long n h ∙ control-back (λ n. getD image n 0) form n h
+    in-it n h = put-in image k long n h ∙ control-back (λ n. getD image n 0) (tailAt image) form n h
 
     behind : (n : ℕ) → controlSize ≤ n → getD (putControl image k) n 0 ≡ getD image n 0
     behind n h = put-after image k long n h

@@ -10,19 +10,22 @@ use native.Mathlib.Nat.{mod-eq-of-lt}
 use lib.Dec.{leb, ltb, eqb}
 use lib.ListN.{getD, length, length-append}
 use borrow.Author.Tests.{eqb-true, ltb-true, leb-true, le-leb, lt-leb}
-use Rattle.lists.specs.Tests.{allIn, allBelow}
+use Rattle.lists.specs.Tests.{In, allIn, allBelow}
 use Rattle.lists.proofs.Bools.{split, and-l, and-r}
 use Rattle.lists.proofs.Counts.{below-all}
-use Rattle.image.specs.Layout.{cardCount, controlSize, mostActive, mostPlaced, tranBound}
+use Rattle.lists.proofs.Lists.{all-out}
+use Rattle.image.specs.Layout.{cardCount, controlSize, mostActive, mostPlaced, pairsSize, tailSize, tranBound}
 use Rattle.mask.specs.Masks.{Byte, byte, areApart, isWithin}
-use Rattle.mask.specs.Placements.{Placement}
+use Rattle.mask.specs.Pairs.{Pairs}
+use Rattle.mask.specs.Placements.{Choice, Placement, byTable, pairsOk}
 use Rattle.mask.proofs.Masks.{byte-path}
 use Rattle.method.specs.ControlPart.{active, isOpen}
-use Rattle.control.specs.ControlBytes.{Part, maskBytes, marksFrom, homeByte, controlByte, countIn, homeOf, keptAs, markIn, placementAt}
+use Rattle.control.specs.ControlBytes.{Part, maskBytes, marksFrom, homeByte, controlByte, countIn, homeOf, keptAs, markIn, pairsIn, placementAt, tableMarkIn}
 use Rattle.control.specs.ControlBytes.{controlOf, failedAt, field, fieldBound, firstByte, homeAt, lastMaskAt}
-use Rattle.control.specs.ControlBytes.{marksAt, masksAt, openBit, placementsIn, stoppedBit, stoppedIn, workingAt}
-use Rattle.control_form.specs.ControlForm.{allSafe, chainOk, countOk, formOk, homeOk, masksOf, membersOk, partOk, zeroFieldsOk}
-use Rattle.control.proofs.Marks.{mark-back}
+use Rattle.control.specs.ControlBytes.{chosenBy, keptByte, marksAt, masksAt, openBit, placementsIn, stoppedBit, stoppedIn, tailByte, workingAt}
+use Rattle.control_form.specs.ControlForm.{allSafe, chainOk, countOk, formOk, frontOk, homeOk, keptOk, masksOf, membersOk, partOk, tablesOk, zeroFieldsOk}
+use Rattle.control.proofs.Marks.{chosen-back}
+use Rattle.control.proofs.Tail.{kept-at, pairs-in, tail-at}
 use Rattle.control.proofs.Fields.{at-failed, at-first, at-home, at-marks, at-mask, at-working}
 
 -- ---- what is written is read again
@@ -47,8 +50,9 @@ module _
     (few : suc (length (k .older)) ≤ mostActive)
     (opens : (t : ℕ) → isOpen k t ≡ true → (ltb 0 t && ltb t tranBound) ≡ true)
     (homes : (t h : ℕ) → k .home t ≡ some h → h < cardCount)
-    (g : ℕ → ℕ)
+    (g t : ℕ → ℕ)
     (wrote : (n : ℕ) → n < controlSize → g n ≡ controlByte k n)
+    (behind : (n : ℕ) → n < tailSize → t n ≡ tailByte k n)
   where
     first : g 0 ≡ firstByte (k .stopped) (suc (length (k .older)))
     first = wrote 0 (omega arith) ∙ at-first k
@@ -73,17 +77,25 @@ module _
     read-marks : g marksAt ≡ marksFrom 0 (active k)
     read-marks = wrote marksAt (omega arith) ∙ at-marks k
 
-    read-placement : (i : ℕ) → i ≤ length (k .older) → placementAt g i ≡ getD (active k) i (k .newest)
-    read-placement i h =
-        let long : length (active k) ≡ suc (length (k .older)) = length-append (k .older) (k .newest ∷ []) ∙ add-one (length (k .older)) in
-        ap₂ (λ (m : Byte) (r : Bool). record { mask = m; byRails = r })
-        (byte-back (g (masksAt + i)) (getD (active k) i (k .newest) .mask) (read-mask i h ∙ mask-of (active k) i (k .newest) (omega (arith, long))))
-        (ap (λ (n : ℕ). markIn n i) read-marks ∙ mark-back (active k) i (k .newest) (omega (arith, long)) (omega (arith, long)))
+    long : length (active k) ≡ suc (length (k .older))
+    long = length-append (k .older) (k .newest ∷ []) ∙ add-one (length (k .older))
       where
         add-one : (n : ℕ) → n + 1 ≡ suc n
         add-one n = omega arith
 
-    read-home : (t : ℕ) → homeOf t (g (homeAt t)) ≡ k .home t
+    -- the pairs of a placement by table are those that stand behind the tables
+    read-pairs : (i : ℕ) → i ≤ length (k .older) → (y : Pairs) → getD (active k) i (k .newest) .choice ≡ byTable y → pairsIn t i ≡ y
+    read-pairs i h y e = pairs-in t i y (λ j b. behind (i * pairsSize + j) (omega arith) ∙ tail-at (active k) i j b
+        ∙ kept-at (active k) i j (k .newest) (omega (arith, long)) ∙ ap (λ (c : Choice). keptByte c j) e)
+
+    read-placement : (i : ℕ) → i ≤ length (k .older) → placementAt g t i ≡ getD (active k) i (k .newest)
+    read-placement i h =
+        ap₂ (λ (m : Byte) (c : Choice). record { mask = m; choice = c })
+        (byte-back (g (masksAt + i)) (getD (active k) i (k .newest) .mask) (read-mask i h ∙ mask-of (active k) i (k .newest) (omega (arith, long))))
+        (ap (λ (n : ℕ). chosenBy (tableMarkIn n i) (markIn n i) (pairsIn t i)) read-marks
+        ∙ chosen-back (active k) i (k .newest) (pairsIn t i) (omega (arith, long)) (omega (arith, long)) (read-pairs i h))
+
+    read-home : (x : ℕ) → homeOf x (g (homeAt x)) ≡ k .home x
     read-home t = go (k .home t) refl (split (ltb 0 t && ltb t tranBound))
       where
         home-at : (ltb 0 t && ltb t tranBound) ≡ true → g (homeAt t) ≡ homeByte (k .home t)
@@ -106,7 +118,7 @@ module _
             same h b = omega arith
 
     -- The control part that the bytes show is the one that was written.
-    pub read-control : controlOf g ≡ k
+    pub read-control : controlOf g t ≡ k
     unfolding controlOf
     read-control = λ i. record {
       stopped = read-stopped i;
@@ -119,44 +131,61 @@ module _
       serial = tt;
     }
       where
-        both : (placementsIn (placementAt g) (length (k .older)) ≡ k .older) × (placementAt g (length (k .older)) ≡ k .newest)
-        both = placements-back (k .older) (k .newest) (placementAt g) read-placement
+        both : (placementsIn (placementAt g t) (length (k .older)) ≡ k .older) × (placementAt g t (length (k .older)) ≡ k .newest)
+        both = placements-back (k .older) (k .newest) (placementAt g t) read-placement
 
         one-less : countIn (g 0) - 1 ≡ length (k .older)
         one-less = omega (arith, read-count)
 
-        old : placementsIn (placementAt g) (countIn (g 0) - 1) ≡ k .older
-        old = ap (placementsIn (placementAt g)) one-less ∙ both .0
+        old : placementsIn (placementAt g t) (countIn (g 0) - 1) ≡ k .older
+        old = ap (placementsIn (placementAt g t)) one-less ∙ both .0
 
         last : lastMaskAt (countIn (g 0)) ≡ masksAt + length (k .older)
         last = omega (arith, read-count)
 
-        new : keptAs (countIn (g 0) - 1) (g (lastMaskAt (countIn (g 0)))) (g marksAt) ≡ k .newest
-        new = ap₂ (λ (i n : ℕ). keptAs i (g n) (g marksAt)) one-less last ∙ both .1
+        new : keptAs (countIn (g 0) - 1) (g (lastMaskAt (countIn (g 0)))) (g marksAt) (pairsIn t (countIn (g 0) - 1)) ≡ k .newest
+        new = ap₂ (λ (i n : ℕ). keptAs i (g n) (g marksAt) (pairsIn t i)) one-less last ∙ both .1
 
 -- ---- what is read is written back
-module _ (g : ℕ → ℕ) (form : formOk g ≡ true) where
-  form-rest : (zeroFieldsOk g && partOk (controlOf g)) ≡ true
-  unfolding formOk
-  form-rest = and-r (countOk g) (zeroFieldsOk g && partOk (controlOf g)) form
+module _ (g t : ℕ → ℕ) (form : formOk g t ≡ true) where
+  abbrev k : Part
+  k = controlOf g t
 
-  pub control-back : (n : ℕ) → n < controlSize → controlByte (controlOf g) n ≡ g n
+  form-front : (countOk g && (zeroFieldsOk k g && partOk k)) ≡ true
+  unfolding formOk frontOk
+  form-front = and-l (countOk g && (zeroFieldsOk k g && partOk k)) (keptOk k t && tablesOk k) form
+
+  form-rest : (zeroFieldsOk k g && partOk k) ≡ true
+  form-rest = and-r (countOk g) (zeroFieldsOk k g && partOk k) form-front
+
+  form-behind : (keptOk k t && tablesOk k) ≡ true
+  unfolding formOk
+  form-behind = and-r (frontOk k g) (keptOk k t && tablesOk k) form
+
+  pub control-back : (n : ℕ) → n < controlSize → controlByte (controlOf g t) n ≡ g n
   unfolding zeroFieldsOk
-  control-back n h =
-      sym (eqb-true (g n) (controlByte (controlOf g) n)
-      (below-all controlSize (λ n. eqb (g n) (controlByte (controlOf g) n)) n (and-l (zeroFieldsOk g) (partOk (controlOf g)) form-rest) h))
+  control-back n h = sym (eqb-true (g n) (controlByte k n) (below-all controlSize (λ n. eqb (g n) (controlByte k n)) n (and-l (zeroFieldsOk k g) (partOk k) form-rest) h))
+
+  pub tail-back : (n : ℕ) → n < tailSize → tailByte (controlOf g t) n ≡ t n
+  unfolding keptOk
+  tail-back n h = sym (eqb-true (t n) (tailByte k n) (below-all tailSize (λ n. eqb (t n) (tailByte k n)) n (and-l (keptOk k t) (tablesOk k) form-behind) h))
 
   -- The count is 1 to 4, and the clauses on the control part hold.
   pub form-count : (1 ≤ countIn (g 0)) × (countIn (g 0) ≤ mostActive)
-  unfolding formOk countOk
+  unfolding countOk
   form-count =
-      let c : countOk g ≡ true = and-l (countOk g) (zeroFieldsOk g && partOk (controlOf g)) form in (
+      let c : countOk g ≡ true = and-l (countOk g) (zeroFieldsOk k g && partOk k) form-front in (
         leb-true 1 (countIn (g 0)) (and-l (leb 1 (countIn (g 0))) (leb (countIn (g 0)) mostActive) c),
         leb-true (countIn (g 0)) mostActive (and-r (leb 1 (countIn (g 0))) (leb (countIn (g 0)) mostActive) c),
       )
 
-  pub form-part : partOk (controlOf g) ≡ true
-  form-part = and-r (zeroFieldsOk g) (partOk (controlOf g)) form-rest
+  pub form-part : partOk (controlOf g t) ≡ true
+  form-part = and-r (zeroFieldsOk k g) (partOk k) form-rest
+
+  -- The pairs of placements by table are two different members each.
+  pub form-pairs : (p : Placement) → In p (active (controlOf g t)) → pairsOk (p .mask) (p .choice) ≡ true
+  unfolding tablesOk
+  form-pairs p m = all-out (λ p. pairsOk (p .mask) (p .choice)) (active k) p (and-r (keptOk k t) (tablesOk k) form-behind) m
 
 -- ---- the clauses on a control part, each taken out
 pub record Clauses (k : Part) : Type 0 where

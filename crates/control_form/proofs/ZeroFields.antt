@@ -1,11 +1,10 @@
 -- Zero fields are zero: field by field, the bytes that can differ from those of the control part that they show. Assumes nothing.
-use mathlib.Core.Path.{_≡_, refl, sym, ap, subst, _∙_}
+use mathlib.Core.Path.{_≡_, refl, sym, ap, fun-ext, subst, _∙_}
 use mathlib.Core.Logic.{⊎-elim}
 use mathlib.Core.Bool.{Bool, true, false, _&&_}
 use mathlib.Core.List.{List}
 use Prim.Native.Nat.{ℕ, _+_, _-_, _*_, _%_, _≤_, _<_}
 use native.Mathlib.Omega.{arith}
-use lib.Bits.{bitAnd}
 use lib.Dec.{eqb}
 use lib.ListN.{getD}
 use borrow.Author.Tests.{eq-eqb, le-leb, lt-leb}
@@ -14,13 +13,14 @@ use Rattle.lists.proofs.Bools.{tf, and-in, same-test}
 use Rattle.lists.proofs.Cases.{lt-or-ge}
 use Rattle.lists.proofs.Counts.{all-below, below-all, eqb-same}
 use Rattle.image.specs.Layout.{controlSize, mostActive, tranCount}
-use Rattle.control.specs.ControlBytes.{controlByte, countIn, failedAt, field, firstByte, homeByte, homeIn}
+use Rattle.control.specs.ControlBytes.{Part, controlByte, controlOf, countIn, failedAt, field, firstByte, homeByte, homeIn}
 use Rattle.control.specs.ControlBytes.{homesAt, homesEnd, marksAt, masksAt, stoppedBit, stoppedIn, workingAt}
 use Rattle.control_form.specs.ControlForm.{countOk, zeroFieldsOk}
-use Rattle.control.specs.Meaning.{structOf, meaning, bitsFrom, Counted}
-use Rattle.control_form.specs.Reading.{allFrom, isZeroAt, isHomeAt}
+use Rattle.control.specs.Meaning.{structOf, meaning, Counted}
+use Rattle.control_form.specs.Reading.{allFrom, isZeroAt, isHomeAt, marksOk}
 use Rattle.control_form.proofs.Checks.{count-counted, means-is}
 use Rattle.control_form.proofs.Ranges.{all-from, from-all, from-each}
+use Rattle.control.proofs.Front.{front-byte}
 use Rattle.control.proofs.Marks.{marks-clean}
 use Rattle.control.proofs.Struct.{at-row, byte-first, byte-mask, byte-unused, byte-working, byte-failed, byte-marks}
 use Rattle.control.proofs.Struct.{byte-home, byte-rest}
@@ -30,9 +30,10 @@ use Rattle.control.proofs.Fields.{each-field}
 unfoldable byteTest : List ℕ → ℕ → Bool
 byteTest l n = eqb (getD l n 0) (controlByte (meaning (structOf l)) n)
 
-zeros-are : (l : List ℕ) → Counted (structOf l) → zeroFieldsOk (λ n. getD l n 0) ≡ allBelow controlSize (byteTest l)
+zeros-are : (l : List ℕ) (t : ℕ → ℕ) → Counted (structOf l) → zeroFieldsOk (controlOf (λ n. getD l n 0) t) (λ n. getD l n 0) ≡ allBelow controlSize (byteTest l)
 unfolding zeroFieldsOk byteTest
-zeros-are l w = rw (means-is l (structOf l) refl w)
+zeros-are l t w = ap (λ (f : ℕ → ℕ). allBelow controlSize (λ n. eqb (getD l n 0) (f n)))
+    (fun-ext (λ n. sym (front-byte (controlOf (λ n. getD l n 0) t) n) ∙ ap (λ (k : Part). controlByte k n) (sym (means-is l (structOf l) refl t w))))
 
 -- The first byte is its highest bit and the three bits behind it where its low four bits are zero.
 first-by : (b : ℕ) → b < 256 → eqb b (firstByte (stoppedIn b) (countIn b)) ≡ eqb (b % field) 0
@@ -48,7 +49,7 @@ first-by b h = ⊎-elim low high (lt-or-ge b stoppedBit)
 abbrev pub parts : List ℕ → Bool
 parts l = eqb (getD l 0 0 % field) 0
     && (allFrom (masksAt + countIn (getD l 0 0)) workingAt (isZeroAt l)
-    && (eqb (bitAnd (getD l marksAt 0) (bitsFrom (countIn (getD l 0 0)))) 0
+    && (marksOk (countIn (getD l 0 0)) (getD l marksAt 0)
     && (allFrom homesAt homesEnd (isHomeAt l)
     && allFrom homesEnd controlSize (isZeroAt l))))
 
@@ -87,8 +88,8 @@ module _ (l : List ℕ) (w : Counted (structOf l)) (bytes : (n : ℕ) → getD l
   unfolding byteTest structOf
   test-failed = eq-eqb _ _ (byte-failed (structOf l) w (bytes failedAt))
 
-  test-marks : byteTest l marksAt ≡ eqb (bitAnd (getD l marksAt 0) (bitsFrom n)) 0
-  unfolding byteTest structOf
+  test-marks : byteTest l marksAt ≡ marksOk n (getD l marksAt 0)
+  unfolding byteTest structOf marksOk
   test-marks = ap (eqb (getD l marksAt 0)) (sym (byte-marks (structOf l) w (bytes marksAt))) ∙ marks-clean n (getD l marksAt 0) (w .few) (bytes marksAt)
 
   test-home : (i : ℕ) → i < tranCount → byteTest l (homesAt + i) ≡ isHomeAt l (homesAt + i)
@@ -122,7 +123,7 @@ module _ (l : List ℕ) (w : Counted (structOf l)) (bytes : (n : ℕ) → getD l
       (λ i h b. test-home i h ∙ from-all homesAt (isHomeAt l) homesEnd (homesAt + i) (r .3) (omega arith) (omega arith))
       (λ m h b. test-rest m h ∙ from-all homesEnd (isZeroAt l) controlSize m (r .4) h b)
     where
-      r : (eqb (getD l 0 0 % field) 0 ≡ true) × (allFrom (masksAt + n) workingAt (isZeroAt l) ≡ true) × (eqb (bitAnd (getD l marksAt 0) (bitsFrom n)) 0 ≡ true)
+      r : (eqb (getD l 0 0 % field) 0 ≡ true) × (allFrom (masksAt + n) workingAt (isZeroAt l) ≡ true) × (marksOk n (getD l marksAt 0) ≡ true)
           × (allFrom homesAt homesEnd (isHomeAt l) ≡ true) × (allFrom homesEnd controlSize (isZeroAt l) ≡ true)
       r = five _ _ _ _ _ t
 
@@ -139,10 +140,17 @@ unfolding structOf
 count-some l c = count-counted l (structOf l) refl c .some
 
 -- The whole clause by these parts.
-pub zero-fields-by : (l : List ℕ) → countOk (λ n. getD l n 0) ≡ true → ((n : ℕ) → getD l n 0 < 256) → zeroFieldsOk (λ n. getD l n 0) ≡ parts l
-zero-fields-by l c bytes = zeros-are l w ∙ same-test (allBelow controlSize (byteTest l)) (parts l)
+pub zero-fields-by : (l : List ℕ) (t : ℕ → ℕ) → countOk (λ n. getD l n 0) ≡ true → ((n : ℕ) → getD l n 0 < 256)
+    → zeroFieldsOk (controlOf (λ n. getD l n 0) t) (λ n. getD l n 0) ≡ parts l
+zero-fields-by l t c bytes = zeros-are l t w ∙ same-test (allBelow controlSize (byteTest l)) (parts l)
     (λ t. every-part l w bytes (λ n b. below-all controlSize (byteTest l) n t b))
     (λ t. all-below controlSize (byteTest l) (every-byte l w bytes t))
   where
     w : Counted (structOf l)
     w = count-counted l (structOf l) refl c
+
+-- So the marks are clean.
+pub marks-are : (l : List ℕ) (t : ℕ → ℕ) → countOk (λ n. getD l n 0) ≡ true → ((n : ℕ) → getD l n 0 < 256)
+    → zeroFieldsOk (controlOf (λ n. getD l n 0) t) (λ n. getD l n 0) ≡ true → marksOk (countIn (getD l 0 0)) (getD l marksAt 0) ≡ true
+marks-are l t c bytes z = five (eqb (getD l 0 0 % field) 0) (allFrom (masksAt + countIn (getD l 0 0)) workingAt (isZeroAt l)) (marksOk (countIn (getD l 0 0)) (getD l marksAt 0))
+    (allFrom homesAt homesEnd (isHomeAt l)) (allFrom homesEnd controlSize (isZeroAt l)) (sym (zero-fields-by l t c bytes) ∙ z) .2

@@ -6,21 +6,21 @@ use mathlib.Core.Bool.{Bool, _&&_, _||_, cond, false, not, true}
 use mathlib.Core.List.{List, [], _∷_, reverse}
 use mathlib.Core.Option.{Option, none, some}
 use Rattle.lists.specs.Tests.{allIn, allBelow}
-use Rattle.image.specs.Layout.{controlSize, copyCount, imageSize, leastMembers, mostActive, mostPlaced, tranBound}
+use Rattle.image.specs.Layout.{controlSize, copyCount, imageSize, leastMembers, mostActive, mostPlaced, tailSize, tranBound}
 use Rattle.mask.specs.Masks.{Byte, areApart, common, hasCard, isOneMore, isWithin, isWithinEither, size}
-use Rattle.mask.specs.Placements.{Placement}
+use Rattle.mask.specs.Placements.{Placement, pairsOk}
 use Rattle.method.specs.ControlPart.{active}
 use Rattle.method.specs.Rules.{row}
-use Rattle.control.specs.ControlBytes.{Part, controlByte, controlOf, countIn}
+use Rattle.control.specs.ControlBytes.{Part, controlByte, controlOf, countIn, tailAt, tailByte}
 
 -- Count is 1 to 4.
 unfoldable pub countOk : (ℕ → ℕ) → Bool
 countOk g = leb 1 (countIn (g 0)) && leb (countIn (g 0)) mostActive
 
--- Zero fields are zero, marks of placements that are not there among them: the bytes are those of the control part that
--- they show.
-unfoldable pub zeroFieldsOk : (ℕ → ℕ) → Bool
-zeroFieldsOk g = allBelow controlSize (λ n. eqb (g n) (controlByte (controlOf g) n))
+-- Zero fields are zero, marks of placements that are not there among them, and no placement has both marks: the bytes
+-- before the tables are those of the control part that they show.
+unfoldable pub zeroFieldsOk : Part → (ℕ → ℕ) → Bool
+zeroFieldsOk k g = allBelow controlSize (λ n. eqb (g n) (controlByte k n))
 
 -- An active placement with this mask has two members or more, each working or failed.
 unfoldable pub membersOk : Byte → Byte → Byte → Bool
@@ -53,7 +53,7 @@ abbrev pub masksOf : List Placement → List Byte
 masksOf [] = []
 masksOf (p ∷ l) = p .mask ∷ masksOf l
 
--- The clauses on the control part that the bytes show.
+-- The clauses on the control part that the bytes show, but for pairs.
 unfoldable pub partOk : Part → Bool
 partOk k =
     -- working and failed share no card
@@ -65,13 +65,25 @@ partOk k =
     && ((k .stopped || allSafe k)
     && allBelow tranBound (λ t. homeOk (k .stopped) (k .working) (k .home t))))))
 
--- The control form of bytes.
-unfoldable pub formOk : (ℕ → ℕ) → Bool
-formOk g = countOk g && (zeroFieldsOk g && partOk (controlOf g))
+-- What is asked of the bytes before the tables.
+unfoldable pub frontOk : Part → (ℕ → ℕ) → Bool
+frontOk k g = countOk g && (zeroFieldsOk k g && partOk k)
 
--- The same of an image, which begins with them.
+-- Behind the tables nothing is kept for a placement that is not by table or not there, and the pairs of one that is by
+-- table are two different members each.
+unfoldable pub keptOk : Part → (ℕ → ℕ) → Bool
+keptOk k t = allBelow tailSize (λ n. eqb (t n) (tailByte k n))
+
+unfoldable pub tablesOk : Part → Bool
+tablesOk k = allIn (λ p. pairsOk (p .mask) (p .choice)) (active k)
+
+-- The control form of bytes, before and behind the tables.
+unfoldable pub formOk : (ℕ → ℕ) → (ℕ → ℕ) → Bool
+formOk g t = frontOk (controlOf g t) g && (keptOk (controlOf g t) t && tablesOk (controlOf g t))
+
+-- The same of an image.
 abbrev pub controlForm : List ℕ → Bool
-controlForm image = formOk (λ n. getD image n 0)
+controlForm image = formOk (λ n. getD image n 0) (tailAt image)
 
 -- Rows 1 and 2 of the refusal table, and the rows below them: the length is wrong; the control form is broken (formed
 -- says whether it holds), which a start does not examine.

@@ -1,20 +1,21 @@
 -- What the reader finds in an image, and what it looks at byte by byte. Assumes nothing.
 use mathlib.Core.Path.{_≡_}
-use mathlib.Core.Bool.{Bool, _&&_, _||_}
+use mathlib.Core.Bool.{Bool, _&&_, _||_, cond}
 use mathlib.Core.Logic.{_≢_}
 use mathlib.Core.List.{List, [], _∷_}
-use Prim.Native.Nat.{ℕ, zero, suc, _%_, _+_, _-_}
+use Prim.Native.Nat.{ℕ, zero, suc, _%_, _*_, _/_, _+_, _-_}
 use lib.Bits.{bitAnd}
 use lib.Dec.{eqb, ltb}
 use lib.ListN.{getD}
 use Rattle.lists.specs.Tests.{allBelow}
-use Rattle.image.specs.Layout.{controlSize, mostPlaced}
+use Rattle.image.specs.Layout.{controlSize, mostPlaced, pairsSize}
 use Rattle.mask.specs.Masks.{Byte, byte, isWithin, noCards}
+use Rattle.mask.specs.Pairs.{arePairsOf}
 use Rattle.mask.specs.Placements.{fromMask}
 use Rattle.method.specs.ControlPart.{started}
-use Rattle.control.specs.ControlBytes.{Part, controlOf, countIn, failedAt, field, homeByte, homeIn, homesAt, homesEnd}
-use Rattle.control.specs.ControlBytes.{lastMaskAt, marksAt, masksAt, stoppedIn, workingAt}
-use Rattle.control.specs.Meaning.{Is, bitsFrom}
+use Rattle.control.specs.ControlBytes.{Part, controlOf, countIn, failedAt, field, frontPart, homeByte, homeIn, homesAt, homesEnd}
+use Rattle.control.specs.ControlBytes.{lastMaskAt, marksAt, masksAt, pairsIn, stoppedIn, tableMarkIn, tailAt, workingAt}
+use Rattle.control.specs.Meaning.{Is, freeMarks}
 use Rattle.control_form.specs.ControlForm.{chainOk, formRefusal, homeOk, isSafe, membersOk}
 use Rattle.control_form.specs.declared.Found.{Found}
 
@@ -52,11 +53,15 @@ homeOkAt stopped l n = homeOk stopped (byte (getD l workingAt 0)) (homeIn (getD 
 unfoldable pub homeFitsAt : List ℕ → ℕ → Bool
 homeFitsAt l n = isHomeAt l n && homeOkAt (stoppedIn (getD l 0 0)) l n
 
+-- No placement that is not there has a mark, and none has both.
+unfoldable pub marksOk : ℕ → ℕ → Bool
+marksOk count marks = eqb (bitAnd marks (freeMarks count)) 0 && eqb (bitAnd (marks / 16) (marks % 16)) 0
+
 -- The zero fields that are no transaction's are zero.
 unfoldable pub otherZeros : List ℕ → Bool
 otherZeros l = eqb (getD l 0 0 % field) 0
     && (allFrom (masksAt + countIn (getD l 0 0)) workingAt (isZeroAt l)
-    && (eqb (bitAnd (getD l marksAt 0) (bitsFrom (countIn (getD l 0 0)))) 0
+    && (marksOk (countIn (getD l 0 0)) (getD l marksAt 0)
     && allFrom homesEnd controlSize (isZeroAt l)))
 
 -- The clauses on a mask: its members, and, if the store is not stopped, that it is safe.
@@ -85,13 +90,19 @@ chainIn l =
 unfoldable pub newestIn : List ℕ → Bool
 newestIn l = stoppedIn (getD l 0 0) || isWithin (byte (getD l (lastMaskAt (countIn (getD l 0 0))) 0)) (byte (getD l workingAt 0))
 
+-- What is kept behind the tables for placement i is zero where it has no mark for a table, and else such pairs.
+unfoldable pub keptOkAt : List ℕ → ℕ → Bool
+keptOkAt l i =
+    cond (tableMarkIn (getD l marksAt 0) i) (arePairsOf (maskAt l i) (pairsIn (tailAt l) i))
+    (allBelow pairsSize (λ j. eqb (tailAt l (i * pairsSize + j)) 0))
+
 -- No control part: that of a start with no cards, which stands where none can be read.
 abbrev pub noPart : Part
 noPart = started (fromMask noCards) noCards noCards tt tt
 
 -- What reading an image finds: row 1 or 2 of the refusal table and no control part, or else 0 and the control part that
--- the bytes show.
+-- the bytes show, without its pairs.
 pub record Reads (image : List ℕ) (r : Found) : Type 0 where
   pub refusal-is : r .refusal ≡ formRefusal image
-  pub good : r .refusal ≡ 0 → Is (r .control) (controlOf (λ n. getD image n 0))
+  pub good : r .refusal ≡ 0 → Is (r .control) (frontPart (controlOf (λ n. getD image n 0) (tailAt image)))
   pub bad : r .refusal ≢ 0 → Is (r .control) noPart

@@ -1,13 +1,14 @@
 // The control form, a clause a function, and the reader that checks it.
 ghost use mathlib.Core.Path.{_≡_};
 ghost use mathlib.Core.Bool.{true, false};
-ghost use Prim.Native.Nat.{_+_, _≤_};
+ghost use Prim.Native.Nat.{_+_, _≤_, _<_, ℕ};
 ghost use lib.ListN.{length, getD};
 ghost use Rattle.lists.specs.Tests.{allBelow};
 ghost use Rattle.image.specs.Layout.{controlSize, mostActive};
+ghost use Rattle.image.specs.Parts.{Whole};
 ghost use Rattle.mask.specs.Masks.{byte};
-ghost use Rattle.control.specs.ControlBytes.{countIn, homesAt, homesEnd, masksAt, stoppedIn, workingAt};
-ghost use Rattle.control_form.specs.ControlForm.{allSafe, controlForm, countOk, isSafe, membersOk};
+ghost use Rattle.control.specs.ControlBytes.{controlOf, countIn, homesAt, homesEnd, masksAt, stoppedIn, workingAt};
+ghost use Rattle.control_form.specs.ControlForm.{allSafe, controlForm, countOk, frontOk, isSafe, membersOk};
 ghost use Rattle.control.specs.Meaning.{meaning, Counted, Is};
 ghost use Rattle.control_form.specs.Reading.{
   Reads,
@@ -17,6 +18,8 @@ ghost use Rattle.control_form.specs.Reading.{
   homeOkAt,
   isHomeAt,
   isZeroAt,
+  keptOkAt,
+  marksOk,
   maskTest,
   newestIn,
   noPart,
@@ -28,6 +31,7 @@ ghost use Rattle.control_form.specs.Reading.{
 mod words;
 
 use control::Control;
+use control::FIRST_TABLE_MARK;
 use control::MASK_COUNT;
 use control::codec::FAILED_AT;
 use control::codec::FIELD;
@@ -36,10 +40,11 @@ use control::codec::HOMES_AT;
 use control::codec::HOMES_END;
 use control::codec::MARKS_AT;
 use control::codec::MASKS_AT;
+use control::codec::RAIL_WEIGHT;
 use control::codec::STOPPED;
 use control::codec::WORKING_AT;
 use control::codec::decode;
-use control::codec::no_marks;
+use control::codec::free_marks;
 use image::MOST_ACTIVE;
 use words::WORD_SIZE;
 
@@ -95,8 +100,18 @@ fn tail_ok(s: &[u8]) -> bool
     words::word(s, HOMES_END + 1) == 0
 }
 
-// Zero fields are zero, but for the transactions' bytes. Masks that count, working and failed have none; of the marks
-// the bits from the count on.
+// No placement that is not there has a mark, and none has both.
+fn marks_ok(count: u8, marks: u8) -> bool
+    requires { ⌜ count ≤ mostActive ⌝ }
+    ensures { λ r. ⌜ r ≡ marksOk count marks ⌝ }
+{
+    if (marks & free_marks(count)) != 0 {
+        return false;
+    }
+    ((marks / RAIL_WEIGHT) & (marks % RAIL_WEIGHT)) == 0
+}
+
+// Zero fields are zero, but for the transactions' bytes. Masks that count, working and failed have none.
 fn zero_fields_ok(s: &[u8]) -> bool
     requires { ⌜ controlSize ≤ length (now s) ⌝ }
     requires { ⌜ countOk (λ n. getD (now s) n 0) ≡ true ⌝ }
@@ -109,7 +124,7 @@ fn zero_fields_ok(s: &[u8]) -> bool
     if !masks_end(s, count) {
         return false;
     }
-    if (s[MARKS_AT] & no_marks(count)) != 0 {
+    if !marks_ok(count, s[MARKS_AT]) {
         return false;
     }
     tail_ok(s)
@@ -260,10 +275,11 @@ fn homes_ok(s: &[u8]) -> bool
     homes_work(s)
 }
 
-// The control form of bytes.
-fn form_ok(s: &[u8]) -> bool
+// What the control form asks of the bytes before the tables; it does not look at the bytes t behind them.
+pub fn front_ok(s: &[u8]) -> bool
     requires { ⌜ controlSize ≤ length (now s) ⌝ }
-    ensures { λ r. ⌜ r ≡ controlForm (now (s .entry)) ⌝ }
+    ensures { λ r. ⌜ ((t : ℕ → ℕ)
+        → r ≡ frontOk (controlOf (λ n. getD (now (s .entry)) n 0) t) (λ n. getD (now (s .entry)) n 0)) ⌝ }
 {
     if !count_ok(s) {
         return false;
@@ -286,11 +302,55 @@ fn form_ok(s: &[u8]) -> bool
     homes_ok(s)
 }
 
+// What is kept behind the tables for placement i is zero where it has no mark for a table, and else pairs of different
+// members.
+fn kept_ok(image: &[u8], i: usize) -> bool
+    requires { ⌜ Whole (now image) × (i < mostActive) ⌝ }
+    ensures { λ r. ⌜ r ≡ keptOkAt (now (image .entry)) i ⌝ }
+{
+    let start = image::TAIL_START + i * image::PAIRS_SIZE;
+    let end = start + image::PAIRS_SIZE;
+    let mark = FIRST_TABLE_MARK >> i;
+    if (image[MARKS_AT] & mark) != 0 {
+        return mask::pairs::are_pairs_of(&image[start..end], image[MASKS_AT + i]);
+    }
+    image::all_zero(&image[start..end])
+}
+
+// So it is for each placement. Where none has a mark for a table, all bytes are tested at once.
+fn tables_ok(image: &[u8]) -> bool
+    requires { ⌜ Whole (now image) ⌝ }
+    ensures { λ r. ⌜ r ≡ allBelow mostActive (keptOkAt (now (image .entry))) ⌝ }
+{
+    if image[MARKS_AT] % RAIL_WEIGHT == 0 {
+        return image::all_zero(&image[image::TAIL_START..image::IMAGE_SIZE]);
+    }
+    let mut i = 0;
+    while i < MASK_COUNT {
+        if !kept_ok(image, i) {
+            return false;
+        }
+        i += 1;
+    }
+    true
+}
+
+// The control form of an image.
+fn form_ok(image: &[u8]) -> bool
+    requires { ⌜ Whole (now image) ⌝ }
+    ensures { λ r. ⌜ r ≡ controlForm (now (image .entry)) ⌝ }
+{
+    if !front_ok(image) {
+        return false;
+    }
+    tables_ok(image)
+}
+
 // No control part, and why.
 fn unread(refusal: u8) -> Found
     ensures { λ r. ⌜ (r .refusal ≡ refusal) × Is (r .control) noPart ⌝ }
 {
-    let none = Control::started(mask::Placement::from_mask(0));
+    let none = Control::started(0);
     Found {
         refusal: refusal,
         control: none,

@@ -1,7 +1,7 @@
 -- The store goes on: what the rollback of the card's own transactions, their closing and the placement without the card leave is the image of
 -- the rules' plan, and there is room for that placement. Assumes nothing.
 use Prim.Native.Nat.{_-_, _<_, ℕ}
-use lib.ListN.{getD, length, length-reverse}
+use lib.ListN.{getD, length, length-map, length-reverse}
 use mathlib.Core.Bool.{Bool, false, true}
 use mathlib.Core.List.{[], _∷_, reverse}
 use mathlib.Core.Path.{_∙_, _≡_, ap, ap₂, refl, sym}
@@ -11,24 +11,25 @@ use Rattle.lists.proofs.Lists.{in-left, in-reverse}
 use Rattle.image.specs.Layout.{mostActive, mostPlaced}
 use Rattle.image.specs.Parts.{Whole}
 use Rattle.mask.specs.Masks.{Byte, byte, hasCard, withoutCard}
-use Rattle.mask.specs.Placements.{Placement, fromMask}
+use Rattle.mask.specs.Placements.{Placement, fromMask, pairless}
 use Rattle.slot.specs.Blocks.{inSet}
 use Rattle.method.specs.Changes.{marked}
 use Rattle.method.specs.ControlPart.{active, added, begunAt, closed}
 use Rattle.method.specs.Rules.{act, dropHeld, fail, placed, stampAll, stamping, stopping, unplaced, writing}
-use Rattle.control.specs.ControlBytes.{Part}
+use Rattle.control.specs.ControlBytes.{Part, frontPart}
+use Rattle.control.proofs.Front.{added-front}
 use Rattle.control.specs.Meaning.{Is, meaning, newestMask, placementIn, putControl}
 use Rattle.control.specs.declared.Control.{Control as Struct}
 use Rattle.control.proofs.Struct.{length-placements, newest-mask-is}
 use Rattle.control_form.proofs.RoundTrip.{form-part, part-clauses}
 use Rattle.cabinet_rules.specs.Cabinet.{cabinet}
-use Rattle.cabinet_rules.specs.Images.{Image, controlIn, planOn}
+use Rattle.cabinet_rules.specs.Images.{Image, controlIn, planOn, tailIn}
 use Rattle.promise.specs.Given.{viewOf}
 use Rattle.promise.specs.Promise.{Done}
 use Rattle.promise.specs.declared.Answer.the-variants.{Placed, Unplaced}
 use Rattle.promise.proofs.Finish.{by-both, by-plan, form-good}
 use Rattle.promise.specs.Laid.{laid}
-use Rattle.promise.proofs.Laid.{whole-laid, write-stamped}
+use Rattle.promise.proofs.Laid.{KeepsTail, more-tail, no-ends, same-tail, whole-laid, write-control}
 use Rattle.tables.specs.Tables.{endWrites, setOf}
 use Rattle.failure.specs.Failing.{Failing}
 use Rattle.failure.proofs.Room.{room-for}
@@ -56,7 +57,7 @@ module _ {m x : Struct} {g out : Image} {c : ℕ} (f : Failing m g c) (s : stopp
   abbrev closedPart : Part
   closedPart = closed (marked cabinet (controlIn g) c) (begunAt (controlIn g) c)
 
-  closed-is : meaning x ≡ closedPart
+  closed-is : meaning x ≡ frontPart closedPart
   closed-is = t .closes .means ∙ ap (λ (y : Part). closed y (begunAt y c)) (f .is .means)
 
   out-dropped : out ≡ laid (dropHeld cabinet (begunAt (controlIn g) c) c (viewOf g)) g
@@ -83,7 +84,7 @@ module _ {m x : Struct} {g out : Image} {c : ℕ} (f : Failing m g c) (s : stopp
       → (behind : Image) → behind ≡ putControl out (meaning x) → Done (fail c) g Unplaced behind
   unplaced-done e h z behind l =
       let w = dropHeld cabinet (begunAt (controlIn g) c) c (viewOf g) in
-      by-both (fail c) refl g (f .formed) Unplaced closedPart w behind (f .accepted) (unplaced-plan (had e h ∙ z))
+      by-both (fail c) refl g (f .formed) Unplaced closedPart w behind (f .accepted) (unplaced-plan (had e h ∙ z)) (same-tail g (form-good g (f .formed)))
       (l ∙ ap₂ putControl out-dropped closed-is)
 
   -- ---- the card was in it
@@ -96,21 +97,22 @@ module _ {m x : Struct} {g out : Image} {c : ℕ} (f : Failing m g c) (s : stopp
   unfolding act
   placed-plan h = rw (s, h)
 
-  pub placed-done : {n mask : ℕ} {b : Bool} {p : Placement} {y : Struct} → n ≡ newestMask m → b ≡ hasCard (byte n) c → b ≡ true → byte mask ≡ withoutCard (byte n) c
-      → p ≡ fromMask (byte mask) → Is y (added (meaning x) p tt) → (behind : Image) → behind ≡ putControl out (meaning y) → Done (fail c) g (Placed mask) behind
-  placed-done {mask = mask} {p = p} {y = y} e h z without from iy behind l =
+  pub placed-done : {n mask : ℕ} {b : Bool} {y : Struct} → n ≡ newestMask m → b ≡ hasCard (byte n) c → b ≡ true → byte mask ≡ withoutCard (byte n) c
+      → Is y (added (meaning x) (fromMask (byte mask)) tt) → (behind : Image) → behind ≡ putControl out (meaning y) → Done (fail c) g (Placed mask) behind
+  placed-done {mask = mask} {y = y} e h z without iy behind l =
       let w = dropHeld cabinet (begunAt (controlIn g) c) c (viewOf g) in
       let q : byte mask ≡ withoutCard newest c = without ∙ ap (λ (b : Byte). withoutCard b c) (newest-is e) in
-      let is : meaning y ≡ addedPart = iy .means ∙ ap₂ (λ (k : Part) (p : Placement). added k p tt) closed-is (from ∙ ap (λ (b : Byte). fromMask b) q) in
+      let is : meaning y ≡ frontPart addedPart = iy .means ∙ ap₂ (λ (k : Part) (b : Byte). added k (fromMask b) tt) closed-is q ∙ added-front closedPart (fromMask (withoutCard newest c)) in
+      let keeps : KeepsTail addedPart g = more-tail g closedPart (fromMask (withoutCard newest c)) (form-good g (f .formed)) refl refl in
       by-plan (fail c) refl g (f .formed) (Placed mask) _ behind (f .accepted) (placed-plan (had e h ∙ z)) (ap (λ (b : Byte). placed b) q)
-      (l ∙ ap₂ putControl out-dropped is ∙ write-stamped w g addedPart _ refl)
+      (l ∙ ap₂ putControl out-dropped is ∙ write-control w g addedPart keeps ∙ no-ends addedPart w _ g refl)
 
   older-active : (p : Placement) → In p (reverse (controlIn g .older)) → In p (active (controlIn g))
   older-active p i = in-left (controlIn g .older) (controlIn g .newest ∷ []) p (in-reverse (controlIn g .older) p i)
 
   pub room : {n : ℕ} {b : Bool} → n ≡ newestMask m → b ≡ hasCard (byte n) c → b ≡ true → x .count < mostActive
   room e h z =
-      let chain = part-clauses (controlIn g) (form-part (λ n. getD g n 0) (form-good g (f .formed))) .chain in
+      let chain = part-clauses (controlIn g) (form-part (λ n. getD g n 0) (tailIn g) (form-good g (f .formed))) .chain in
       let few : length (reverse (controlIn g .older)) < mostPlaced = room-for (controlIn g) c (reverse (controlIn g .older)) older-active chain s (had e h ∙ z) in
-      let n : length (meaning x .older) ≡ length (controlIn g .older) = ap (λ (p : Part). length (p .older)) closed-is in
+      let n : length (meaning x .older) ≡ length (controlIn g .older) = ap (λ (p : Part). length (p .older)) closed-is ∙ length-map (controlIn g .older) pairless in
       omega (arith, few, n, older-count x, length-reverse (controlIn g .older))

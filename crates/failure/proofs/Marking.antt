@@ -17,7 +17,7 @@ use Rattle.promise.specs.Promise.{Done}
 use Rattle.promise.specs.Rows.{cardRows}
 use Rattle.promise.specs.declared.Answer.the-variants.{Refused}
 use Rattle.promise.proofs.Finish.{by-rules}
-use Rattle.promise.proofs.SharedRows.{card-accepted}
+use Rattle.promise.proofs.SharedRows.{card-accepted, card-given}
 use Rattle.failure.specs.Failing.{Failing}
 
 fail-rows : (g : Image) (c : ℕ) → cardRows (controlIn g) c ≡ rowsOn (fail c) g
@@ -26,7 +26,7 @@ fail-rows g c = refl
 
 module _ {k : Struct} {g : Image} (is : Given k g) (c : ℕ) where
   rows-on : {n : ℕ} → n ≡ cardRows (meaning k) c → n ≡ rowsOn (fail c) g
-  rows-on e = e ∙ ap (λ (p : Part). cardRows p c) (is .is .means) ∙ fail-rows g c
+  rows-on e = e ∙ card-given is c ∙ fail-rows g c
 
   pub fail-refused : (n : ℕ) → n ≡ cardRows (meaning k) c → n ≢ 0 → Done (fail c) g (Refused n) g
   fail-refused n e d = by-rules (fail c) refl g (is .formed) n (rows-on e) d

@@ -8,8 +8,9 @@ use Rattle.mask.specs.Placements.{Placement}
 use Rattle.method.specs.Changes.{marked}
 use Rattle.method.specs.ControlPart.{active}
 use Rattle.method.specs.Rules.{lost, stopping}
-use Rattle.control.specs.ControlBytes.{Part}
+use Rattle.control.specs.ControlBytes.{Part, frontPart}
 use Rattle.control_form.specs.ControlForm.{allSafe, isSafe}
+use Rattle.control_form.proofs.FrontPart.{all-active}
 use Rattle.cabinet_rules.specs.Cabinet.{cabinet}
 use Rattle.cabinet_rules.proofs.Form.{safe-is}
 
@@ -33,6 +34,9 @@ lost-safe k = go (active k)
         de-morgan false b = refl
 
 -- the test of the part with the card marked failed
-pub stop-is : (k m : Part) (c : ℕ) → m ≡ marked cabinet k c → not (allSafe m) ≡ stopping cabinet k c
+pub stop-is : (k m : Part) (c : ℕ) → m ≡ frontPart (marked cabinet k c) → not (allSafe m) ≡ stopping cabinet k c
 unfolding stopping
-stop-is k m c e = sym (lost-safe m) ∙ ap (λ (x : Part). anyIn (lost cabinet x) (active x)) e
+stop-is k m c e = ap (λ (x : Part). not (allSafe x)) e ∙ ap not (all-active (isSafe (p .working) (p .failed)) p) ∙ sym (lost-safe p)
+  where
+    p : Part
+    p = marked cabinet k c

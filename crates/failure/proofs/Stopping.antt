@@ -6,7 +6,7 @@ use Rattle.slot.specs.Blocks.{inSet}
 use Rattle.method.specs.Changes.{marked}
 use Rattle.method.specs.ControlPart.{halted, isOpen}
 use Rattle.method.specs.Rules.{act, dropHeld, fail, stopping, stops, writing}
-use Rattle.control.specs.ControlBytes.{Part}
+use Rattle.control.specs.ControlBytes.{Part, frontPart}
 use Rattle.control.specs.Meaning.{Is, meaning, putControl}
 use Rattle.control.specs.declared.Control.{Control as Struct}
 use Rattle.cabinet_rules.specs.Cabinet.{cabinet}
@@ -14,7 +14,8 @@ use Rattle.cabinet_rules.specs.Images.{Image, controlIn, planOn}
 use Rattle.promise.specs.Given.{viewOf}
 use Rattle.promise.specs.Promise.{Done}
 use Rattle.promise.specs.declared.Answer.the-variants.{Stopped}
-use Rattle.promise.proofs.Finish.{by-both}
+use Rattle.promise.proofs.Finish.{by-both, form-good}
+use Rattle.promise.proofs.Laid.{same-tail}
 use Rattle.promise.specs.Laid.{laid}
 use Rattle.tables.specs.Tables.{endWrites, setOf}
 use Rattle.tables.proofs.Ends.{drops-set}
@@ -40,13 +41,13 @@ module _ {m : Struct} {g : Image} {c : ℕ} (f : Failing m g c) where
   unfolding act
   stop-plan s = rw s
 
-  stopped-is : stoppedOn (meaning m) g ≡ putControl (laid (dropHeld cabinet (isOpen (controlIn g)) c (viewOf g)) g) (halted lessCard)
+  stopped-is : stoppedOn (meaning m) g ≡ putControl (laid (dropHeld cabinet (isOpen (controlIn g)) c (viewOf g)) g) (frontPart (halted lessCard))
   unfolding stoppedOn
   stopped-is =
       ap (λ (p : Part). putControl (laid (endWrites (meaning m .working) false (inSet (setOf (isOpen p))) g) g) (halted p)) (f .is .means)
-      ∙ ap (λ (i : Image). putControl i (halted lessCard)) (dropped (isOpen (controlIn g)))
+      ∙ ap (λ (i : Image). putControl i (frontPart (halted lessCard))) (dropped (isOpen (controlIn g)))
 
   pub stopped-done : stopping cabinet (controlIn g) c ≡ true → (behind : Image) → behind ≡ stoppedOn (meaning m) g → Done (fail c) g Stopped behind
   stopped-done s behind l =
       let w = dropHeld cabinet (isOpen (controlIn g)) c (viewOf g) in
-      by-both (fail c) refl g (f .formed) Stopped (halted lessCard) w behind (f .accepted) (stop-plan s) (l ∙ stopped-is)
+      by-both (fail c) refl g (f .formed) Stopped (halted lessCard) w behind (f .accepted) (stop-plan s) (same-tail g (form-good g (f .formed))) (l ∙ stopped-is)

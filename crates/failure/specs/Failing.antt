@@ -6,7 +6,7 @@ use Rattle.slot.specs.Blocks.{inSet}
 use Rattle.method.specs.Changes.{marked}
 use Rattle.method.specs.ControlPart.{halted, isOpen}
 use Rattle.method.specs.Rules.{fail}
-use Rattle.control.specs.ControlBytes.{Part}
+use Rattle.control.specs.ControlBytes.{Part, frontPart}
 use Rattle.control.specs.Meaning.{Is, putControl}
 use Rattle.control.specs.declared.Control.{Control}
 use Rattle.control_form.specs.ControlForm.{formRefusal}
@@ -16,11 +16,11 @@ use Rattle.promise.specs.Given.{rowsOn}
 use Rattle.promise.specs.Laid.{laid}
 use Rattle.tables.specs.Tables.{endWrites, setOf}
 
--- The fail of card c is accepted, and the struct is the image's control part with the card marked failed.
+-- The fail of card c is accepted, and the struct is the image's control part with the card marked failed, but for pairs.
 pub record Failing (m : Control) (g : Image) (c : ℕ) : Type 0 where
   pub formed : formRefusal g ≡ 0
   pub accepted : 0 ≡ rowsOn (fail c) g
-  pub is : Is m (marked cabinet (controlIn g) c)
+  pub is : Is m (frontPart (marked cabinet (controlIn g) c))
 
 -- The store stops, with what was open rolled back on the cards that work.
 unfoldable pub stoppedOn : Part → Image → Image

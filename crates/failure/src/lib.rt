@@ -12,7 +12,6 @@ ghost use Rattle.failure.specs.Failing.{Failing, stoppedOn};
 use control::Control;
 use control::codec;
 use image::Card;
-use mask::Placement;
 use promise::Answer;
 
 // An active placement is lost: the store stops, with what was open rolled back on the cards that work.
@@ -26,7 +25,7 @@ fn stop(image: &mut [u8], marked: Control)
 }
 
 // No active placement is lost: what was begun at the card is rolled back, and if the card was in the newest placement
-// one without it is added.
+// one without it is added, by rails.
 fn go_on(image: &mut [u8], marked: Control, card: Card) -> Answer
     requires { ⌜ Failing marked (now image) (card .0) ⌝ }
     requires { ⌜ stopping cabinet (controlIn (now image)) (card .0) ≡ false ⌝ }
@@ -37,7 +36,7 @@ fn go_on(image: &mut [u8], marked: Control, card: Card) -> Answer
     let newest = marked.newest_mask();
     if mask::has(newest, card) {
         let mask = mask::without_card(newest, card);
-        codec::write(image, closed.add(Placement::from_mask(mask)));
+        codec::write(image, closed.add(mask));
         return Answer::Placed(mask);
     }
     codec::write(image, closed);

@@ -4,6 +4,7 @@
 --   offset in the image      size     what
 --   0                        32       control part
 --   32 + card × 2,624        2,624    the card's table: 64 blocks of 41 bytes, block 0 first
+--   21,024 + i × 48          48       of active placement i, oldest first: its pairs, if it is by table; else zero
 --
 --   offset in a block        size     what
 --   0                        1        highest bit: held
@@ -66,6 +67,14 @@ blockSize = 1 + slotCount * slotSize
 abbrev pub blocksSize : ℕ
 blocksSize = blockCount * blockSize
 
+-- The pairs of a placement by table: of each block two cards, in six bits.
+abbrev pub pairsSize : ℕ
+pairsSize = 48
+
+-- Those of all active placements.
+abbrev pub tailSize : ℕ
+tailSize = mostActive * pairsSize
+
 -- Where a slot starts in its block, and a block in its table.
 abbrev pub slotStart : ℕ → ℕ
 slotStart i = 1 + i * slotSize
@@ -100,7 +109,7 @@ module _ (y : Layout) where
 
 -- ---- the layout in force
 abbrev pub layout : Layout
-layout = record { tableTail = 0; imageTail = 0 }
+layout = record { tableTail = 0; imageTail = tailSize }
 
 abbrev pub tableSize : ℕ
 tableSize = tableSizeOf layout
@@ -113,3 +122,6 @@ tableStart = tableStartOf layout
 
 abbrev pub blockAddress : ℕ → ℕ → ℕ
 blockAddress = blockAddressOf layout
+
+abbrev pub tailStart : ℕ
+tailStart = tailStartOf layout

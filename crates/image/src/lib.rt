@@ -2,8 +2,10 @@
 // slots in place.
 ghost use mathlib.Core.Path.{_≡_};
 ghost use Prim.Native.Nat.{_+_, _≤_, _<_};
-ghost use lib.ListN.{length};
+ghost use lib.Dec.{eqb};
+ghost use lib.ListN.{getD, length};
 ghost use Rattle.lists.specs.Segments.{segment, splice};
+ghost use Rattle.lists.specs.Tests.{allBelow};
 ghost use Rattle.image.specs.Layout.{blockAddress, blockCount, blockSize, blockStart, cardCount, tableSize, tableStart};
 ghost use Rattle.image.specs.Parts.{Whole, blockAt, putBlock, putTable, zeros};
 
@@ -39,7 +41,14 @@ pub const BLOCK_SIZE: usize = 1 + SLOT_COUNT * SLOT_SIZE;
 
 pub const TABLE_SIZE: usize = BLOCK_COUNT * BLOCK_SIZE;
 
-pub const IMAGE_SIZE: usize = CONTROL_SIZE + CARD_COUNT * TABLE_SIZE;
+// The pairs of a placement by table, and those of all active placements, behind the tables.
+pub const PAIRS_SIZE: usize = 48;
+
+pub const TAIL_SIZE: usize = MOST_ACTIVE as usize * PAIRS_SIZE;
+
+pub const TAIL_START: usize = CONTROL_SIZE + CARD_COUNT * TABLE_SIZE;
+
+pub const IMAGE_SIZE: usize = TAIL_START + TAIL_SIZE;
 
 // A card, 0 to 7.
 pub struct Card(pub u8);
@@ -147,4 +156,17 @@ pub fn clear_table(image: &mut [u8], card: Card)
     let start = table_start(card);
     let end = start + TABLE_SIZE;
     clear(&mut image[start..end]);
+}
+
+// Whether all bytes are zero. They are or-ed and tested once, so that the compiler can take many of them at a time.
+pub fn all_zero(bytes: &[u8]) -> bool
+    ensures { λ r. ⌜ r ≡ allBelow (length (now (bytes .entry))) (λ n. eqb (getD (now (bytes .entry)) n 0) 0) ⌝ }
+{
+    let mut any: u8 = 0;
+    let mut i = 0;
+    while i < bytes.len() {
+        any = any | bytes[i];
+        i += 1;
+    }
+    any == 0
 }

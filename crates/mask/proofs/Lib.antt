@@ -2,5 +2,8 @@ pub mod Masks
 pub mod Sets
 pub mod FirstMember
 pub mod LastMember
+pub mod MaskSites
 pub mod SiteLaws
 pub mod SiteMasks
+pub mod PairLaws
+pub mod PairSets

@@ -19,11 +19,12 @@ use Rattle.lists.proofs.Counts.{but, count-but}
 use Rattle.lists.proofs.Lists.{any-default}
 use Rattle.image.specs.Layout.{blockCount, cardCount, copyCount}
 use Rattle.mask.specs.Masks.{AreMembers, Byte, byte, hasCard, members, size, withCard}
-use Rattle.mask.specs.Placements.{Placement, isSite, memberAt, otherRail, sitesOf}
+use Rattle.mask.specs.Placements.{Masked, Placement, isSite, maskSites, memberAt, otherRail, placed}
 use Rattle.mask.specs.SiteMasks.{MasksBelow, SitesIn}
 use Rattle.mask.proofs.FirstMember.{first-is, some-members}
 use Rattle.mask.proofs.Masks.{elem-members, every-mask, has-card, has-none, has-with}
-use Rattle.mask.proofs.SiteLaws.{site-round, sites-found}
+use Rattle.mask.proofs.MaskSites.{site-round, sites-found}
+use Rattle.mask.proofs.SiteLaws.{placed-sites}
 
 -- ---- two cards
 pub pair-is : (a b m r : ℕ) → a < cardCount → b < cardCount → byte m ≡ withCard (byte 0) a → byte r ≡ withCard (byte m) b → AreMembers r (λ c. elem c (a ∷ b ∷ []))
@@ -69,22 +70,22 @@ module _ (m : Byte) (i left : ℕ) (from : members (byte left) ≡ drop i (membe
 module _ (n : ℕ) (rails : Bool) (left first across : ℕ) (small : n < 256) (u : copyCount ≤ size (byte n)) (some : 0 < length (members (byte left)))
     (f : first ≡ getD (members (byte left)) 0 0) (a : across ≡ cond rails (bitAnd n (otherRail first)) 0) (second r : ℕ)
     (two : AreMembers r (λ c. elem c (first ∷ second ∷ []))) (i : ℕ) (from : members (byte left) ≡ drop i (members (byte n))) where
-  abbrev placement : Placement
+  abbrev placement : Masked
   placement = record { mask = byte n; byRails = rails }
 
-  found : sitesOf placement i ≡ first ∷ cond (eqb across 0) (memberAt (byte n) (i + 1)) (leadingZeros 8 across) ∷ []
+  found : maskSites placement i ≡ first ∷ cond (eqb across 0) (memberAt (byte n) (i + 1)) (leadingZeros 8 across) ∷ []
   found = sites-found n rails i first across small u (f ∙ first-left (byte n) i left from some) a
 
-  entry : second ≡ cond (eqb across 0) (memberAt (byte n) (i + 1)) (leadingZeros 8 across) → AreMembers r (isSite placement i)
-  entry s c = two c ∙ ap (elem c) (ap (λ (x : ℕ). first ∷ x ∷ []) s ∙ sym found)
+  entry : second ≡ cond (eqb across 0) (memberAt (byte n) (i + 1)) (leadingZeros 8 across) → AreMembers r (isSite (placed placement) i)
+  entry s c = two c ∙ ap (elem c) (ap (λ (x : ℕ). first ∷ x ∷ []) s ∙ sym found ∙ sym (placed-sites placement i))
 
   -- on the other rail
-  pub entry-across : across < 256 → across ≢ 0 → second ≡ getD (members (byte across)) 0 0 → AreMembers r (isSite placement i)
+  pub entry-across : across < 256 → across ≢ 0 → second ≡ getD (members (byte across)) 0 0 → AreMembers r (isSite (placed placement) i)
   entry-across h d s = entry (s ∙ sym (rw (ne-eqb across 0 d) (first-is across h (some-members across h d))))
 
   -- the next member
   pub entry-next : across ≡ 0 → (rest : ℕ) → members (byte rest) ≡ drop 1 (members (byte left)) → second ≡ getD (members (byte rest)) 0 (getD (members (byte n)) 0 0)
-      → AreMembers r (isSite placement i)
+      → AreMembers r (isSite (placed placement) i)
   entry-next z rest t s = entry (s ∙ ap (λ (l : List ℕ). getD l 0 (getD (members (byte n)) 0 0)) t ∙ next-left (byte n) i left from some ∙ sym (rw (eq-eqb across 0 z)))
 
 -- ---- a list of masks, block by block
@@ -94,11 +95,12 @@ masks-more f masks n r long below m j h c = by-eq (hasCard (byte (getD (set mask
     (λ d. rw (getD-set-other masks n j r 0 d) (below j (omega arith) c))
 
 -- ---- masks of so many blocks, after which the sites come again
-pub masks-round : (p : Placement) (masks : List ℕ) (n : ℕ) → n ≡ length (members (p .mask)) → 0 < n → n ≤ cardCount → MasksBelow (isSite p) masks n → SitesIn masks n p
-masks-round p masks n e some few below = record {
+pub masks-round : (q : Masked) (masks : List ℕ) (n : ℕ) → n ≡ length (members (q .mask)) → 0 < n → n ≤ cardCount → MasksBelow (isSite (placed q)) masks n
+    → SitesIn masks n (placed q)
+masks-round q masks n e some few below = record {
   some = some;
   few = omega arith;
-  sites-are = λ b h c. below (b % n) (mod-lt b some) c ∙ ap (elem c) (ap (λ (m : ℕ). sitesOf p (b % m)) e ∙ site-round p b);
+  sites-are = λ b h c. below (b % n) (mod-lt b some) c ∙ ap (elem c) (placed-sites q (b % n) ∙ ap (λ (m : ℕ). maskSites q (b % m)) e ∙ site-round q b ∙ sym (placed-sites q b));
 }
 
 -- the place of a block among them, and of the next block

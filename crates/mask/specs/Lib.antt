@@ -1,3 +1,5 @@
 pub mod Masks
+pub mod Pairs
+pub mod PairSets
 pub mod Placements
 pub mod SiteMasks

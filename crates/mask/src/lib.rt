@@ -1,4 +1,4 @@
-// Masks of cards, and placements: what comes from a mask alone.
+// Masks of cards, and what a mask gives: members, and the sites of a placement whose choice is not by table.
 ghost use mathlib.Core.Path.{_≡_};
 ghost use mathlib.Core.Bool.{_&&_, cond, not};
 ghost use mathlib.Core.List.{_∷_, []};
@@ -25,15 +25,17 @@ ghost use Rattle.mask.specs.Masks.{
 };
 ghost use Rattle.mask.specs.Placements.{
   AreSites,
-  Usable,
+  Enough,
   fromMask,
   isSite,
+  maskSites,
   meant,
   memberAt,
   otherRail,
-  sitesOf,
+  placed,
 };
 
+pub mod pairs;
 pub mod site_masks;
 
 use image::Block;
@@ -215,7 +217,8 @@ fn other_rail(card: Card) -> u8
     FIRST_RAIL
 }
 
-// Where the copies of each block lie: which cards, and whether their sites are chosen by rails.
+// A placement whose sites its mask gives: which cards, and whether they are chosen by rails or as the base does. The
+// pairs of a placement by table are not in it.
 pub struct Placement {
     pub mask: u8,
     pub rails: bool,
@@ -235,7 +238,7 @@ impl Placement {
 
     // A placement comes from its mask alone: what start, place and fail make is by rails.
     pub fn from_mask(mask: u8) -> Placement
-        ensures { λ r. ⌜ meant r ≡ fromMask (byte mask) ⌝ }
+        ensures { λ r. ⌜ placed (meant r) ≡ fromMask (byte mask) ⌝ }
     {
         Placement {
             mask: mask,
@@ -283,7 +286,7 @@ impl Placement {
         requires { ⌜ copyCount ≤ size (byte (self .mask)) ⌝ }
         requires { ⌜ block .0 < blockCount ⌝ }
         requires { ⌜ first .0 ≡ memberAt (byte (self .mask)) (block .0) ⌝ }
-        ensures { λ r. ⌜ sitesOf (meant self) (block .0) ≡ first .0 ∷ r .0 ∷ [] ⌝ }
+        ensures { λ r. ⌜ maskSites (meant self) (block .0) ≡ first .0 ∷ r .0 ∷ [] ⌝ }
     {
         let across = self.across(first);
         if across == 0 {
@@ -295,9 +298,9 @@ impl Placement {
     // The sites of a block, as a list: different members, on two rails whenever both have members and the placement is
     // by rails.
     pub fn sites(self, block: Block) -> Sites
-        requires { ⌜ Usable (meant self) ⌝ }
+        requires { ⌜ Enough (meant self .mask) ⌝ }
         requires { ⌜ block .0 < blockCount ⌝ }
-        ensures { λ r. ⌜ AreSites r (meant self) (block .0) ⌝ }
+        ensures { λ r. ⌜ AreSites r (placed (meant self)) (block .0) ⌝ }
     {
         let first = self.member_at(block.0);
         let second = self.second_site(block, first);
@@ -309,9 +312,9 @@ impl Placement {
 
     // The same as a mask.
     pub fn site_mask(self, block: Block) -> u8
-        requires { ⌜ Usable (meant self) ⌝ }
+        requires { ⌜ Enough (meant self .mask) ⌝ }
         requires { ⌜ block .0 < blockCount ⌝ }
-        ensures { λ r. ⌜ AreMembers r (isSite (meant self) (block .0)) ⌝ }
+        ensures { λ r. ⌜ AreMembers r (isSite (placed (meant self)) (block .0)) ⌝ }
     {
         let first = self.member_at(block.0);
         let second = self.second_site(block, first);

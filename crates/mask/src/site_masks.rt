@@ -4,7 +4,7 @@ ghost use Prim.Native.Nat.{_%_, _+_, _<_};
 ghost use lib.ListN.{length};
 ghost use Rattle.image.specs.Layout.{blockCount};
 ghost use Rattle.mask.specs.Masks.{byte, members};
-ghost use Rattle.mask.specs.Placements.{Usable, meant};
+ghost use Rattle.mask.specs.Placements.{Enough, meant, placed};
 ghost use Rattle.mask.specs.SiteMasks.{SitesFrom, SitesIn};
 use crate::Placement;
 use crate::first_member;
@@ -12,9 +12,9 @@ use crate::first_or;
 
 // The sites of block i, as a mask, where the members from number i on are left.
 fn sites_from(placement: Placement, left: u8) -> u8
-    requires { ⌜ Usable (meant placement) ⌝ }
+    requires { ⌜ Enough (meant placement .mask) ⌝ }
     requires { ⌜ 0 < length (members (byte left)) ⌝ }
-    ensures { λ r. ⌜ SitesFrom (meant placement) left r ⌝ }
+    ensures { λ r. ⌜ SitesFrom (placed (meant placement)) left r ⌝ }
 {
     let first = first_member(left);
     let across = placement.across(first);
@@ -29,8 +29,8 @@ fn sites_from(placement: Placement, left: u8) -> u8
 // once.
 pub fn fill(masks: &mut [u8], placement: Placement) -> usize
     requires { ⌜ length (now masks) ≡ blockCount ⌝ }
-    requires { ⌜ Usable (meant placement) ⌝ }
-    ensures { λ r. ⌜ SitesIn (now (masks .exit)) r (meant placement) ⌝ }
+    requires { ⌜ Enough (meant placement .mask) ⌝ }
+    ensures { λ r. ⌜ SitesIn (now (masks .exit)) r (placed (meant placement)) ⌝ }
 {
     let mut count: usize = 0;
     let mut left = placement.mask;

@@ -6,7 +6,7 @@ use mathlib.Core.List.{List, _++_, map}
 use mathlib.Core.Path.{_∙_, _≡_, ap, ap₂, fun-ext, refl, sym}
 use native.Mathlib.Numerals.{add-one}
 use native.Mathlib.Omega.{arith}
-use Rattle.lists.specs.Tests.{anyIn, anyBelow, concatMap, elem, keepIf, numbersBelow}
+use Rattle.lists.specs.Tests.{anyIn, anyBelow, concatMap, keepIf, numbersBelow}
 use Rattle.lists.proofs.Bools.{and-l, and-when, tf}
 use Rattle.lists.proofs.Counts.{any-below}
 use Rattle.lists.proofs.Lists.{any-map, concat-more}
@@ -20,7 +20,6 @@ use Rattle.slot.specs.Blocks.{someLocked, isHeld}
 use Rattle.method.specs.MoveList.{Entry, anyMoveLocked, entryAt, isOrigin, moveList, movesOf}
 use Rattle.method.proofs.MoveList.{origin-holds}
 use Rattle.method.specs.Rules.{anyLocked, newestSites}
-use Rattle.control.specs.Meaning.{meaning}
 use Rattle.control.specs.declared.Control.{Control}
 use Rattle.cabinet_rules.specs.Cabinet.{cabinet}
 use Rattle.cabinet_rules.specs.Images.{Image, blockIn, controlIn}
@@ -30,7 +29,6 @@ use Rattle.promise.proofs.View.{held-look, look-on}
 use Rattle.trail.specs.Trail.{holdsAt}
 use Rattle.trail.proofs.Holding.{holds-seen}
 use Rattle.method.specs.Rules.{settledBy}
-use Rattle.reorganise.proofs.Looks.{newest-are}
 use Rattle.method.specs.MoveList.{originBy}
 use Rattle.move_list.specs.Plans.{Finds, movesAt, movesIn}
 use Rattle.move_list.proofs.OriginMasks.{same-origins}
@@ -45,11 +43,11 @@ movesOfBlock g b = movesOf cabinet (controlIn g) (viewOf g) b
 -- ---- one block
 module _ (k : Control) (g : Image) (is : Given k g) where
   -- the code's sites and holders are the rules'
-  pub origin-is : (b sites : ℕ) → b < blockCount → AreMembers sites (isSite (meaning k .newest) b)
+  pub origin-is : (b sites : ℕ) → b < blockCount → AreMembers sites (isSite (controlIn g .newest) b)
       → (c : ℕ) → originBy cardCount (members (byte sites)) (holdsAt g (byte (k .working)) b) c ≡ origin g b c
   unfolding originBy settledBy
   origin-is b sites h s c = ap (λ (f : ℕ → Bool). originBy cardCount (members (byte sites)) f c) (fun-ext (λ x. holds-seen k g is b x h))
-      ∙ same-origins (members (byte sites)) (newestSites cabinet (controlIn g) b) (λ x. elem-members (byte sites) x ∙ s x ∙ ap (elem x) (newest-are k g is b)) (λ x. isHeld (viewOf g x b)) c
+      ∙ same-origins (members (byte sites)) (newestSites cabinet (controlIn g) b) (λ x. elem-members (byte sites) x ∙ s x) (λ x. isHeld (viewOf g x b)) c
 
 module _ (g : Image) (b from : ℕ) (hb : b < blockCount) (m : AreMembers from (origin g b)) where
   -- its moves are of the members of the mask

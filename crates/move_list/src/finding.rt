@@ -4,7 +4,7 @@ ghost use mathlib.Core.Bool.{false};
 ghost use lib.ListN.{length};
 ghost use Rattle.image.specs.Layout.{blockCount};
 ghost use Rattle.mask.specs.SiteMasks.{SitesIn};
-ghost use Rattle.control.specs.Meaning.{meaning};
+ghost use Rattle.cabinet_rules.specs.Images.{controlIn};
 ghost use Rattle.promise.specs.Given.{Given};
 ghost use Rattle.move_list.specs.Plans.{Finds, refusedPlan};
 use crate::Plan;
@@ -30,7 +30,7 @@ pub fn refused(refusal: u8) -> Plan
 // Block by block, by the masks of the newest sites: the cards that it must move from, until one of them is locked.
 fn find_by(image: &[u8], k: Control, sites: &[u8], round: usize) -> Plan
     requires { ⌜ Given k (now image) ⌝ }
-    requires { ⌜ (length (now sites) ≡ blockCount) × SitesIn (now sites) round (meaning k .newest) ⌝ }
+    requires { ⌜ (length (now sites) ≡ blockCount) × SitesIn (now sites) round (controlIn (now image) .newest) ⌝ }
     ensures { λ r. ⌜ Finds r (now (image .entry)) ⌝ }
 {
     let mut origins = [0u8; BLOCK_COUNT];
@@ -67,6 +67,6 @@ pub fn find(image: &[u8], k: Control) -> Plan
     ensures { λ r. ⌜ Finds r (now (image .entry)) ⌝ }
 {
     let mut sites = [0u8; BLOCK_COUNT];
-    let round = looking::newest_masks(&mut sites, k);
+    let round = looking::newest_masks(&mut sites, image, k);
     find_by(image, k, &sites, round)
 }

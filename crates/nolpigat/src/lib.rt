@@ -1,11 +1,14 @@
-// The store for callers in other languages: its fifteen calls, a command's bytes, the move list, questions that are no calls,
-// and commands by their fields. An image is lent as a pointer and a length. An answer is one number of 32 bits.
+// The store for callers in other languages: its calls, a command's bytes, the move list, the converter of older images,
+// questions that are no calls, and commands by their fields. An image is lent as a pointer and a length. An answer is one
+// number of 32 bits.
 ghost use mathlib.Core.Path.{_≡_};
 ghost use Rattle.method.specs.Rules.{begin, commit, delete, fail, fit, get, load, move, place, rollback, settle};
 ghost use Rattle.method.specs.Rules.{start, state, store, withdraw};
 ghost use Rattle.mask.specs.Masks.{byte};
+ghost use Rattle.cabinet_rules.specs.Places.{byLines, byMask};
 ghost use Rattle.codes.specs.Codes.{Coded, CodedCommand};
 ghost use Rattle.codes.specs.CommandCodes.{CodedReading, CodedWriting};
+ghost use Rattle.codes.specs.FilledCodes.{CodedConversion};
 ghost use Rattle.codes.specs.ListCodes.{CodedList};
 ghost use Rattle.codes.specs.ToldCodes.{toldCode};
 ghost use Rattle.command.specs.Commands.{fieldsGiven};
@@ -95,9 +98,17 @@ pub extern "C" fn nolpigat_withdraw(image: &mut [u8], card: u8) -> u32
 // The mask's cards are the newest placement.
 #[no_mangle]
 pub extern "C" fn nolpigat_place(image: &mut [u8], mask: u8) -> u32
-    ensures { λ r. ⌜ Coded (place (byte mask)) (now (image .entry)) r (now (image .exit)) ⌝ }
+    ensures { λ r. ⌜ Coded (place (byMask (byte mask))) (now (image .entry)) r (now (image .exit)) ⌝ }
 {
     codes::code(store::place(image, mask))
+}
+
+// The plant's lines become the newest placement.
+#[no_mangle]
+pub extern "C" fn nolpigat_place_by_table(image: &mut [u8], lines: &[u8]) -> u32
+    ensures { λ r. ⌜ Coded (place (byLines (now (lines .entry)))) (now (image .entry)) r (now (image .exit)) ⌝ }
+{
+    codes::code(store::place_by_table(image, lines))
 }
 
 // A card is lost.
@@ -154,6 +165,14 @@ pub extern "C" fn nolpigat_move_list(image: &[u8], list: &mut [u8]) -> u32
     ensures { λ r. ⌜ CodedList (now (image .entry)) (now (list .entry)) r (now (list .exit)) ⌝ }
 {
     codes::list_code(move_bytes::list(image, list))
+}
+
+// An older image is written into the lent buffer at its length of today.
+#[no_mangle]
+pub extern "C" fn nolpigat_convert(older: &[u8], image: &mut [u8]) -> u32
+    ensures { λ r. ⌜ CodedConversion (now (older .entry)) (now (image .entry)) r (now (image .exit)) ⌝ }
+{
+    codes::filled_code(store::convert(older, image))
 }
 
 // Whether the store has stopped: 1 or 0.

@@ -14,7 +14,7 @@ use Rattle.image.specs.Parts.{Whole}
 use Rattle.method.specs.PlainList.{orRefused}
 use Rattle.method.specs.Rules.{isStart, Call, Plan, row, stamping, unwritten, writing, unlessRefused}
 use Rattle.method.proofs.Refusals.{row-clear}
-use Rattle.control.specs.ControlBytes.{Part}
+use Rattle.control.specs.ControlBytes.{Part, frontPart}
 use Rattle.control_form.specs.ControlForm.{controlForm, formRefusal}
 use Rattle.control.specs.Meaning.{putControl}
 use Rattle.control_form.specs.Reading.{Reads}
@@ -27,7 +27,7 @@ use Rattle.cabinet_rules.specs.Images.{refusalBy, refusalOn}
 use Rattle.promise.specs.Given.{Given, rowsOn}
 use Rattle.promise.specs.Promise.{Done, shown}
 use Rattle.promise.specs.Laid.{laid}
-use Rattle.promise.proofs.Laid.{kept-control, laid-none, write-control, write-stamped}
+use Rattle.promise.proofs.Laid.{KeepsTail, kept-control, laid-none, no-ends, write-control}
 use Rattle.promise.specs.declared.Answer.{Answer as AnswerValue}
 use Rattle.promise.specs.declared.Answer.the-variants.{Refused}
 
@@ -94,26 +94,26 @@ module _ (c : Call cabinet) (late : isStart c ≡ false) (g : Image) where
 
     -- accepted, blocks are written and then the control part
     pub by-both : (a : AnswerValue) (k : Part) (w : Writes) (behind : Image) → 0 ≡ rowsOn c g → planOn c g ≡ writing cabinet (shown a) k w
-        → behind ≡ putControl (laid w g) k → Done c g a behind
-    by-both a k w behind e q l = by-plan a (writing cabinet (shown a) k w) behind e q refl (l ∙ write-control w g k)
+        → KeepsTail k g → behind ≡ putControl (laid w g) (frontPart k) → Done c g a behind
+    by-both a k w behind e q t l = by-plan a (writing cabinet (shown a) k w) behind e q refl (l ∙ write-control w g k t)
 
     -- accepted, and only the control part changes
-    alone : (k : Part) → putControl g k ≡ putControl (laid (λ c b. none) g) k
+    pub alone : (k : Part) → putControl g k ≡ putControl (laid (λ c b. none) g) k
     alone k = ap (λ (i : Image). putControl i k) (laid-none (λ c b. none) g (form-long g clear) (λ c b hc hb. refl))
 
     pub by-control : (a : AnswerValue) (k : Part) (behind : Image) → 0 ≡ rowsOn c g → planOn c g ≡ unwritten cabinet (shown a) k
-        → behind ≡ putControl g k → Done c g a behind
-    by-control a k behind e q l = by-both a k (λ c b. none) behind e q (l ∙ alone k)
+        → KeepsTail k g → behind ≡ putControl g (frontPart k) → Done c g a behind
+    by-control a k behind e q t l = by-both a k (λ c b. none) behind e q t (l ∙ alone (frontPart k))
 
     -- the same where stamps are written too: those of a layout with no byte behind the blocks are none
     module _ (bare : layout .tableTail ≡ 0) {m : ℕ → Option (current .memory .Stamp)} where
       pub by-stamps : (a : AnswerValue) (k : Part) (w : Writes) (behind : Image) → 0 ≡ rowsOn c g → planOn c g ≡ stamping cabinet (writing cabinet (shown a) k w) m
-          → behind ≡ putControl (laid w g) k → Done c g a behind
-      by-stamps a k w behind e q l = by-plan a (stamping cabinet (writing cabinet (shown a) k w) m) behind e q refl (l ∙ write-stamped w g k _ bare)
+          → KeepsTail k g → behind ≡ putControl (laid w g) (frontPart k) → Done c g a behind
+      by-stamps a k w behind e q t l = by-plan a (stamping cabinet (writing cabinet (shown a) k w) m) behind e q refl (l ∙ write-control w g k t ∙ no-ends k w _ g bare)
 
       pub by-stamps-alone : (a : AnswerValue) (k : Part) (behind : Image) → 0 ≡ rowsOn c g → planOn c g ≡ stamping cabinet (unwritten cabinet (shown a) k) m
-          → behind ≡ putControl g k → Done c g a behind
-      by-stamps-alone a k behind e q l = by-stamps a k (λ c b. none) behind e q (l ∙ alone k)
+          → KeepsTail k g → behind ≡ putControl g (frontPart k) → Done c g a behind
+      by-stamps-alone a k behind e q t l = by-stamps a k (λ c b. none) behind e q t (l ∙ alone (frontPart k))
 
     -- accepted, and nothing changes
     pub by-look : (a : AnswerValue) → 0 ≡ rowsOn c g → planOn c g ≡ unwritten cabinet (shown a) (controlIn g) → Done c g a g

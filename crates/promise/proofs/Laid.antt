@@ -5,7 +5,7 @@ use borrow.Rule.Slice.PartMut.{midOf}
 use lib.Dec.{eqb}
 use lib.ListN.{getD, length}
 use lib.Seq.{ext-getD}
-use mathlib.Core.Bool.{Bool, _&&_, and-false, cond, true}
+use mathlib.Core.Bool.{Bool, _&&_, and-false, cond, false, true}
 use mathlib.Core.List.{List}
 use mathlib.Core.Logic.{_≢_, _⊎_, inl, inr, ⊎-elim}
 use mathlib.Core.Option.{Option, none, some}
@@ -22,13 +22,16 @@ use Rattle.image.proofs.Blocks.{put-same, byte-of-block, byte-of-control, contr
 use Rattle.image.proofs.Parts.{part-block}
 use Rattle.slot.specs.Blocks.{BlockBytes, ofList}
 use Rattle.slot.proofs.Blocks.{block-path, byte-in, of-list}
+use Rattle.mask.specs.Placements.{Placement, isByTable}
+use Rattle.method.specs.ControlPart.{active, added}
 use Rattle.method.specs.Rules.{updated}
-use Rattle.control.specs.ControlBytes.{Part, controlByte}
+use Rattle.control.specs.ControlBytes.{Part, controlByte, frontPart, tailByte, tailOf}
 use Rattle.control_form.specs.ControlForm.{controlForm}
 use Rattle.control.specs.Meaning.{putControl}
 use Rattle.control_form.proofs.Put.{length-put, put-after, put-blocks, put-in}
-use Rattle.control_form.proofs.RoundTrip.{control-back}
-use Rattle.cabinet_rules.specs.Delivery.{current}
+use Rattle.control.proofs.Front.{front-put}
+use Rattle.control.proofs.Tail.{tail-more}
+use Rattle.control_form.proofs.RoundTrip.{control-back, tail-back}
 use Rattle.cabinet_rules.specs.Images.{Ends, Image, Writes, after, blockIn, controlIn, endIn, tailIn}
 use Rattle.promise.specs.Laid.{laid}
 use Rattle.cabinet_rules.proofs.After.{after-block, after-control, after-end, after-ext, after-tail, length-after}
@@ -135,14 +138,15 @@ module _ (w : Writes) (g : Image) where
           ∙ ap (λ (o : Option BlockBytes). updated o (blockIn g d e) .0) (sym (put-elsewhere w c b x d e n)))
 
 -- ---- the control part is written over the blocks
--- its bytes behind the tables are the ones that are there: no byte lies there
-behind-kept : (k : Part) (g : Image) (n : ℕ) → n < layout .imageTail → current .memory .tail k n ≡ tailIn g n
-behind-kept k g n h = absurd (omega arith)
+-- its bytes behind the tables are the ones that are there
+abbrev pub KeepsTail : Part → Image → Type 0
+KeepsTail k g = (n : ℕ) → n < layout .imageTail → tailByte k n ≡ tailIn g n
 
-pub write-control : (w : Writes) (g : Image) (k : Part) → putControl (laid w g) k ≡ after (controlByte k) (current .memory .tail k) w (λ c. none) g
-write-control w g k = after-ext layout (controlByte k) (current .memory .tail k) w (λ c. none) g (putControl (laid w g) k) long
+-- bytes before the tables that are written of a control part tell nothing of its pairs
+pub write-control : (w : Writes) (g : Image) (k : Part) → KeepsTail k g → putControl (laid w g) (frontPart k) ≡ after (controlByte k) (tailByte k) w (λ c. none) g
+write-control w g k keeps = front-put (laid w g) k ∙ after-ext layout (controlByte k) (tailByte k) w (λ c. none) g (putControl (laid w g) k) long
     (λ n h. put-in (laid w g) k fits n h)
-    (λ n h. put-after (laid w g) k fits (tailStartOf layout + n) (omega arith) ∙ laid-tail w g n h ∙ sym (behind-kept k g n h))
+    (λ n h. put-after (laid w g) k fits (tailStartOf layout + n) (omega arith) ∙ laid-tail w g n h ∙ sym (keeps n h))
     (λ c b hc hb. is-block (putControl (laid w g) k) long c b hc hb (updated (w c b) (blockIn g c b)) (put-blocks (laid w g) k fits (whole-laid w g) c hc b hb ∙ laid-block w g c b hc hb))
     (λ c j hc hj. put-after (laid w g) k fits (endStartOf layout c + j) (omega arith) ∙ laid-end w g c j hc hj)
   where
@@ -153,24 +157,30 @@ write-control w g k = after-ext layout (controlByte k) (current .memory .tail k)
     long = length-put (laid w g) k fits ∙ whole-laid w g
 
 -- no stamp is written where no byte lies behind the blocks
-no-ends : (k : Part) (w : Writes) (e : Ends) (g : Image) → layout .tableTail ≡ 0
-    → after (controlByte k) (current .memory .tail k) w (λ c. none) g ≡ after (controlByte k) (current .memory .tail k) w e g
-no-ends k w e g z = after-ext layout (controlByte k) (current .memory .tail k) w e g (after (controlByte k) (current .memory .tail k) w (λ c. none) g)
-    (length-after layout (controlByte k) (current .memory .tail k) w (λ c. none) g)
-    (after-control layout (controlByte k) (current .memory .tail k) w (λ c. none) g)
-    (after-tail layout (controlByte k) (current .memory .tail k) w (λ c. none) g)
-    (after-block layout (controlByte k) (current .memory .tail k) w (λ c. none) g)
+pub no-ends : (k : Part) (w : Writes) (e : Ends) (g : Image) → layout .tableTail ≡ 0
+    → after (controlByte k) (tailByte k) w (λ c. none) g ≡ after (controlByte k) (tailByte k) w e g
+no-ends k w e g z = after-ext layout (controlByte k) (tailByte k) w e g (after (controlByte k) (tailByte k) w (λ c. none) g)
+    (length-after layout (controlByte k) (tailByte k) w (λ c. none) g)
+    (after-control layout (controlByte k) (tailByte k) w (λ c. none) g)
+    (after-tail layout (controlByte k) (tailByte k) w (λ c. none) g)
+    (after-block layout (controlByte k) (tailByte k) w (λ c. none) g)
     (λ c j hc hj. absurd (omega arith))
 
-pub write-stamped : (w : Writes) (g : Image) (k : Part) (e : Ends) → layout .tableTail ≡ 0 → putControl (laid w g) k ≡ after (controlByte k) (current .memory .tail k) w e g
-write-stamped w g k e z = write-control w g k ∙ no-ends k w e g z
+-- ---- a control part that stays
+pub same-tail : (g : Image) → controlForm g ≡ true → KeepsTail (controlIn g) g
+same-tail g form = tail-back (λ n. getD g n 0) (tailIn g) form
 
--- a control part that is written as it was read stays
-pub kept-control : (w : Writes) (g : Image) → controlForm g ≡ true → after (controlByte (controlIn g)) (current .memory .tail (controlIn g)) w (λ c. none) g ≡ laid w g
+-- written as it was read
+pub kept-control : (w : Writes) (g : Image) → controlForm g ≡ true → after (controlByte (controlIn g)) (tailByte (controlIn g)) w (λ c. none) g ≡ laid w g
 unfolding laid
-kept-control w g form = after-ext layout (λ n. getD g n 0) (tailIn g) w (λ c. none) g (after (controlByte (controlIn g)) (current .memory .tail (controlIn g)) w (λ c. none) g)
-    (length-after layout (controlByte (controlIn g)) (current .memory .tail (controlIn g)) w (λ c. none) g)
-    (λ n h. after-control layout (controlByte (controlIn g)) (current .memory .tail (controlIn g)) w (λ c. none) g n h ∙ control-back (λ n. getD g n 0) form n h)
-    (λ n h. after-tail layout (controlByte (controlIn g)) (current .memory .tail (controlIn g)) w (λ c. none) g n h ∙ behind-kept (controlIn g) g n h)
-    (after-block layout (controlByte (controlIn g)) (current .memory .tail (controlIn g)) w (λ c. none) g)
-    (after-end layout (controlByte (controlIn g)) (current .memory .tail (controlIn g)) w (λ c. none) g)
+kept-control w g form = after-ext layout (λ n. getD g n 0) (tailIn g) w (λ c. none) g (after (controlByte (controlIn g)) (tailByte (controlIn g)) w (λ c. none) g)
+    (length-after layout (controlByte (controlIn g)) (tailByte (controlIn g)) w (λ c. none) g)
+    (λ n h. after-control layout (controlByte (controlIn g)) (tailByte (controlIn g)) w (λ c. none) g n h ∙ control-back (λ n. getD g n 0) (tailIn g) form n h)
+    (λ n h. after-tail layout (controlByte (controlIn g)) (tailByte (controlIn g)) w (λ c. none) g n h ∙ same-tail g form n h)
+    (after-block layout (controlByte (controlIn g)) (tailByte (controlIn g)) w (λ c. none) g)
+    (after-end layout (controlByte (controlIn g)) (tailByte (controlIn g)) w (λ c. none) g)
+
+-- one placement more that is not by table
+pub more-tail : (g : Image) (k : Part) (p : Placement) → controlForm g ≡ true → active k ≡ active (controlIn g) → isByTable (p .choice) ≡ false
+    → KeepsTail (added k p tt) g
+more-tail g k p form same bare n h = tail-more (active k) p n bare ∙ ap (λ (l : List Placement). tailOf l n) same ∙ same-tail g form n h

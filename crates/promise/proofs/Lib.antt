@@ -3,3 +3,4 @@ pub mod PutEach
 pub mod View
 pub mod Finish
 pub mod SharedRows
+pub mod WholePart

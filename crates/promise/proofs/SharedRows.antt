@@ -11,7 +11,7 @@ use Rattle.mask.specs.Masks.{hasCard}
 use Rattle.method.specs.ControlPart.{isOpen}
 use Rattle.method.specs.Rules.{refusal, row, state}
 use Rattle.method.proofs.Refusals.{row-3, row-clear}
-use Rattle.control.specs.ControlBytes.{Part, controlOf}
+use Rattle.control.specs.ControlBytes.{Part, controlOf, tailAt}
 use Rattle.control.specs.Meaning.{meaning}
 use Rattle.control.specs.declared.Control.{Control}
 use Rattle.cabinet_rules.specs.Cabinet.{tranOk}
@@ -47,5 +47,14 @@ module _ (k : Control) (g : Image) (is : Given k g) where
   state-rows = ap (λ (t : Bool). row 4 t 0) stopped-is
 
 -- Whether a transaction is open, by the struct and by the bytes.
-pub open-given : {k : Control} {g : Image} → Given k g → (t : ℕ) → isOpen (meaning k) t ≡ isOpen (controlOf (λ n. getD g n 0)) t
+pub open-given : {k : Control} {g : Image} → Given k g → (t : ℕ) → isOpen (meaning k) t ≡ isOpen (controlOf (λ n. getD g n 0) (tailAt g)) t
 open-given given t = ap (λ (p : Part). isOpen p t) (given .is .means)
+
+-- ---- rows that ask nothing of how sites are chosen are the same by the struct and by the bytes
+pub card-given : {k : Control} {g : Image} → Given k g → (c : ℕ) → cardRows (meaning k) c ≡ cardRows (controlIn g) c
+unfolding cardRows
+card-given given c = ap (λ (p : Part). cardRows p c) (given .is .means)
+
+pub tran-given : {k : Control} {g : Image} → Given k g → (t : ℕ) → tranRows (meaning k) t ≡ tranRows (controlIn g) t
+unfolding tranRows
+tran-given given t = ap (λ (p : Part). tranRows p t) (given .is .means)

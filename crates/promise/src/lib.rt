@@ -25,6 +25,12 @@ pub enum Call {
     Load(Card),
 }
 
+// The answers of calls that fill lent bytes: how many were written, or a refusal's number.
+pub enum Filled {
+    Bytes(u16),
+    Refused(u8),
+}
+
 // The answers. A refusal is its number in the table (RULES, "Refusals").
 pub enum Answer {
     Ok,

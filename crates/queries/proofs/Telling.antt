@@ -2,22 +2,24 @@
 -- transaction's byte, the lowest free number by the numbers below it, and the holders by their mask. Assumes nothing.
 use Prim.Native.Nat.{_%_, _+_, _-_, _/_, _<_, _≤_, suc, zero, ℕ}
 use borrow.Author.Tests.{le-leb, lt-leb}
-use lib.ListN.{getD, length}
+use lib.Dec.{ltb}
+use lib.ListN.{getD, length, length-map}
 use mathlib.Core.Bool.{Bool, cond, false, true}
-use mathlib.Core.List.{List, [], _∷_}
+use mathlib.Core.List.{List, [], _∷_, map}
 use mathlib.Core.Logic.{_≢_}
 use mathlib.Core.Path.{_∙_, _≡_, ap, fun-ext, refl, sym}
 use native.Mathlib.Nat.{mod-eq-of-lt}
 use native.Mathlib.Numerals.{add-one}
 use native.Mathlib.Omega.{arith}
 use Rattle.lists.specs.Tests.{countBelow}
-use Rattle.image.specs.Layout.{cardCount, tranBound}
+use Rattle.image.specs.Layout.{cardCount, mostActive, tranBound, tranCount}
 use Rattle.mask.specs.Masks.{byte, size}
-use Rattle.mask.specs.Placements.{Placement}
+use Rattle.mask.specs.Placements.{Placement, pairless}
 use Rattle.method.specs.ControlPart.{active, isOpen}
-use Rattle.control.specs.ControlBytes.{Part, field, fieldBound, homeOf, openBit, placementsIn}
+use Rattle.control.specs.ControlBytes.{Part, field, fieldBound, frontPart, homeOf, openBit, placementsIn}
 use Rattle.control.specs.Meaning.{Counted, meaning, placementIn}
 use Rattle.control.specs.declared.Control.{Control}
+use Rattle.control.proofs.Front.{active-front}
 use Rattle.control.proofs.Struct.{active-is, length-placements}
 use Rattle.cabinet_rules.specs.Cabinet.{tranOk}
 use Rattle.trail.specs.Trail.{Lists}
@@ -25,7 +27,10 @@ use Rattle.trail.specs.declared.Holders.{Holders}
 use Rattle.trail.proofs.Listed.{none-listed, some-listed}
 use Rattle.queries.specs.declared.Told.{Told}
 use Rattle.queries.specs.declared.Told.the-variants.{None, Number, Refused}
-use Rattle.queries.specs.Queries.{cardsIn, firstTold, freeFrom, freeIn, ifInRange, maskOfNth, toldHome, unlessRow}
+use Rattle.queries.specs.Queries.{cardsIn, firstTold, freeFrom, freeIn, ifInRange, maskOfNth, toldHome, toldOf, unlessRow}
+use Rattle.queries.specs.declared.Query.{Query}
+use Rattle.queries.specs.declared.Query.the-variants.{Failed, FreeTransaction, Home, Placement as Query·Placement, PlacementCount}
+use Rattle.queries.specs.declared.Query.the-variants.{Stopped, Working}
 
 -- ---- refused, or told
 pub refused-by : (n row : ℕ) (t : Told) → n ≡ row → n ≢ 0 → Refused n ≡ unlessRow row t
@@ -110,3 +115,23 @@ module _ (h : Holders) {l : List ℕ} (lists : Lists h l) where
   pub cards-told : size (byte (h .cards)) ≡ cardsIn l
   unfolding size
   cards-told = ap (countBelow cardCount) (fun-ext (lists .cards-are))
+
+-- ---- what is told of a control part is told without its pairs
+masks-front : (l : List Placement) (i : ℕ) → maskOfNth (map pairless l) i ≡ maskOfNth l i
+masks-front [] i = refl
+masks-front (p ∷ l) zero = refl
+masks-front (p ∷ l) (suc i) = masks-front l i
+
+free-front : (k : Part) (t n : ℕ) → freeFrom (frontPart k) t n ≡ freeFrom k t n
+free-front k t zero = refl
+free-front k t (suc n) = ap (λ (x : ℕ). cond (isOpen k t) x t) (free-front k (suc t) n)
+
+pub told-front : (q : Query) (k : Part) → toldOf q (frontPart k) ≡ toldOf q k
+unfolding toldOf freeIn
+told-front Stopped k = refl
+told-front PlacementCount k = ap (λ (n : ℕ). Number n) (ap length (sym (active-front k)) ∙ length-map (active k) pairless)
+told-front (Query·Placement i) k = ap (ifInRange (ltb i mostActive)) (ap (λ (l : List Placement). maskOfNth l i) (sym (active-front k)) ∙ masks-front (active k) i)
+told-front Working k = refl
+told-front Failed k = refl
+told-front (Home t) k = refl
+told-front FreeTransaction k = ap (λ (n : ℕ). Number n) (free-front k 1 tranCount)

@@ -5,10 +5,9 @@ use mathlib.Core.Bool.{Bool, _&&_, cond, false, true}
 use mathlib.Core.List.{List, [], _∷_}
 use mathlib.Core.Logic.{_≢_}
 use mathlib.Core.Option.{Option, none, some}
-use mathlib.Core.Path.{_∙_, _≡_, ap, refl, subst, sym}
+use mathlib.Core.Path.{_∙_, _≡_, ap, refl, sym}
 use Rattle.image.specs.Layout.{recordCount, slotCount, tranBound}
 use Rattle.image.specs.Parts.{Whole}
-use Rattle.mask.specs.Placements.{Usable, meant}
 use Rattle.slot.specs.Words.{stateOf}
 use Rattle.slot.specs.declared.Entry.{Entry}
 use Rattle.method.specs.Rules.{Answer, Plan, absent, act, delete, get, layBlock, lockHolders, look, ok, refusal, reply}
@@ -22,9 +21,8 @@ use Rattle.cabinet_rules.specs.Images.{Image, Writes, controlIn, refusalBy, ref
 use Rattle.promise.specs.Promise.{Done, shown}
 use Rattle.promise.specs.declared.Answer.{Answer as AnswerValue}
 use Rattle.promise.specs.declared.Answer.the-variants.{Absent, Ok, Refused}
-use Rattle.promise.proofs.Finish.{by-blocks, by-look, by-row, form-good, form-long}
+use Rattle.promise.proofs.Finish.{by-blocks, by-look, by-row, form-long}
 use Rattle.promise.specs.Laid.{laid}
-use Rattle.promise.proofs.View.{newest-usable as newest-active-usable}
 use Rattle.trail.specs.Trail.{holdersIn}
 use Rattle.trail.proofs.Listed.{none-listed, some-listed}
 use Rattle.records.specs.Access.{Prepared, withValue}
@@ -59,9 +57,6 @@ module _ (g : Image) (t r : ℕ) (a : Access) (ready : Prepared g t r a) where
 
   pub rec-fits : r < recordCount
   rec-fits = rec-lt t r ranges
-
-  pub newest-usable : Usable (meant (a .newest))
-  newest-usable = subst Usable (sym (ready .newest-is)) (newest-active-usable g (form-good g (ready .formed)))
 
   -- get: what is read
   pub get-done : (s : Entry) (x : AnswerValue) → stateOf s ≡ readBy t (seenIn g r) → shown x ≡ reply cabinet (stateOf s) → Done (get t r) g x g

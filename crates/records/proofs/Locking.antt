@@ -21,8 +21,7 @@ use Rattle.image.proofs.Blocks.{put-same}
 use Rattle.image.proofs.Parts.{part-back, part-block}
 use Rattle.mask.specs.Masks.{AreMembers, byte, members}
 use Rattle.mask.proofs.Masks.{elem-members, has-card}
-use Rattle.mask.specs.Placements.{AreSites, Placement, isSite, siteList, sitesOf}
-use Rattle.mask.specs.declared.Sites.{Sites}
+use Rattle.mask.specs.Placements.{Placement, isSite, sitesOf}
 use Rattle.slot.specs.Blocks.{BlockBytes, freshBlock, lockSlot, ofList}
 use Rattle.slot.specs.Words.{entryOf, stateOf}
 use Rattle.slot.specs.declared.Entry.{Entry}
@@ -194,9 +193,9 @@ lay-one g t r v w hr c b hc eb x ex one two put lock =
 
 -- each site of the newest placement gets it, which the rules say
 pub lay-laid : (g : Image) (t r : ℕ) (v : Option ℕ) (q : Placement) → Whole g → r < recordCount → q ≡ controlIn g .newest
-    → (s : Sites) → AreSites s q (r / slotCount) → putEach (r / slotCount) (newBlock t r v .0) (siteList s) g ≡ laid (layBlock cabinet (controlIn g) t r v) g
-lay-laid g t r v q w hr is s at =
-    put-cards g w b hb x (siteList s) (λ c h. has-card (q .mask) c (at .are-members c h)) (isSite q b) (λ c. ap (elem c) (at .listed))
+    → (m : ℕ) → AreMembers m (isSite q (r / slotCount)) → putEach (r / slotCount) (newBlock t r v .0) (members (byte m)) g ≡ laid (layBlock cabinet (controlIn g) t r v) g
+lay-laid g t r v q w hr is m are =
+    put-cards g w b hb x (members (byte m)) (λ c h. has-card (byte m) c (sym (elem-members (byte m) c) ∙ h)) (isSite q b) (λ c. elem-members (byte m) c ∙ are c)
     ∙ laid-same (putWrites (λ c k. none) b x (isSite q b)) g (layBlock cabinet (controlIn g) t r v)
     (λ c k hc hk. ap (λ (o : Option BlockBytes). updated o (blockIn g c k)) (there c k (split (eqb k b))))
   where

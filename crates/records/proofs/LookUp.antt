@@ -6,7 +6,6 @@ use mathlib.Core.Logic.{_≢_}
 use mathlib.Core.Path.{_∙_, _≡_, ap, refl, subst, sym}
 use native.Mathlib.Omega.{arith}
 use Rattle.image.specs.Layout.{recordCount, slotCount}
-use Rattle.mask.specs.Placements.{meant}
 use Rattle.method.specs.ControlPart.{isOpen}
 use Rattle.method.specs.Rules.{View, delete, get, refusal, row, store}
 use Rattle.method.proofs.Refusals.{row-3}
@@ -21,8 +20,8 @@ use Rattle.promise.specs.Given.{Given, rowsOn}
 use Rattle.promise.proofs.Finish.{given, refusal-rules}
 use Rattle.trail.specs.Trail.{Lists, holdersIn}
 use Rattle.trail.specs.declared.Holders.{Holders}
-use Rattle.trail.proofs.Holding.{newest-last, shownAt}
-use Rattle.records.specs.Access.{LooksUp, earlyRows}
+use Rattle.trail.proofs.Holding.{newest-last, usable-at}
+use Rattle.records.specs.Access.{IsNewest, LooksUp, earlyRows}
 use Rattle.records.specs.Slots.{lockedOutIn}
 use Rattle.records.specs.declared.access.Access.{Access}
 use Rattle.records.proofs.Rows.{rec-lt}
@@ -83,14 +82,21 @@ module _ (g : Image) (t r : ℕ) where
       pub locked-row : lockedOutIn g t r ≡ true → 7 ≡ refusalOn (get t r) g
       locked-row l = late-row true l ∙ whole-table
 
-      pub ready-up : (a : Access) → lockedOutIn g t r ≡ false → a .refusal ≡ 0 → meant (a .newest) ≡ shownAt g (f .control .count - 1)
+      newest-shown : IsNewest g (f .control .count - 1)
+      newest-shown = record {
+        there = omega (arith, is-given .is .counted .few, is-given .is .counted .some);
+        usable = usable-at (f .control) g is-given (f .control .count - 1) (omega (arith, is-given .is .counted .some));
+        is = newest-last (f .control) g is-given;
+      }
+
+      pub ready-up : (a : Access) → lockedOutIn g t r ≡ false → a .refusal ≡ 0 → a .newest ≡ f .control .count - 1
           → Lists (a .holders) (holdersIn g (r / slotCount)) → LooksUp g t r a
       ready-up a l is new held = record {
         refusal-is = is ∙ late-row false l ∙ whole-table;
         ready = λ y. record {
           formed = is-given .formed;
           accepted = late-row false l;
-          newest-is = new ∙ newest-last (f .control) g is-given;
+          newest-is = subst (IsNewest g) (sym new) newest-shown;
           holders-are = held;
         };
       }

@@ -7,7 +7,6 @@ ghost use Rattle.records.specs.Access.{LooksUp, earlyRows, withValue};
 use control::Control;
 use image::Rec;
 use image::Tran;
-use mask::Placement;
 use trail::Holders;
 
 // Records 0 to 511.
@@ -16,10 +15,10 @@ const RECORD_COUNT: usize = image::BLOCK_COUNT * image::SLOT_COUNT;
 // New feeder drives read this value as a broken wire; store takes the values below it.
 const BROKEN_WIRE: u16 = 65535;
 
-// A row of the refusal table, or else 0 with the newest placement and the holders of the record's block.
+// A row of the refusal table, or else 0 with the newest placement, by its number, and the holders of the record's block.
 pub struct Access {
     pub refusal: u8,
-    pub newest: Placement,
+    pub newest: usize,
     pub holders: Holders,
 }
 
@@ -29,7 +28,7 @@ fn refused(refusal: u8) -> Access
 {
     Access {
         refusal: refusal,
-        newest: Placement::from_mask(0),
+        newest: 0,
         holders: Holders {
             first: image::Card(0),
             cards: 0,
@@ -67,7 +66,7 @@ pub fn look_up(image: &[u8], tran: Tran, rec: Rec) -> Access
     }
     Access {
         refusal: 0,
-        newest: control::codec::placement_at(image, (k.count - 1) as usize),
+        newest: (k.count - 1) as usize,
         holders: holders,
     }
 }

@@ -3,7 +3,7 @@ ghost use mathlib.Core.Path.{_≡_};
 ghost use Prim.Native.Nat.{_%_, _/_, _<_};
 ghost use Rattle.image.specs.Layout.{cardCount, recordCount, slotCount, tranBound};
 ghost use Rattle.image.specs.Parts.{Whole, blockAt, putBlock};
-ghost use Rattle.mask.specs.Placements.{Usable, meant};
+ghost use Rattle.records.specs.Access.{IsNewest};
 ghost use Rattle.slot.specs.Blocks.{freshBlock, lockSlot, ofList, slotAt};
 ghost use Rattle.slot.specs.Words.{stateOf};
 ghost use Rattle.method.specs.Rules.{layBlock, lockHolders, look, reply};
@@ -18,7 +18,6 @@ use image::Block;
 use image::Card;
 use image::Rec;
 use image::Tran;
-use mask::Placement;
 use promise::Answer;
 use slot::Entry;
 use slot::Slot;
@@ -153,18 +152,17 @@ fn lay_on(image: &mut [u8], card: Card, tran: Tran, rec: Rec, pending: Entry)
 }
 
 // Each site of the newest placement gets a new block with the record's slot locked.
-pub fn lay(image: &mut [u8], newest: Placement, tran: Tran, rec: Rec, pending: Entry)
+pub fn lay(image: &mut [u8], newest: usize, tran: Tran, rec: Rec, pending: Entry)
     requires { ⌜ Whole (now image) × (rec .0 < recordCount) × (tran .0 < tranBound) ⌝ }
-    requires { ⌜ Usable (meant newest) × (meant newest ≡ controlIn (now image) .newest) ⌝ }
+    requires { ⌜ IsNewest (now image) newest ⌝ }
     ensures { λ _.
         ⌜ now (image .exit) ≡ laid (layBlock cabinet (controlIn (now (image .entry))) (tran .0) (rec .0)
         (stateOf pending)) (now (image .entry)) ⌝ }
 {
-    let sites = newest.sites(block_of(rec));
-    let count = sites.count as usize;
-    let mut n: usize = 0;
-    while n < count {
-        lay_on(image, sites.cards[n], tran, rec, pending);
-        n += 1;
+    let mut left = control::sites::mask_at(image, newest, block_of(rec));
+    while left != 0 {
+        let site = mask::first_member(left);
+        lay_on(image, site, tran, rec, pending);
+        left = mask::without_first(left);
     }
 }

@@ -13,7 +13,6 @@ use Rattle.mask.specs.Masks.{hasCard}
 use Rattle.slot.specs.Blocks.{BlockBytes, isHeld, ofList, someLocked}
 use Rattle.method.specs.Rules.{anyLocked, move, refusal, row}
 use Rattle.method.proofs.Refusals.{row-3, row-clear}
-use Rattle.control.specs.ControlBytes.{Part}
 use Rattle.control.specs.Meaning.{meaning}
 use Rattle.control.specs.declared.Control.{Control}
 use Rattle.cabinet_rules.specs.Cabinet.{cabinet}
@@ -22,7 +21,7 @@ use Rattle.promise.specs.Given.{Given, rowsOn, viewOf}
 use Rattle.promise.specs.Rows.{cardRows}
 use Rattle.promise.proofs.Finish.{given-whole}
 use Rattle.promise.proofs.Laid.{of-part}
-use Rattle.promise.proofs.SharedRows.{card-accepted}
+use Rattle.promise.proofs.SharedRows.{card-accepted, card-given}
 use Rattle.promise.proofs.View.{look-on}
 
 abbrev rows : Bool → Bool → Bool → Bool → ℕ → ℕ
@@ -83,7 +82,7 @@ module _ (g : Image) (c b : ℕ) where
 -- the same, from the code's tests of the block that it was lent: a part of the image
 module _ (k : Control) (g : Image) (is : Given k g) (c b : ℕ) (hb : b < blockCount) (n : ℕ) (e : n ≡ cardRows (meaning k) c) (z : n ≡ 0) where
   card-clear : 0 ≡ cardRows (controlIn g) c
-  card-clear = sym z ∙ e ∙ ap (λ (part : Part). cardRows part c) (is .is .means)
+  card-clear = sym z ∙ e ∙ card-given is c
 
   pub copy-card : c < cardCount
   copy-card = card-accepted (controlIn g) c card-clear .0

@@ -4,7 +4,7 @@ use mathlib.Core.Bool.{Bool, _&&_, cond, not}
 use mathlib.Core.List.{List}
 use mathlib.Core.Option.{Option}
 use mathlib.Core.Path.{_∙_, _≡_, ap, ap₂, fun-ext, refl, sym}
-use Rattle.lists.specs.Tests.{countNot, distinct, elem}
+use Rattle.lists.specs.Tests.{countNot, elem}
 use Rattle.lists.proofs.Bools.{and-in, and-l, and-r, same-test}
 use Rattle.lists.proofs.Lists.{elem-keep, keep-elem}
 use Rattle.image.specs.Layout.{blockCount, blockSize, cardCount}
@@ -17,25 +17,23 @@ use Rattle.mask.proofs.SiteMasks.{count-members}
 use Rattle.slot.specs.Blocks.{BlockBytes, emptyBlock, isHeld}
 use Rattle.slot.proofs.Blocks.{zeros-empty}
 use Rattle.method.specs.Rules.{act, copied, move, moveWrites, newestSites, updated, writing}
-use Rattle.control.specs.Meaning.{meaning}
 use Rattle.control.specs.declared.Control.{Control}
 use Rattle.cabinet_rules.specs.Cabinet.{cabinet}
 use Rattle.cabinet_rules.specs.Images.{Image, Writes, blockIn, controlIn}
 use Rattle.promise.specs.Given.{Given, rowsOn, viewOf}
 use Rattle.promise.specs.Promise.{Done}
 use Rattle.promise.specs.declared.Answer.the-variants.{Copied}
-use Rattle.promise.proofs.Finish.{by-blocks, given-whole}
+use Rattle.promise.proofs.Finish.{by-blocks, form-good, given-whole}
 use Rattle.promise.specs.Laid.{laid}
 use Rattle.promise.proofs.Laid.{block-is, laid-same}
 use Rattle.promise.proofs.PutEach.{put-cards, putEach}
-use Rattle.promise.proofs.View.{look-on}
+use Rattle.promise.proofs.View.{look-on, newest-usable}
 use Rattle.trail.specs.Trail.{holdsAt}
 use Rattle.trail.proofs.Holding.{holds-seen}
-use Rattle.reorganise.proofs.Looks.{newest-are, newest-usable}
 use Rattle.reorganise.proofs.MoveRows.{accepted}
 use Rattle.reorganise.proofs.MoveWrites.{allFilled, fill-laid, filled-is, lacking, sitesFilled}
 
-module _ (k : Control) (g : Image) (is : Given k g) (c b : ℕ) (ok : 0 ≡ rowsOn (move c b) g) (m : ℕ) (at : AreMembers m (isSite (meaning k .newest) b)) where
+module _ (k : Control) (g : Image) (is : Given k g) (c b : ℕ) (ok : 0 ≡ rowsOn (move c b) g) (m : ℕ) (at : AreMembers m (isSite (controlIn g .newest) b)) where
   hc : c < cardCount
   hc = accepted g c b ok .0
 
@@ -49,7 +47,7 @@ module _ (k : Control) (g : Image) (is : Given k g) (c b : ℕ) (ok : 0 ≡ rows
   sites = newestSites cabinet (controlIn g) b
 
   site-is : (d : ℕ) → hasCard (byte m) d ≡ elem d sites
-  site-is d = at d ∙ ap (elem d) (newest-are k g is b)
+  site-is d = at d
 
   abbrev holds : ℕ → Bool
   holds d = isHeld (viewOf g d b)
@@ -93,4 +91,4 @@ module _ (k : Control) (g : Image) (is : Given k g) (c b : ℕ) (ok : 0 ≡ rows
 
       copies : n ≡ countNot holds sites
       copies = count ∙ ap (λ (f : ℕ → Bool). countNot f (members (byte m))) same
-          ∙ count-members m sites holds (ap distinct (sym (newest-are k g is b)) ∙ site-distinct (meaning k .newest) b (newest-usable k g is)) site-is
+          ∙ count-members m sites holds (site-distinct (controlIn g .newest) b (newest-usable g (form-good g (is .formed))) hb) site-is

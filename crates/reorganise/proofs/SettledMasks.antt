@@ -14,7 +14,7 @@ use Rattle.lists.proofs.Lists.{all-in, all-out, all-same, elem-in, in-elem}
 use Rattle.image.specs.Layout.{cardCount}
 use Rattle.mask.specs.Masks.{byte, hasCard, members}
 use Rattle.mask.proofs.Masks.{elem-members, has-card, has-none, same-number}
-use Rattle.mask.proofs.SiteLaws.{some-card}
+use Rattle.mask.proofs.MaskSites.{some-card}
 use Rattle.method.specs.Rules.{settledBy, cardSettled}
 
 -- It depends on which cards are sites, and not on their order.

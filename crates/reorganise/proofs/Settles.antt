@@ -1,13 +1,13 @@
 -- The condition of a settle and the retired placements, from the code's values to the rules'. Assumes nothing.
 use Prim.Native.Nat.{_-_, _<_, ℕ}
-use lib.ListN.{length}
+use lib.ListN.{length, length-map}
 use mathlib.Core.Bool.{Bool, false, not, true}
 use mathlib.Core.Path.{_∙_, _≡_, ap, fun-ext, sym}
-use Rattle.lists.specs.Tests.{allBelow, elem}
+use Rattle.lists.specs.Tests.{allBelow}
 use Rattle.lists.proofs.Counts.{all-fails}
 use Rattle.image.specs.Layout.{cardCount, blockCount}
 use Rattle.mask.specs.Masks.{AreMembers, byte, hasCard, members}
-use Rattle.mask.specs.Placements.{isSite}
+use Rattle.mask.specs.Placements.{isSite, pairless}
 use Rattle.mask.proofs.Masks.{elem-members}
 use Rattle.slot.specs.Blocks.{isHeld}
 use Rattle.method.specs.ControlPart.{onlyNewest}
@@ -23,7 +23,6 @@ use Rattle.promise.proofs.SharedRows.{stopped-is}
 use Rattle.trail.specs.Trail.{holdsAt}
 use Rattle.trail.proofs.Holding.{holds-seen}
 use Rattle.method.specs.Rules.{settledBy}
-use Rattle.reorganise.proofs.Looks.{newest-are}
 use Rattle.reorganise.proofs.SettledMasks.{same-sites}
 
 -- ---- all blocks
@@ -36,18 +35,21 @@ unfolding settled
 all-pass k v n e h = sym (ap (λ (m : ℕ). allBelow m (settledAt cabinet k v)) (sym e) ∙ h)
 
 module _ (k : Control) (g : Image) (is : Given k g) where
-  pub block-is-settled : (b held sites : ℕ) → b < blockCount → AreMembers held (holdsAt g (byte (k .working)) b) → AreMembers sites (isSite (meaning k .newest) b)
+  pub block-is-settled : (b held sites : ℕ) → b < blockCount → AreMembers held (holdsAt g (byte (k .working)) b) → AreMembers sites (isSite (controlIn g .newest) b)
       → settledBy cardCount (members (byte sites)) (hasCard (byte held)) ≡ settledAt cabinet (controlIn g) (viewOf g) b
   unfolding settledBy
   block-is-settled b held sites h m s = ap (settledBy cardCount (members (byte sites))) (fun-ext (λ c. m c ∙ holds-seen k g is b c h))
-      ∙ same-sites (members (byte sites)) (newestSites cabinet (controlIn g) b) (λ c. elem-members (byte sites) c ∙ s c ∙ ap (elem c) (newest-are k g is b)) (λ c. isHeld (viewOf g c b))
+      ∙ same-sites (members (byte sites)) (newestSites cabinet (controlIn g) b) (λ c. elem-members (byte sites) c ∙ s c) (λ c. isHeld (viewOf g c b))
 
   pub settle-rows : row 4 (k .stopped) (row 13 (not (settled cabinet (controlIn g) (viewOf g))) 0) ≡ rowsOn settle g
   unfolding refusal
   settle-rows = ap (λ (t : Bool). row 4 t (row 13 (not (settled cabinet (controlIn g) (viewOf g))) 0)) (stopped-is k g is)
 
   -- the answer: the older placements go
+  pub older-count : length (controlIn g .older) ≡ k .count - 1
+  unfolding meaning
+  older-count = sym (length-map (controlIn g .older) pairless) ∙ ap (λ (p : Part). length (p .older)) (sym (is .is .means)) ∙ length-placements (placementIn k) (k .count - 1)
+
   pub settle-plan : planOn settle g ≡ unwritten cabinet (retired (k .count - 1)) (onlyNewest (controlIn g))
-  unfolding act meaning
-  settle-plan = ap (λ (n : ℕ). unwritten cabinet (retired n) (onlyNewest (controlIn g)))
-      (ap (λ (p : Part). length (p .older)) (sym (is .is .means)) ∙ length-placements (placementIn k) (k .count - 1))
+  unfolding act
+  settle-plan = ap (λ (n : ℕ). unwritten cabinet (retired n) (onlyNewest (controlIn g))) older-count

@@ -40,6 +40,7 @@ pub fn settle(image: &mut [u8]) -> Answer
         return Answer::Refused(refusal);
     }
     let retired = k.count - 1;
+    settling::retire_pairs(image, k);
     control::codec::write(image, k.retire());
     Answer::Retired(retired)
 }

@@ -59,7 +59,7 @@ pub fn spread(image: &mut [u8], k: Control, card: Card, block: Block) -> u8
     ensures { λ r.
         ⌜ Done (move (card .0) (block .0)) (now (image .entry)) (Answer.Copied r) (now (image .exit)) ⌝ }
 {
-    let sites = looking::newest_sites(k, block);
+    let sites = looking::newest_sites(image, k, block);
     let working = k.working;
     let stays = mask::has(sites, card);
     let bytes = image::get_block(image, card, block);

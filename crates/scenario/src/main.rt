@@ -4,7 +4,7 @@ mod life;
 mod report;
 
 fn main() {
-    let mut image = [0u8; 21024];
+    let mut image = [0u8; 21216];
     examples::m3(&mut image);
     // The last slot of card 1's last block.
     report::slot([

@@ -2,7 +2,7 @@
 -- plain record list shows. A kind of call enters by its clause of `kept-steps` alone. Assumes nothing.
 use mathlib.Core.Bool.{Bool, cond, false, true}
 use mathlib.Core.List.{List, [], _++_, _∷_, map}
-use mathlib.Core.Path.{_∙_, _≡_, ap, refl, sym}
+use mathlib.Core.Path.{_∙_, _≡_, ap, refl, subst, sym}
 use Rattle.mask.specs.Masks.{byte}
 use Rattle.method.specs.OneRecordList.{Observation, isLast, observe, plainObserve, runPlain, settleAccepted, zeroed}
 use Rattle.method.specs.PlainList.{PlainList, plainNext, plainStart}
@@ -11,11 +11,15 @@ use Rattle.cabinet_rules.specs.Cabinet.{cabinet}
 use Rattle.cabinet_rules.specs.Claims.{noisy}
 use Rattle.cabinet_rules.specs.Delivery.{current}
 use Rattle.cabinet_rules.specs.Images.{Image, answer, next}
-use Rattle.cabinet_rules.proofs.Earlier.{earlier-sound}
+use Rattle.cabinet_rules.specs.Converting.{longer}
+use Rattle.cabinet_rules.specs.Retired.{belowWire}
+use Rattle.cabinet_rules.proofs.Earlier.{converted-legible, earlier-sound, wire-sound}
+use Rattle.cabinet_rules.proofs.Legible.{Legible}
+use Rattle.cabinet_rules.proofs.Wire.{wireLaws}
 use Rattle.cabinet_rules.proofs.Form.{currentLaws}
 use Rattle.cabinet_rules.proofs.Sound.{Sound, ImageStep, noise-sound, start-sound, step-sound}
-use Rattle.store.specs.Runs.{GoesOnOfCalls, IsRun, Kept, Made, OneRecordListOfCalls, RunCall, memoryLeft, listCall, meantCalls, observed, observedIn}
-use Rattle.store.specs.Runs.{runCalls, runSteps, storeCall}
+use Rattle.store.specs.Runs.{Converted, GoesOnOfCalls, IsRun, Kept, Made, OneRecordListOfCalls, RunCall, memoryLeft, listCall, meantCalls, observed, observedIn}
+use Rattle.store.specs.Runs.{runCalls, runSteps, storeCall, tableCall, taken}
 
 -- These calls were answered so, one after the other on g, and left h.
 unfoldable pub Stepwise : List (Call cabinet × Answer cabinet) → Image → Image → Type 0
@@ -26,6 +30,7 @@ Stepwise (s ∷ l) g h = (s .1 ≡ answer (s .0) g) × Stepwise l (next (s .0) g
 pub kept-steps : (m : Made) (g : Image) → Kept m g → Stepwise (meantCalls m) g (memoryLeft m g)
 unfolding Stepwise
 kept-steps (storeCall c a left) g d = (d .answers, d .leaves)
+kept-steps (tableCall lines a left) g d = (d .answers, d .leaves)
 kept-steps (listCall lent a filled) g d = refl
 
 -- Calls on an image that is sound show what the plain record list shows, if the calls behind them do.
@@ -64,10 +69,18 @@ run-observed (r ∷ l) g z q s e =
     (noise-sound current currentLaws (r .noise) g z q s) (kept-steps (r .made) (noisy (r .noise) g) (e .0))
     (λ y p t. run-observed l (memoryLeft (r .made) (noisy (r .noise) g)) y p t (e .1))
 
+-- What the converter leaves of an older image.
+pub converted-is : (g left : Image) → Legible belowWire wireLaws g → Converted g left → left ≡ longer g
+converted-is g left s c = c .done .leaves ∙ converted-legible g (c .lent) s (c .room)
+
 -- DEMAND 3, going on from a store that earlier deliveries left
 pub goes-on-of-calls : GoesOnOfCalls
 unfolding GoesOnOfCalls
-goes-on-of-calls s e l = run-observed l (s .image) (s .rules) (s .plain) (earlier-sound s e)
+goes-on-of-calls s e left c l =
+    let is : left ≡ longer (s .image) = converted-is (s .image) left (wire-sound s e .seen) c in
+    run-observed l left (taken s .rules) (taken s .plain)
+    (subst (λ (g : Image). Sound current currentLaws g (taken s .rules) (taken s .plain)) (sym is)
+    (earlier-sound (taken s) (record { was = s; left = e; is = refl })))
 
 -- DEMAND 3
 pub one-record-list-of-calls : OneRecordListOfCalls

@@ -7,11 +7,12 @@ use Rattle.cabinet_rules.specs.Cabinet.{cabinet}
 use Rattle.cabinet_rules.specs.Claims.{noisy}
 use Rattle.cabinet_rules.specs.Delivery.{current}
 use Rattle.cabinet_rules.specs.Images.{Image, next}
+use Rattle.cabinet_rules.proofs.Earlier.{wire-legible}
 use Rattle.cabinet_rules.proofs.Form.{currentLaws}
 use Rattle.cabinet_rules.proofs.Twins.{AgreedImage, earlier-agreed, next-agreed, noise-agreed, start-agreed, twins-on}
 use Rattle.store.specs.Runs.{IsRun, RunCall, meantCalls, memoryAfter, memoryLeft}
 use Rattle.store.specs.Twins.{TwinsAgreeOfCalls, TwinsGoOnOfCalls}
-use Rattle.store.proofs.OneRecordList.{Stepwise, kept-steps}
+use Rattle.store.proofs.OneRecordList.{Stepwise, converted-is, kept-steps}
 
 -- the calls that one call means
 steps-agreed : (ss : List (Call cabinet × Answer cabinet)) (g h : Image) → Stepwise ss g h → AgreedImage current currentLaws g → AgreedImage current currentLaws h
@@ -38,4 +39,6 @@ twins-agree-of-calls m before behind d l e =
 -- and going on from memory that earlier deliveries left
 pub twins-go-on-of-calls : TwinsGoOnOfCalls
 unfolding TwinsGoOnOfCalls
-twins-go-on-of-calls g e l r = twins-on (memoryAfter l g) (run-agreed l g r (earlier-agreed g e))
+twins-go-on-of-calls g left e c l r =
+    twins-on (memoryAfter l left)
+    (run-agreed l left r (subst (AgreedImage current currentLaws) (sym (converted-is g left (wire-legible g e) c)) (earlier-agreed g e)))

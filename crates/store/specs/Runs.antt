@@ -4,42 +4,54 @@ use mathlib.Core.Bool.{cond}
 use mathlib.Core.List.{List, [], _++_, _∷_, map}
 use mathlib.Core.Logic.{_≢_}
 use mathlib.Core.Path.{_≡_}
+use lib.ListN.{length}
+use Rattle.image.specs.Layout.{imageSize}
 use Rattle.mask.specs.Masks.{byte}
 use Rattle.method.specs.OneRecordList.{Observation, isLast, observe, runPlain, zeroed}
 use Rattle.method.specs.PlainList.{plainStart}
-use Rattle.method.specs.Rules.{Answer, Call, start, stops}
+use Rattle.method.specs.Rules.{Answer, Call, place, start, stops}
 use Rattle.cabinet_rules.specs.Cabinet.{cabinet}
 use Rattle.cabinet_rules.specs.Claims.{noisy}
-use Rattle.cabinet_rules.specs.GoesOn.{Earlier, Store}
+use Rattle.cabinet_rules.specs.Delivery.{byTables}
+use Rattle.cabinet_rules.specs.GoesOn.{LeftByWire, Store, StoreBy, fromWire, takenOver}
 use Rattle.cabinet_rules.specs.Images.{Image}
+use Rattle.cabinet_rules.specs.Places.{byLines}
+use Rattle.cabinet_rules.specs.Retired.{belowWire}
+use Rattle.converter.specs.Promise.{ConvertDone}
 use Rattle.move_list.specs.Promise.{ListDone}
 use Rattle.move_list.specs.declared.Listed.{Listed}
 use Rattle.move_list.specs.declared.Move.{Move}
 use Rattle.promise.specs.Promise.{Done, asked, shown}
 use Rattle.promise.specs.declared.Call.{Call as CallValue}
 use Rattle.promise.specs.declared.Answer.{Answer as AnswerValue}
+use Rattle.promise.specs.declared.Filled.{Filled as FilledValue}
 use Rattle.promise.specs.declared.Answer.the-variants.{Ok}
 
 -- A call that was made on the memory.
 pub data Made : Type 0 where
   -- one of the fifteen: what was asked, what it answered, and the memory that it left
   storeCall : CallValue → AnswerValue → Image → Made
+  -- one that places by table (request A.6): the lines that were lent, what it answered, and the memory that it left
+  tableCall : List ℕ → AnswerValue → Image → Made
   -- one that lists moves (request A.3): the list that was lent, what was said, and the list as filled
   listCall : List Move → Listed → List Move → Made
 
 -- It kept its promise on memory g.
 abbrev pub Kept : Made → Image → Type 0
 Kept (storeCall c a left) g = Done (asked c) g a left
+Kept (tableCall lines a left) g = Done (place (byLines lines)) g a left
 Kept (listCall lent a filled) g = ListDone g lent a filled
 
 -- The memory that it left. One that lists moves leaves it as it was given.
 abbrev pub memoryLeft : Made → Image → Image
 memoryLeft (storeCall c a left) g = left
+memoryLeft (tableCall lines a left) g = left
 memoryLeft (listCall lent a filled) g = g
 
 -- What it means to the rules: calls of theirs with their answers. One that lists moves is none.
 abbrev pub meantCalls : Made → List (Call cabinet × Answer cabinet)
 meantCalls (storeCall c a left) = (asked c, shown a) ∷ []
+meantCalls (tableCall lines a left) = (place (byLines lines), shown a) ∷ []
 meantCalls (listCall lent a filled) = []
 
 -- A call in a run: the noise in the tables of failed cards before it, and what was made.
@@ -82,6 +94,10 @@ NoneStops (s ∷ l) = (s .1 ≢ stops) × NoneStops l
 abbrev pub NeverStopped : List RunCall → Type 0
 NeverStopped l = NoneStops (runSteps l)
 
+-- A store of the delivery before as this one goes on with it.
+abbrev pub taken : StoreBy belowWire → Store
+taken = takenOver belowWire byTables fromWire
+
 -- DEMAND 3 of the calls. After a start that said ok, on memory of any contents, the calls answer what the plain record
 -- list answers to the same calls, until the store stops; and it stops exactly when the stop rule says.
 unfoldable pub OneRecordListOfCalls : Type 0
@@ -89,8 +105,16 @@ OneRecordListOfCalls = (m : ℕ) (before behind : Image) → Done (start (byte m
     → (l : List RunCall) → IsRun l behind
     → observed l ≡ runPlain cabinet (runCalls l) (zeroed cabinet (byte m)) (plainStart cabinet (byte m))
 
--- DEMAND 3 of the calls, going on. The same on the memory of a store that earlier deliveries left: the plain record
--- list was fed their calls too.
+-- The converter was given an older image and lent a buffer of the length of today, and left it so.
+pub record Converted (older left : Image) : Type 0 where
+  pub lent : Image
+  pub said : FilledValue
+  pub room : length lent ≡ imageSize
+  pub done : ConvertDone older lent said left
+
+-- DEMAND 3 of the calls, going on. The same on the memory of a running store that earlier deliveries left and the
+-- converter made longer: the plain record list was fed their calls too.
 unfoldable pub GoesOnOfCalls : Type 0
-GoesOnOfCalls = (s : Store) → Earlier s → (l : List RunCall) → IsRun l (s .image)
-    → observed l ≡ runPlain cabinet (runCalls l) (s .rules) (s .plain)
+GoesOnOfCalls = (s : StoreBy belowWire) → LeftByWire s → (left : Image) → Converted (s .image) left
+    → (l : List RunCall) → IsRun l left
+    → observed l ≡ runPlain cabinet (runCalls l) (taken s .rules) (taken s .plain)

@@ -1,7 +1,10 @@
-// The store: the fifteen calls on a lent image of any length and contents, one entry that runs any of them,
-// and one that runs the bytes of a command. Each promises that its answer and the image that it leaves are those of the
-// rules.
+// The store: the calls on a lent image of any length and contents, one entry that runs any of the fifteen that have a
+// command, one that runs the bytes of a command, and one that makes an older image longer. Each promises that its answer
+// and what it leaves are those of the rules.
 ghost use Rattle.command.specs.Meaning.{Obeyed};
+ghost use Rattle.method.specs.Rules.{place};
+ghost use Rattle.cabinet_rules.specs.Places.{byLines};
+ghost use Rattle.converter.specs.Promise.{ConvertDone};
 ghost use Rattle.promise.specs.Promise.{Done, asked};
 ghost use Rattle.promise.specs.declared.Call.{Call};
 
@@ -14,6 +17,7 @@ use image::Rec;
 use image::Tran;
 use promise::Answer;
 use promise::Call;
+use promise::Filled;
 
 // The refusal of a malformed command.
 const MALFORMED: u8 = 15;
@@ -88,6 +92,13 @@ pub fn place(image: &mut [u8], mask: u8) -> Answer
     cards::place(image, mask)
 }
 
+// The plant's lines become the newest placement (request A.6).
+pub fn place_by_table(image: &mut [u8], lines: &[u8]) -> Answer
+    ensures { λ r. ⌜ Done (place (byLines (now (lines .entry)))) (now (image .entry)) r (now (image .exit)) ⌝ }
+{
+    placing::place_by_table(image, lines)
+}
+
 // A working card has failed: the store goes on without it, or stops.
 pub fn fail(image: &mut [u8], card: Card) -> Answer
     ensures { λ r. ⌜ Done (asked (Call.Fail card)) (now (image .entry)) r (now (image .exit)) ⌝ }
@@ -155,4 +166,11 @@ pub fn perform_command(image: &mut [u8], bytes: &[u8]) -> Answer
         Reading::Asks(asked) => perform(image, command::call_for(asked)),
         Reading::Malformed => Answer::Refused(MALFORMED),
     }
+}
+
+// An older image is written into the lent buffer at its length of today (request A.6).
+pub fn convert(older: &[u8], image: &mut [u8]) -> Filled
+    ensures { λ r. ⌜ ConvertDone (now (older .entry)) (now (image .entry)) r (now (image .exit)) ⌝ }
+{
+    converter::convert(older, image)
 }

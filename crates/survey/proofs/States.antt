@@ -1,7 +1,8 @@
 -- The word of a state, from the code's values to the rules'. Assumes nothing.
 use mathlib.Core.Bool.{Bool, false}
 use mathlib.Core.Path.{_∙_, _≡_, ap, sym}
-use Rattle.method.specs.Protection.{allWithstand, protection}
+use Rattle.method.specs.Protection.{allWithstand, protection, withstands}
+use Rattle.control_form.proofs.FrontPart.{all-active}
 use Rattle.method.specs.Rules.{act, isProtected, state, unwritten}
 use Rattle.method.proofs.ProtectionCounts.{protected-by-counts}
 use Rattle.control.specs.Meaning.{meaning}
@@ -25,5 +26,5 @@ module _ (k : Control) (g : Image) (is : Given k g) where
   unfolding act
   state-plan t run e =
       let word : isProtected cabinet (controlIn g) ≡ t =
-      counted (sym (stopped-is k g is) ∙ run) ∙ sym (e ∙ ap (allWithstand cabinet) (is .is .means)) in
+      counted (sym (stopped-is k g is) ∙ run) ∙ sym (e ∙ ap (allWithstand cabinet) (is .is .means) ∙ all-active (withstands cabinet tt (controlIn g .working) (controlIn g .failed)) (controlIn g)) in
       ap (λ (t : Bool). unwritten cabinet (protection cabinet t) (controlIn g)) word

@@ -21,18 +21,18 @@ use Rattle.slot.specs.Blocks.{byteIn, isHeld}
 use Rattle.slot.proofs.Blocks.{byte-in}
 use Rattle.method.specs.ControlPart.{active}
 use Rattle.method.specs.Rules.{holders, trail}
-use Rattle.control.specs.ControlBytes.{Part, countIn, placementAt, placementsIn}
+use Rattle.control.specs.ControlBytes.{Part, countIn, placementsIn}
 use Rattle.control.specs.Meaning.{meaning}
 use Rattle.control.specs.declared.Control.{Control}
 use Rattle.control.proofs.Fields.{placements-more, shown-active, shown-newest}
 use Rattle.control.proofs.Struct.{shown-count}
 use Rattle.control_form.specs.ControlForm.{controlForm}
 use Rattle.control_form.proofs.RoundTrip.{form-count}
-use Rattle.cabinet_rules.specs.Images.{Image, blockIn, controlIn}
+use Rattle.cabinet_rules.specs.Images.{Image, blockIn, controlIn, tailIn}
 use Rattle.promise.specs.Given.{Given, viewOf}
 use Rattle.promise.proofs.Finish.{form-good}
 use Rattle.promise.proofs.View.{held-look, usable-active, works-not-failed}
-use Rattle.trail.specs.Trail.{holdersIn, holdsAt}
+use Rattle.trail.specs.Trail.{holdersIn, holdsAt, shownAt}
 
 -- ---- the bit 'held' is in a block's first byte
 pub held-byte : (g : Image) (c b at : ℕ) → at ≡ blockAddress c b → getD g at 0 < 256 → leb 128 (getD g at 0) ≡ isHeld (blockIn g c b)
@@ -65,10 +65,6 @@ holdsSeen g b c = isHeld (viewOf g c b)
 abbrev notFailed : Image → ℕ → Bool
 notFailed g c = not (hasCard (controlIn g .failed) c)
 
--- placement i, as the image's bytes show it
-abbrev pub shownAt : Image → ℕ → Placement
-shownAt g i = placementAt (λ n. getD g n 0) i
-
 unfoldable pub firstHolders : Image → ℕ → ℕ → List ℕ
 firstHolders g b i = keepIf (holdsSeen g b) (keepIf (notFailed g) (concatMap (λ p. sitesOf p b) (placementsIn (shownAt g) i)))
 
@@ -82,16 +78,16 @@ module _ (k : Control) (g : Image) (given : Given k g) where
 
   -- the active placements are the first `count` ones that the bytes show, and the newest is the last of them
   some-active : 1 ≤ countIn (getD g 0 0)
-  some-active = form-count (λ n. getD g n 0) formed .0
+  some-active = form-count (λ n. getD g n 0) (tailIn g) formed .0
 
   same-count : countIn (getD g 0 0) ≡ k .count
-  same-count = sym (shown-count (λ n. getD g n 0) some-active k (given .is .counted) (given .is .means))
+  same-count = sym (shown-count (λ n. getD g n 0) (tailIn g) some-active k (given .is .counted) (given .is .means))
 
   active-first : active (controlIn g) ≡ placementsIn (shownAt g) (k .count)
-  active-first = shown-active (λ n. getD g n 0) some-active ∙ ap (placementsIn (shownAt g)) same-count
+  active-first = shown-active (λ n. getD g n 0) (tailIn g) some-active ∙ ap (placementsIn (shownAt g)) same-count
 
   pub newest-last : shownAt g (k .count - 1) ≡ controlIn g .newest
-  newest-last = sym (shown-newest (λ n. getD g n 0) some-active ∙ ap (λ (n : ℕ). shownAt g (n - 1)) same-count)
+  newest-last = sym (shown-newest (λ n. getD g n 0) (tailIn g) some-active ∙ ap (λ (n : ℕ). shownAt g (n - 1)) same-count)
 
   -- each has as many members as copies
   pub usable-at : (i : ℕ) → i < k .count → Usable (shownAt g i)

@@ -17,7 +17,7 @@ use Rattle.lists.proofs.Lists.{any-append, keep-append}
 use Rattle.image.specs.Layout.{cardCount}
 use Rattle.mask.specs.Masks.{Byte, byte, hasCard, withCard}
 use Rattle.mask.proofs.Masks.{has-card, has-none, has-with}
-use Rattle.mask.proofs.SiteLaws.{some-card}
+use Rattle.mask.proofs.MaskSites.{some-card}
 use Rattle.trail.specs.declared.Holders.{Holders}
 use Rattle.trail.specs.Trail.{Adds, Lists}
 

@@ -6,16 +6,22 @@ use mathlib.Core.List.{List, _++_}
 use mathlib.Core.Path.{_≡_}
 use Rattle.lists.specs.Tests.{elem, keepIf}
 use Rattle.mask.specs.Masks.{AreMembers, Byte, byte, hasCard, withCard}
+use Rattle.mask.specs.Placements.{Placement}
+use Rattle.control.specs.ControlBytes.{placementAt}
 use Rattle.slot.specs.Blocks.{isHeld}
 use Rattle.method.specs.Rules.{holders}
 use Rattle.cabinet_rules.specs.Cabinet.{cabinet}
-use Rattle.cabinet_rules.specs.Images.{Image, blockIn, controlIn}
+use Rattle.cabinet_rules.specs.Images.{Image, blockIn, controlIn, tailIn}
 use Rattle.promise.specs.Given.{viewOf}
 use Rattle.trail.specs.declared.Holders.{Holders}
 
 -- The holders of block b as the rules have them.
 abbrev pub holdersIn : Image → ℕ → List ℕ
 holdersIn g b = holders cabinet (controlIn g) (viewOf g) b
+
+-- Placement i that the bytes of an image show.
+abbrev pub shownAt : Image → ℕ → Placement
+shownAt g i = placementAt (λ n. getD g n 0) (tailIn g) i
 
 -- Card c, of these working cards, holds block b.
 unfoldable pub holdsAt : Image → Byte → ℕ → ℕ → Bool

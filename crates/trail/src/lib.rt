@@ -4,14 +4,14 @@ ghost use mathlib.Core.Path.{_≡_};
 ghost use mathlib.Core.List.{List, _++_, _∷_, []};
 ghost use Prim.Native.Nat.{_+_, _<_, ℕ};
 ghost use lib.ListN.{getD};
-ghost use Rattle.image.specs.Layout.{blockCount, cardCount};
+ghost use Rattle.image.specs.Layout.{blockCount, cardCount, mostActive};
 ghost use Rattle.image.specs.Parts.{Whole};
 ghost use Rattle.mask.specs.Masks.{AreMembers, byte};
-ghost use Rattle.mask.specs.Placements.{Usable, meant, sitesOf};
+ghost use Rattle.mask.specs.Placements.{Usable, sitesOf};
 ghost use Rattle.slot.specs.Blocks.{isHeld};
 ghost use Rattle.cabinet_rules.specs.Images.{blockIn};
 ghost use Rattle.promise.specs.Given.{Given};
-ghost use Rattle.trail.specs.Trail.{Adds, Lists, WithCard, holdersIn, holdsAt};
+ghost use Rattle.trail.specs.Trail.{Adds, Lists, WithCard, holdersIn, holdsAt, shownAt};
 use control::Control;
 use image::Block;
 use image::Card;
@@ -139,19 +139,14 @@ fn push(image: &[u8], working: u8, block: Block, found: Holders, card: Card) -> 
     found
 }
 
-// The sites of the placement are added where they hold the block.
-fn push_sites(
-    image: &[u8],
-    working: u8,
-    block: Block,
-    found: Holders,
-    placement: Placement,
-) -> Holders
-    requires { ⌜ Whole (now image) × Usable (meant placement) × (block .0 < blockCount) ⌝ }
+// The sites of placement i are added where they hold the block.
+fn push_sites(image: &[u8], working: u8, block: Block, found: Holders, i: usize) -> Holders
+    requires { ⌜ Whole (now image) × (i < mostActive) × (block .0 < blockCount) ⌝ }
+    requires { ⌜ Usable (shownAt (now image) i) ⌝ }
     ensures { λ r. ⌜ Adds found (holdsAt (now (image .entry)) (byte working) (block .0))
-        (sitesOf (meant placement) (block .0)) r ⌝ }
+        (sitesOf (shownAt (now (image .entry)) i) (block .0)) r ⌝ }
 {
-    let sites = placement.sites(block);
+    let sites = control::sites::at(image, i, block);
     let count = sites.count as usize;
     let mut all = found;
     let mut n: usize = 0;
@@ -178,13 +173,7 @@ pub fn find(image: &[u8], k: Control, block: Block) -> Holders
     };
     let mut i: usize = 0;
     while i < count {
-        let more = push_sites(
-            image,
-            working,
-            block,
-            found,
-            control::codec::placement_at(image, i),
-        );
+        let more = push_sites(image, working, block, found, i);
         found = more;
         i += 1;
     }

@@ -6,8 +6,8 @@ use mathlib.Core.Path.{_∙_, _≡_, ap, refl, sym}
 use Rattle.image.specs.Parts.{Whole}
 use Rattle.slot.specs.Blocks.{inSet}
 use Rattle.method.specs.ControlPart.{closed, opened}
-use Rattle.method.specs.Rules.{View, begin, endHeld, look}
-use Rattle.control.specs.ControlBytes.{Part}
+use Rattle.method.specs.Rules.{View, begin, endHeld, look, refusal}
+use Rattle.control.specs.ControlBytes.{Part, frontPart}
 use Rattle.control_form.specs.ControlForm.{formRefusal}
 use Rattle.control.specs.Meaning.{meaning, putControl}
 use Rattle.control_form.specs.Reading.{Reads}
@@ -18,7 +18,8 @@ use Rattle.promise.specs.Promise.{Done}
 use Rattle.promise.specs.declared.Answer.the-variants.{Ok, Refused}
 use Rattle.promise.specs.Given.{rowsOn}
 use Rattle.promise.specs.Rows.{tranRows}
-use Rattle.promise.proofs.Finish.{by-both, by-control, by-rules, form-long}
+use Rattle.promise.proofs.Finish.{by-both, by-control, by-rules, form-good, form-long}
+use Rattle.promise.proofs.Laid.{same-tail}
 use Rattle.promise.specs.Laid.{laid}
 use Rattle.tables.specs.Tables.{endWrites, setOf}
 use Rattle.tables.proofs.Ends.{ends-set}
@@ -26,14 +27,14 @@ use Rattle.transactions.specs.Transactions.{beginRows, endCall}
 use Rattle.transactions.proofs.Rows.{begin-plan, begin-rows, end-late, end-plan, end-rows}
 
 module _ (g : Image) (found : Found) (reads : Reads g found) (passed : found .refusal ≡ 0) where
-  -- what was read is the control part of the image
+  -- what was read is the control part of the image, without its pairs
   abbrev k : Part
   k = meaning (found .control)
 
   clear : formRefusal g ≡ 0
   clear = sym (reads .refusal-is) ∙ passed
 
-  means : k ≡ controlIn g
+  means : k ≡ frontPart (controlIn g)
   means = reads .good passed .means
 
   pub whole-read : Whole g
@@ -45,6 +46,7 @@ module _ (g : Image) (found : Found) (reads : Reads g found) (passed : found .re
   -- ---- begin
   module _ (t h : ℕ) where
     begin-on : beginRows k t h ≡ rowsOn (begin t h) g
+    unfolding beginRows refusal
     begin-on = ap (λ (p : Part). beginRows p t h) means ∙ begin-rows (controlIn g) seen t h
 
     pub begin-refused : (n : ℕ) → n ≡ beginRows k t h → (n ≡ 0 → ⊥) → Done (begin t h) g (Refused n) g
@@ -52,12 +54,13 @@ module _ (g : Image) (found : Found) (reads : Reads g found) (passed : found .re
 
     pub begin-done : (behind : Image) → 0 ≡ beginRows k t h → behind ≡ putControl g (opened k t h) → Done (begin t h) g Ok behind
     begin-done behind e l = by-control (begin t h) refl g clear Ok (opened (controlIn g) t h) behind (e ∙ begin-on)
-        (begin-plan (controlIn g) seen t h)
+        (begin-plan (controlIn g) seen t h) (same-tail g (form-good g clear))
         (l ∙ ap (λ (p : Part). putControl g (opened p t h)) means)
 
   -- ---- commit, rollback
   module _ (take : Bool) (t : ℕ) where
     end-on : tranRows k t ≡ rowsOn (endCall take t) g
+    unfolding tranRows
     end-on = ap (λ (p : Part). tranRows p t) means ∙ end-rows (controlIn g) seen t take
 
     pub end-refused : (n : ℕ) → n ≡ tranRows k t → (n ≡ 0 → ⊥) → Done (endCall take t) g (Refused n) g
@@ -70,5 +73,5 @@ module _ (g : Image) (found : Found) (reads : Reads g found) (passed : found .re
     pub end-done : (behind : Image) → 0 ≡ tranRows k t → behind ≡ ended k → Done (endCall take t) g Ok behind
     end-done behind e l = by-both (endCall take t) (end-late take t) g clear Ok (closed (controlIn g) (λ x. eqb x t)) (endHeld cabinet take (λ x. eqb x t) seen) behind
         (e ∙ end-on)
-        (end-plan (controlIn g) seen t take)
-        (l ∙ ap ended means ∙ ap (λ (i : Image). putControl i (closed (controlIn g) (λ x. eqb x t))) (ends-set g (λ x. eqb x t) take))
+        (end-plan (controlIn g) seen t take) (same-tail g (form-good g clear))
+        (l ∙ ap ended means ∙ ap (λ (i : Image). putControl i (frontPart (closed (controlIn g) (λ x. eqb x t)))) (ends-set g (λ x. eqb x t) take))

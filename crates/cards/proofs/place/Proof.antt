@@ -1,10 +1,10 @@
 -- Refused by the form or by a row; else the placement of the mask is added to the control part, and only that changes. Assumes nothing.
 use borrow.Author.Needs.{needs}
-use mathlib.Core.Path.{_∙_, _≡_, ap, refl}
+use mathlib.Core.Path.{_≡_, refl}
 use Rattle.mask.specs.Masks.{byte}
-use Rattle.mask.specs.Placements.{Placement}
 use Rattle.method.specs.Rules.{place}
 use Rattle.control.specs.Meaning.{meaning}
+use Rattle.cabinet_rules.specs.Places.{byMask}
 use Rattle.promise.specs.Given.{Given}
 use Rattle.promise.proofs.Finish.{by-form, given}
 use Rattle.cards.proofs.Plans.{long, place-done, place-refused, place-room}
@@ -22,28 +22,24 @@ returns : tie.Need-returns
 returns c =
     let r = c .before .before in
     let a = r .before .before .before .args in
-    by-form (place (byte (a .mask))) refl (a .image .now) (r .read .result .refusal) (r .read .ensures .refusal-is) (c .if1 .taken)
-
-from-mask-requires : tie.Need-from-mask-requires
-from-mask-requires c κs = search needs
+    by-form (place (byMask (byte (a .mask)))) refl (a .image .now) (r .read .result .refusal) (r .read .ensures .refusal-is) (c .if1 .taken)
 
 -- the places that a later one has behind it, and what was read
 abbrev read-at : tie.After-place-refusal → tie.After-read
-read-at r = r .before .before .before .before .before
+read-at r = r .before .before .before .before
 
 abbrev start-at : tie.After-place-refusal → tie.Start
 start-at r = read-at r .before .before .before
 
 given-at : (r : tie.After-place-refusal) → Given (read-at r .read .result .control) (start-at r .args .image .now)
-given-at r = given (read-at r .read .ensures) (r .before .before .before .if1 .left)
+given-at r = given (read-at r .read .ensures) (r .before .before .if1 .left)
 
-rows-at : (r : tie.After-place-refusal) → r .place-refusal .result ≡ rowsOf (place (byte (start-at r .args .mask))) (meaning (read-at r .read .result .control))
-rows-at r = r .place-refusal .ensures ∙ ap (λ (p : Placement). rowsOf (place (p .mask)) (meaning (read-at r .read .result .control))) (r .before .from-mask .ensures)
+rows-at : (r : tie.After-place-refusal) → r .place-refusal .result ≡ rowsOf (place (byMask (byte (start-at r .args .mask)))) (meaning (read-at r .read .result .control))
+rows-at r = r .place-refusal .ensures
 
 place-refusal-requires : tie.Need-place-refusal-requires
 place-refusal-requires c κs =
-    let k = c .before in
-    given (k .before .before .before .read .ensures) (k .before .if1 .left) .is .counted
+    given (c .before .before .before .read .ensures) (c .before .if1 .left) .is .counted
 
 same-length-2 : tie.Need-same-length-2
 same-length-2 c = search needs
@@ -54,10 +50,8 @@ returns-2 c = let r = c .before in place-refused (given-at r) (byte (start-at r 
 add-requires : tie.Need-add-requires
 add-requires c κs =
     let e = c .before in
-    let r = e .before in (
-      given-at r .is .counted,
-      (place-room (given-at r) (byte (start-at r .args .mask)) _ (rows-at r) (e .if2 .left), ap (λ (p : Placement). p .byRails) (r .before .from-mask .ensures)),
-    )
+    let r = e .before in
+    (given-at r .is .counted, place-room (given-at r) (byte (start-at r .args .mask)) _ (rows-at r) (e .if2 .left))
 
 write-requires : tie.Need-write-requires
 write-requires c κs = (long (given-at (c .before .before .before)), c .add .ensures .counted)
@@ -71,7 +65,7 @@ returns-3 c =
     let a = w .before in
     let e = a .before .before in
     let r = e .before in
-    place-done (given-at r) (byte (start-at r .args .mask)) _ _ _ _ (r .before .from-mask .ensures) (rows-at r) (e .if2 .left) (a .add .ensures) (w .write .ensures)
+    place-done (given-at r) (byte (start-at r .args .mask)) _ _ _ (rows-at r) (e .if2 .left) (a .add .ensures) (w .write .ensures)
 
 pub place-spec : {M : Type 1} → statement M
 place-spec =
@@ -80,7 +74,6 @@ place-spec =
     read-requires
     same-length
     returns
-    from-mask-requires
     place-refusal-requires
     same-length-2
     returns-2

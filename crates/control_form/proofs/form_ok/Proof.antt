@@ -1,134 +1,40 @@
--- The control form is the clauses in the code's order; each clause that passes leaves those behind
--- it, and one that fails decides. Assumes nothing.
+-- What is asked before the tables, and then what is asked behind them. Assumes nothing.
 use mathlib.Core.Path.{_≡_, _∙_, sym}
-use mathlib.Core.List.{List}
-use Prim.Native.Nat.{ℕ}
-use Rattle.control_form.specs.ControlForm.{controlForm, formOk}
+use mathlib.Core.Bool.{true}
+use Prim.Native.Nat.{ℕ, _<_}
+use lib.ListN.{getD}
+use Rattle.lists.proofs.Bools.{and-l, and-r}
+use Rattle.control.specs.ControlBytes.{controlOf, tailAt}
+use Rattle.control_form.specs.ControlForm.{countOk, formOk, frontOk, zeroFieldsOk}
 use Rattle.control_form.proofs.Checks.{failed-is, passed-is}
-use Rattle.control_form.specs.Reading.{allFrom, chainIn, homeFitsAt, newestIn, otherZeros, wordsEnd}
-use Rattle.control_form.proofs.Clauses.{all-fail, apartIn, clauses, form-by, others-left, placementsFit}
-use Rattle.control_form.proofs.Clauses.{fromApart, fromChain, fromNewest, fromPlacements}
+use Rattle.control_form.proofs.Kept.{behind-by}
+use Rattle.control_form.proofs.ZeroFields.{count-few, count-some, marks-are}
 use borrow.Author.Needs.{needs}
-use Rattle.control.specs.ControlBytes.{homesAt}
 use Rattle.control_form.proofs.form_ok.Statement.{statement}
 use Rattle.control_form.proofs.form_ok.Tie as tie
 
--- the bytes, at each place
-abbrev at1 : tie.Else1 → List ℕ
-at1 c = c .before .before .before .args .s .now
-
-abbrev at2 : tie.Else2 → List ℕ
-at2 c = at1 (c .before .before)
-
-abbrev at3 : tie.Else3 → List ℕ
-at3 c = at2 (c .before .before .before .before)
-
-abbrev at4 : tie.Else4 → List ℕ
-at4 c = at3 (c .before .before)
-
-abbrev at5 : tie.Else5 → List ℕ
-at5 c = at4 (c .before .before)
-
-abbrev at6 : tie.Else6 → List ℕ
-at6 c = at5 (c .before .before)
-
--- what is left of the control form there
-left1 : (c : tie.Else1) → controlForm (at1 c) ≡ clauses (at1 c)
-left1 c = form-by (at1 c) (passed-is (c .before .count-ok .ensures) (c .if1 .left)) (λ n. c .before .before .shared-slice-known .given n .fits)
-
-left2 : (c : tie.Else2) → controlForm (at2 c) ≡ fromApart (at2 c)
-left2 c = others-left (otherZeros (at2 c)) (fromApart (at2 c)) (left1 (c .before .before)) (passed-is (c .before .zero-fields-ok .ensures) (c .if2 .left))
-
-left3 : (c : tie.Else3) → controlForm (at3 c) ≡ fromPlacements (at3 c)
-left3 c = others-left (apartIn (at3 c)) (fromPlacements (at3 c)) (left2 (c .before .before .before .before)) (passed-is (c .before .apart .ensures) (c .if3 .left))
-
-left4 : (c : tie.Else4) → controlForm (at4 c) ≡ fromChain (at4 c)
-left4 c = others-left (placementsFit (at4 c)) (fromChain (at4 c)) (left3 (c .before .before)) (passed-is (c .before .placements-ok .ensures) (c .if4 .left))
-
-left5 : (c : tie.Else5) → controlForm (at5 c) ≡ fromNewest (at5 c)
-left5 c = others-left (chainIn (at5 c)) (fromNewest (at5 c)) (left4 (c .before .before)) (passed-is (c .before .fourth-ok .ensures) (c .if5 .left))
-
-count-ok-requires : tie.Need-count-ok-requires
-count-ok-requires c κs = search needs
+front-ok-requires : tie.Need-front-ok-requires
+front-ok-requires c κs = search needs
 
 returns : tie.Need-returns
 unfolding formOk
-returns c = rw (failed-is (c .before .count-ok .ensures) (c .if1 .taken))
+returns c = rw (failed-is (c .before .front-ok .ensures (tailAt (c .before .before .before .args .image .now))) (c .if1 .taken))
 
-zero-fields-ok-requires : tie.Need-zero-fields-ok-requires
-zero-fields-ok-requires c κs = (c .before .before .before .pre, passed-is (c .before .count-ok .ensures) (c .if1 .left))
+tables-ok-requires : tie.Need-tables-ok-requires
+tables-ok-requires c κs = search needs
 
 returns-2 : tie.Need-returns-2
+unfolding formOk frontOk
 returns-2 c =
-    let g = at1 (c .before .before) in
-    all-fail (otherZeros g) (fromApart g) (left1 (c .before .before)) (failed-is (c .before .zero-fields-ok .ensures) (c .if2 .taken))
-
-shared-slice-read-apart : tie.Need-shared-slice-read-apart
-shared-slice-read-apart c = search needs
-
-shared-slice-read-apart-2 : tie.Need-shared-slice-read-apart-2
-shared-slice-read-apart-2 c = search needs
-
-apart-requires : tie.Need-apart-requires
-apart-requires c κs = search needs
-
-returns-3 : tie.Need-returns-3
-returns-3 c =
-    let g = at2 (c .before .before .before .before) in
-    all-fail (apartIn g) (fromPlacements g) (left2 (c .before .before .before .before)) (failed-is (c .before .apart .ensures) (c .if3 .taken))
-
-placements-ok-requires : tie.Need-placements-ok-requires
-placements-ok-requires c κs = search needs
-
-returns-4 : tie.Need-returns-4
-returns-4 c =
-    let g = at3 (c .before .before) in
-    all-fail (placementsFit g) (fromChain g) (left3 (c .before .before)) (failed-is (c .before .placements-ok .ensures) (c .if4 .taken))
-
-fourth-ok-requires : tie.Need-fourth-ok-requires
-fourth-ok-requires c κs =
-    let e1 = c .before .before .before .before .before .before .before .before in
-    (e1 .before .before .before .pre, passed-is (e1 .before .count-ok .ensures) (e1 .if1 .left))
-
-returns-5 : tie.Need-returns-5
-returns-5 c =
-    let g = at4 (c .before .before) in
-    all-fail (chainIn g) (fromNewest g) (left4 (c .before .before)) (failed-is (c .before .fourth-ok .ensures) (c .if5 .taken))
-
-newest-works-requires : tie.Need-newest-works-requires
-newest-works-requires c κs = search needs
-
-returns-6 : tie.Need-returns-6
-returns-6 c =
-    let g = at5 (c .before .before) in
-    all-fail (newestIn g) (allFrom homesAt wordsEnd (homeFitsAt g)) (left5 (c .before .before)) (failed-is (c .before .newest-works .ensures) (c .if6 .taken))
-
-homes-ok-requires : tie.Need-homes-ok-requires
-homes-ok-requires c κs = search needs
-
-returns-7 : tie.Need-returns-7
-returns-7 c =
-    let n = c .before in
-    let g = at6 n in
-    c .homes-ok .ensures ∙ sym (others-left (newestIn g) (allFrom homesAt wordsEnd (homeFitsAt g)) (left5 (n .before .before)) (passed-is (n .before .newest-works .ensures) (n .if6 .left)))
+    let e = c .before in
+    let s = e .before .before .before in
+    let l = s .args .image .now in
+    let t = tailAt l in
+    let bytes : (n : ℕ) → getD l n 0 < 256 = λ n. e .before .before .shared-slice-known .given n .fits in
+    let front = passed-is (e .before .front-ok .ensures t) (e .if1 .left) in
+    let count : countOk (λ n. getD l n 0) ≡ true = and-l (countOk (λ n. getD l n 0)) _ front in
+    let zeros = and-l (zeroFieldsOk (controlOf (λ n. getD l n 0) t) (λ n. getD l n 0)) _ (and-r (countOk (λ n. getD l n 0)) _ front) in
+    rw front (c .tables-ok .ensures ∙ sym (behind-by l (count-some l count) (count-few l count) (marks-are l t count bytes zeros) bytes))
 
 pub form-ok-spec : {M : Type 1} → statement M
-form-ok-spec =
-    tie.close
-    (tie.spec
-    count-ok-requires
-    returns
-    zero-fields-ok-requires
-    returns-2
-    shared-slice-read-apart
-    shared-slice-read-apart-2
-    apart-requires
-    returns-3
-    placements-ok-requires
-    returns-4
-    fourth-ok-requires
-    returns-5
-    newest-works-requires
-    returns-6
-    homes-ok-requires
-    returns-7)
+form-ok-spec = tie.close (tie.spec front-ok-requires returns tables-ok-requires returns-2)

@@ -1,30 +1,11 @@
 -- The parts in their order; a return takes those before it as passed. Assumes nothing.
-use mathlib.Core.Path.{_≡_, sym}
-use mathlib.Core.Bool.{true, false}
-use Prim.Native.Nat.{ℕ}
 use borrow.Author.Tests.{eq-eqb, ne-eqb}
-use lib.Bits.{bitAnd}
-use lib.Dec.{eqb}
-use lib.ListN.{getD}
-use Rattle.control.specs.Meaning.{bitsFrom}
 use Rattle.control_form.specs.Reading.{otherZeros}
 use Rattle.control_form.proofs.Checks.{failed-is, passed-is}
 use Rattle.control_form.proofs.ZeroFields.{count-few, count-some}
 use borrow.Author.Needs.{needs}
 use Rattle.control_form.proofs.zero_fields_ok.Statement.{statement}
 use Rattle.control_form.proofs.zero_fields_ok.Tie as tie
-use Rattle.control_form.proofs.zero_fields_ok.Reads as reads
-use Rattle.control_form.proofs.zero_fields_ok.Lts as lts
-use Rattle.control.proofs.codec.no_marks.Reads as no-marks-reads
-use Rattle.control.specs.ControlBytes.{marksAt}
-use Rattle.control_form.proofs.tail_ok.Reads as tail-ok-reads
-use Rattle.control_form.proofs.masks_end.Reads as masks-end-reads
-
-marks-fail : {r : ℕ} (m n : ℕ) → r ≡ bitsFrom n → (bitAnd m r ≡ 0 → ⊥) → eqb (bitAnd m (bitsFrom n)) 0 ≡ false
-marks-fail m n e h = rw (sym e) (ne-eqb _ 0 h)
-
-marks-hold : {r : ℕ} (m n : ℕ) → r ≡ bitsFrom n → bitAnd m r ≡ 0 → eqb (bitAnd m (bitsFrom n)) 0 ≡ true
-marks-hold m n e h = rw (sym e) (eq-eqb _ 0 h)
 
 shared-slice-read-if1 : tie.Need-shared-slice-read-if1
 shared-slice-read-if1 c = search needs
@@ -45,11 +26,11 @@ returns-2 : tie.Need-returns-2
 unfolding otherZeros
 returns-2 c = rw (eq-eqb _ _ (c .before .before .before .if1 .left), failed-is (c .before .masks-end .ensures) (c .if2 .taken))
 
-shared-slice-read-if3 : tie.Need-shared-slice-read-if3
-shared-slice-read-if3 c = search needs
+shared-slice-read-marks-ok : tie.Need-shared-slice-read-marks-ok
+shared-slice-read-marks-ok c = search needs
 
-no-marks-requires : tie.Need-no-marks-requires
-no-marks-requires c κs =
+marks-ok-requires : tie.Need-marks-ok-requires
+marks-ok-requires c κs =
     let s = c .before .before .before .before .before .before .before in
     count-few (s .args .s .now) (s .pre .1)
 
@@ -57,11 +38,10 @@ returns-3 : tie.Need-returns-3
 unfolding otherZeros
 returns-3 c =
     let m = c .before in
-    let a = m .before .before .before .before .before .before .before in
     rw (
       eq-eqb _ _ (m .before .before .before .before .before .if1 .left),
       passed-is (m .before .before .before .masks-end .ensures) (m .before .before .if2 .left),
-      marks-fail (getD (a .before .args .s .now) marksAt 0) _ (m .no-marks .ensures) (c .if3 .taken),
+      failed-is (m .marks-ok .ensures) (c .if3 .taken),
     )
 
 tail-ok-requires : tie.Need-tail-ok-requires
@@ -71,11 +51,10 @@ returns-4 : tie.Need-returns-4
 unfolding otherZeros
 returns-4 c =
     let m = c .before .before in
-    let a = m .before .before .before .before .before .before .before in
     rw (
       eq-eqb _ _ (m .before .before .before .before .before .if1 .left),
       passed-is (m .before .before .before .masks-end .ensures) (m .before .before .if2 .left),
-      marks-hold (getD (a .before .args .s .now) marksAt 0) _ (m .no-marks .ensures) (c .before .if3 .left),
+      passed-is (m .marks-ok .ensures) (c .before .if3 .left),
     )
     (c .tail-ok .ensures)
 
@@ -88,8 +67,8 @@ zero-fields-ok-spec =
     shared-slice-read-count
     masks-end-requires
     returns-2
-    shared-slice-read-if3
-    no-marks-requires
+    shared-slice-read-marks-ok
+    marks-ok-requires
     returns-3
     tail-ok-requires
     returns-4)

@@ -2,10 +2,8 @@
 use Prim.Native.Nat.{_≤_}
 use borrow.Author.Needs.{needs}
 use lib.ListN.{length}
-use mathlib.Core.Path.{ap}
 use native.Mathlib.Omega.{arith}
 use Rattle.image.specs.Layout.{controlSize}
-use Rattle.mask.specs.Placements.{Placement}
 use Rattle.promise.proofs.Finish.{form-long}
 use Rattle.failure.proofs.Marking.{in-range}
 use Rattle.failure.proofs.GoingOn.{Closing, closing, out-whole, placed-done, room, unplaced-done}
@@ -45,22 +43,14 @@ long h = omega (arith, out-whole (start h .pre .0) (start h .pre .1) (closed-at 
 without-card-requires : tie.Need-without-card-requires
 without-card-requires c κs = in-range (start (c .before) .pre .0)
 
-from-mask-requires : tie.Need-from-mask-requires
-from-mask-requires c κs = search needs
-
 add-requires : tie.Need-add-requires
 add-requires c κs =
-    let t = c .before .before .before in
-    let h = t .before in (
-      closed-at h .closes .counted,
-      (
-        room (start h .pre .0) (start h .pre .1) (closed-at h) (h .before .newest-mask .ensures) (h .has .ensures) (t .if1 .taken),
-        ap (λ (p : Placement). p .byRails) (c .from-mask .ensures),
-      ),
-    )
+    let t = c .before .before in
+    let h = t .before in
+    (closed-at h .closes .counted, room (start h .pre .0) (start h .pre .1) (closed-at h) (h .before .newest-mask .ensures) (h .has .ensures) (t .if1 .taken))
 
 write-requires : tie.Need-write-requires
-write-requires c κs = (long (c .before .before .before .before .before), c .add .ensures .counted)
+write-requires c κs = (long (c .before .before .before .before), c .add .ensures .counted)
 
 same-length : tie.Need-same-length
 same-length c = search needs
@@ -69,12 +59,11 @@ returns : tie.Need-returns
 returns c =
     let w = c .before .before in
     let a = w .before in
-    let f = a .before in
-    let o = f .before .before in
+    let o = a .before .before in
     let t = o .before in
     let h = t .before in
     placed-done (start h .pre .0) (start h .pre .1) (closed-at h) (h .before .newest-mask .ensures) (h .has .ensures) (t .if1 .taken)
-    (o .without-card .ensures) (f .from-mask .ensures) (a .add .ensures) _ (w .write .ensures)
+    (o .without-card .ensures) (a .add .ensures) _ (w .write .ensures)
 
 write-requires-2 : tie.Need-write-requires-2
 write-requires-2 c κs = (long (c .before .before), closed-at (c .before .before) .closes .counted)
@@ -99,7 +88,6 @@ go-on-spec =
     newest-mask-requires
     has-requires
     without-card-requires
-    from-mask-requires
     add-requires
     write-requires
     same-length

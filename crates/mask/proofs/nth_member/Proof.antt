@@ -11,7 +11,7 @@ use Rattle.mask.specs.Masks.{byte, members}
 use Rattle.mask.proofs.LastMember.{left-last, left-length, left-less}
 use Rattle.mask.proofs.Masks.{size-members}
 use Rattle.mask.proofs.Sets.{size-is}
-use Rattle.mask.proofs.SiteLaws.{few-members}
+use Rattle.mask.proofs.MaskSites.{few-members}
 use Rattle.mask.proofs.nth_member.Statement.{statement}
 use Rattle.mask.proofs.nth_member.Tie as tie
 

@@ -4,7 +4,7 @@ use borrow.Author.Needs.{needs}
 use mathlib.Core.Path.{_∙_, ap}
 use native.Mathlib.Omega.{arith}
 use Rattle.mask.specs.Masks.{byte}
-use Rattle.mask.proofs.SiteLaws.{size-le}
+use Rattle.mask.proofs.MaskSites.{size-le}
 use Rattle.queries.specs.declared.Told.the-variants.{Number}
 use Rattle.queries.specs.Queries.{holdersOn}
 use Rattle.queries.proofs.Telling.{cards-told, refused-by, told-by}

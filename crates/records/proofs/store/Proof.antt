@@ -4,7 +4,7 @@ use mathlib.Core.Path.{_∙_, _≡_, sym}
 use Prim.Native.Nat.{_<_}
 use borrow.Author.Needs.{needs}
 use Rattle.cabinet_rules.specs.Delivery.{storable}
-use Rattle.records.proofs.Calls.{newest-usable, rec-fits, store-held, store-new, store-refused, tran-fits, whole}
+use Rattle.records.proofs.Calls.{rec-fits, store-held, store-new, store-refused, tran-fits, whole}
 use Rattle.records.proofs.Values.{with-clear}
 use Rattle.records.proofs.store.Statement.{statement}
 use Rattle.records.proofs.store.Tie as tie
@@ -37,7 +37,7 @@ lay-requires c κs =
     let found = u .look-up .result in
     let ready = u .look-up .ensures .ready (clear e .1) in (
       (whole g (a .tran .0) (a .rec .0) found ready, rec-fits g (a .tran .0) (a .rec .0) found ready, tran-fits g (a .tran .0) (a .rec .0) found ready),
-      (newest-usable g (a .tran .0) (a .rec .0) found ready, ready .newest-is),
+      ready .newest-is,
     )
 
 same-length-2 : tie.Need-same-length-2

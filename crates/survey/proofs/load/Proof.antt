@@ -1,13 +1,12 @@
 -- By the rows that refuse, and else by the sum over the blocks. Assumes nothing.
-use mathlib.Core.Path.{_∙_, _≡_, ap, refl, sym}
+use mathlib.Core.Path.{_∙_, _≡_, refl, sym}
 use Rattle.method.specs.Rules.{load}
-use Rattle.control.specs.ControlBytes.{Part}
 use Rattle.control.specs.Meaning.{meaning}
 use Rattle.cabinet_rules.specs.Images.{controlIn}
 use Rattle.promise.specs.declared.Answer.the-variants.{Loaded}
 use Rattle.promise.proofs.Finish.{by-form, by-look, by-rules, given, given-whole}
 use Rattle.promise.specs.Rows.{cardRows}
-use Rattle.promise.proofs.SharedRows.{card-accepted}
+use Rattle.promise.proofs.SharedRows.{card-accepted, card-given}
 use Rattle.survey.proofs.Loads.{load-plan, load-rows}
 use borrow.Author.Needs.{needs}
 use Rattle.survey.proofs.load.Statement.{statement}
@@ -33,7 +32,7 @@ returns-2 c =
     let a = r .before .before .args in
     let g = a .image .now in
     by-rules (load (a .card .0)) refl g (given (r .read .ensures) (e .if1 .left) .formed) (m .card-refusal .result)
-    (m .card-refusal .ensures ∙ ap (λ (p : Part). cardRows p (a .card .0)) (r .read .ensures .good (e .if1 .left) .means) ∙ load-rows g (a .card .0)) (c .if2 .taken)
+    (m .card-refusal .ensures ∙ card-given (given (r .read .ensures) (e .if1 .left)) (a .card .0) ∙ load-rows g (a .card .0)) (c .if2 .taken)
 
 load-table-requires : tie.Need-load-table-requires
 load-table-requires c κs =
@@ -52,7 +51,7 @@ returns-3 c =
     let a = r .before .before .args in
     let g = a .image .now in
     let ok : 0 ≡ cardRows (controlIn g) (a .card .0) = sym (c .before .if2 .left) ∙ m .card-refusal .ensures
-    ∙ ap (λ (p : Part). cardRows p (a .card .0)) (r .read .ensures .good (e .if1 .left) .means) in
+    ∙ card-given (given (r .read .ensures) (e .if1 .left)) (a .card .0) in
     by-look (load (a .card .0)) refl g (given (r .read .ensures) (e .if1 .left) .formed) (Loaded (c .load-table .result)) (ok ∙ load-rows g (a .card .0))
     (load-plan g (a .card .0) (card-accepted (controlIn g) (a .card .0) ok .2) (c .load-table .result) (c .load-table .ensures))
 

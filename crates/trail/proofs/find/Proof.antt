@@ -1,14 +1,10 @@
 -- After i turns the holders among the sites of the first i placements are found. Assumes nothing.
-use mathlib.Core.List.{_++_}
-use mathlib.Core.Path.{_∙_, _≡_, ap, refl, subst, sym}
+use mathlib.Core.Path.{_∙_, _≡_, ap, refl, subst}
 use Prim.Native.Nat.{_-_, _≤_}
 use native.Mathlib.Omega.{arith}
 use borrow.Author.Needs.{needs}
-use Rattle.lists.specs.Tests.{keepIf}
-use Rattle.mask.specs.Masks.{byte}
-use Rattle.mask.specs.Placements.{Placement, Usable, sitesOf}
 use Rattle.promise.proofs.Finish.{given-whole}
-use Rattle.trail.specs.Trail.{Lists, holdsAt}
+use Rattle.trail.specs.Trail.{Lists}
 use Rattle.trail.proofs.Holding.{first-all, first-more, first-none, firstHolders, usable-at}
 use Rattle.trail.proofs.Listed.{list-none}
 use Rattle.trail.proofs.find.Statement.{statement}
@@ -28,16 +24,11 @@ loop-holds c =
     let a = c .before .before .args in
     (omega arith, subst (Lists record { first = record { 0 = 0 }; cards = 0 }) (first-none (a .image .now) (a .block .0)) (list-none _ refl refl))
 
-placement-at-requires : tie.Need-placement-at-requires Inv-loop μ-loop
-placement-at-requires c κs =
-    let s = c .before .before .before .before in
-    (omega (arith, given-whole (s .pre .0)), omega (arith, s .pre .0 .is .counted .few))
-
 push-sites-requires : tie.Need-push-sites-requires Inv-loop μ-loop
 push-sites-requires c κs =
-    let s = c .before .before .before .before .before in
+    let s = c .before .before .before .before in
     let given = s .pre .0 in
-    (given-whole given, subst Usable (sym (c .placement-at .ensures)) (usable-at (s .args .k) (s .args .image .now) given (c .before .before .loop .i) (omega arith)), s .pre .1)
+    ((given-whole given, omega (arith, given .is .counted .few), s .pre .1), usable-at (s .args .k) (s .args .image .now) given (c .before .loop .i) (omega arith))
 
 add-i : tie.Need-add-i Inv-loop μ-loop
 add-i c = search needs
@@ -47,15 +38,13 @@ loop-less c = search needs
 
 loop-again : tie.Need-loop-again Inv-loop μ-loop
 loop-again c =
-    let l = c .before .before .before .loop in
-    let s = c .before .before .before .before .before .before in
+    let l = c .before .before .loop in
+    let s = c .before .before .before .before .before in
     let a = s .args in
     let g = a .image .now in
     let b = a .block .0 in (
       omega arith,
-      subst (Lists (c .push-sites .result))
-          (ap (λ (p : Placement). firstHolders g b (l .i) ++ keepIf (holdsAt g (byte (a .k .working)) b) (sitesOf p b)) (c .before .placement-at .ensures)
-          ∙ first-more (a .k) g (s .pre .0) b (l .i) (s .pre .1))
+      subst (Lists (c .push-sites .result)) (first-more (a .k) g (s .pre .0) b (l .i) (s .pre .1))
           (c .push-sites .ensures (firstHolders g b (l .i)) (l .inv .1)),
     )
 
@@ -75,7 +64,6 @@ find-spec =
     μ-loop
     cast-count
     loop-holds
-    placement-at-requires
     push-sites-requires
     add-i
     loop-less

@@ -1,4 +1,4 @@
--- One mask more, at the count, with its mark. Assumes nothing.
+-- One mask more, at the count, with its mark for rails. Assumes nothing.
 use Rattle.control.proofs.Changes.{add-is}
 use borrow.Author.Needs.{needs}
 use Rattle.control.proofs.Control.add.Statement.{statement}
@@ -10,6 +10,9 @@ cast-i c = search needs
 element-write-self : tie.Need-element-write-self
 element-write-self c = search needs
 
+clean-marks-requires : tie.Need-clean-marks-requires
+clean-marks-requires c κs = search needs
+
 shr-self : tie.Need-shr-self
 shr-self c = search needs
 
@@ -17,7 +20,10 @@ add-self : tie.Need-add-self
 add-self c = search needs
 
 returns : tie.Need-returns
-returns c = add-is (c .args .t1) (c .pre .0) (c .args .placement) (c .pre .1 .1) (search needs) (search needs)
+returns c =
+    let s = c .before in
+    add-is (s .args .t1) (s .pre .0) (s .args .mask) (c .clean-marks .result) (search needs) (s .pre .1) (search needs) (c .clean-marks .ensures)
 
 pub add-spec : {M : Type 1} → statement M
-add-spec = tie.close (tie.spec cast-i element-write-self shr-self add-self returns)
+add-spec =
+    tie.close (tie.spec cast-i element-write-self clean-marks-requires shr-self add-self returns)

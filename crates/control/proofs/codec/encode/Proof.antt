@@ -76,8 +76,8 @@ array-write-bytes-3 c = search needs
 array-write-bytes-4 : tie.Need-array-write-bytes-4 Inv-loop μ-loop Inv-loop2 μ-loop2
 array-write-bytes-4 c = search needs
 
-marks-byte-requires : tie.Need-marks-byte-requires Inv-loop μ-loop Inv-loop2 μ-loop2
-marks-byte-requires c κs = c .before .before .before .pre .few
+clean-marks-requires : tie.Need-clean-marks-requires Inv-loop μ-loop Inv-loop2 μ-loop2
+clean-marks-requires c κs = c .before .before .before .pre .few
 
 array-write-bytes-5 : tie.Need-array-write-bytes-5 Inv-loop μ-loop Inv-loop2 μ-loop2
 array-write-bytes-5 c = search needs
@@ -90,7 +90,7 @@ loop2-holds c =
     let masks = subst (λ (m : ℕ). Written (controlByte (meaning (s .args .t1))) m (l .bytes)) all (l .inv .1) in
     let working = one-written _ workingAt failedAt (l .bytes) _ masks (omega arith) (omega arith) (byte-working (s .args .t1) (s .pre) (search needs)) in
     let failed = one-written _ failedAt marksAt _ _ working (omega arith) (omega arith) (byte-failed (s .args .t1) (s .pre) (search needs)) in
-    let marks = c .marks-byte .ensures ∙ byte-marks (s .args .t1) (s .pre) (search needs) in
+    let marks = c .clean-marks .ensures ∙ byte-marks (s .args .t1) (s .pre) (search needs) in
     (search needs, one-written _ marksAt homesAt _ _ failed (omega arith) (omega arith) marks)
 
 element-copy-out-home-byte : tie.Need-element-copy-out-home-byte Inv-loop μ-loop Inv-loop2 μ-loop2
@@ -146,7 +146,7 @@ encode-spec =
     loop-again
     array-write-bytes-3
     array-write-bytes-4
-    marks-byte-requires
+    clean-marks-requires
     array-write-bytes-5
     loop2-holds
     element-copy-out-home-byte

@@ -6,7 +6,7 @@ use lib.ListN.{getD}
 use borrow.Author.Tests.{lt-ltb}
 use Rattle.image.specs.Layout.{tranBound}
 use Rattle.method.specs.Slots.{isSome}
-use Rattle.control.specs.ControlBytes.{homeAt}
+use Rattle.control.specs.ControlBytes.{homeAt, tailAt}
 use Rattle.control.proofs.Fields.{shown-home}
 use Rattle.control.proofs.Struct.{open-bit}
 use borrow.Author.Needs.{needs}
@@ -31,7 +31,7 @@ returns c =
     let t : ℕ = s .args .tran .0 in
     let l = s .args .s .now in
     rw (lt-ltb 0 t (s .pre .1 .0), lt-ltb t tranBound (s .pre .1 .1)) (open-bit (getD l (homeAt t) 0))
-    ∙ sym (ap (λ (o : Option ℕ). isSome o) (shown-home (λ n. getD l n 0) t))
+    ∙ sym (ap (λ (o : Option ℕ). isSome o) (shown-home (λ n. getD l n 0) (tailAt l) t))
 
 pub is-open-at-spec : {M : Type 1} → statement M
 is-open-at-spec =

@@ -10,7 +10,7 @@ use Rattle.mask.specs.Masks.{byte, members, size}
 use Rattle.mask.specs.Placements.{memberAt}
 use Rattle.mask.proofs.Masks.{has-card, size-members}
 use Rattle.mask.proofs.Sets.{size-is}
-use Rattle.mask.proofs.SiteLaws.{member-at}
+use Rattle.mask.proofs.MaskSites.{member-at}
 use Rattle.mask.proofs.Placement.member_at.Statement.{statement}
 use Rattle.mask.proofs.Placement.member_at.Tie as tie
 use Rattle.mask.proofs.Placement.member_at.Reads as reads

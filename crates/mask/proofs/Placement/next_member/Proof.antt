@@ -10,7 +10,7 @@ use Rattle.image.specs.Layout.{cardCount}
 use Rattle.mask.specs.Masks.{byte, members}
 use Rattle.mask.specs.Placements.{memberAt}
 use Rattle.mask.proofs.Masks.{has-card, size-members}
-use Rattle.mask.proofs.SiteLaws.{bit-some, member-at, next-found}
+use Rattle.mask.proofs.MaskSites.{bit-some, member-at, next-found}
 use Rattle.mask.proofs.Placement.next_member.Statement.{statement}
 use Rattle.mask.proofs.Placement.next_member.Tie as tie
 

@@ -6,7 +6,7 @@ use native.Mathlib.Omega.{arith}
 use lib.Count.{leading-le}
 use borrow.Author.Needs.{needs}
 use borrow.Author.Tests.{eq-eqb, ne-eqb}
-use Rattle.mask.proofs.SiteLaws.{sites-found}
+use Rattle.mask.proofs.MaskSites.{sites-found}
 use Rattle.mask.proofs.Placement.second_site.Statement.{statement}
 use Rattle.mask.proofs.Placement.second_site.Tie as tie
 

@@ -7,18 +7,18 @@ use lib.Seq.{drop-drop}
 use borrow.Author.Needs.{needs}
 use Rattle.image.specs.Layout.{blockCount, cardCount}
 use Rattle.mask.specs.Masks.{byte, members}
-use Rattle.mask.specs.Placements.{isSite, meant}
+use Rattle.mask.specs.Placements.{isSite, meant, placed}
 use Rattle.mask.specs.SiteMasks.{MasksBelow}
 use Rattle.mask.proofs.FirstMember.{no-members, some-members}
 use Rattle.mask.proofs.Masks.{size-members}
-use Rattle.mask.proofs.SiteLaws.{few-members}
+use Rattle.mask.proofs.MaskSites.{few-members}
 use Rattle.mask.proofs.SiteMasks.{is-member, masks-more, masks-round}
 use Rattle.mask.proofs.site_masks.fill.Statement.{statement}
 use Rattle.mask.proofs.site_masks.fill.Tie as tie
 
 abbrev Inv-loop : tie.InvT-loop
 Inv-loop masks₀ placement count₀ left₀ masks count left = (count ≤ length (members (byte (placement .mask)))) × (left < 256) × (length masks ≡ blockCount)
-    × (members (byte left) ≡ drop count (members (byte (placement .mask)))) × MasksBelow (isSite (meant placement)) masks count
+    × (members (byte left) ≡ drop count (members (byte (placement .mask)))) × MasksBelow (isSite (placed (meant placement))) masks count
 
 abbrev μ-loop : tie.MeasureT-loop
 μ-loop masks₀ placement count₀ left₀ masks count left = cardCount - count
@@ -62,7 +62,7 @@ loop-again c =
       search needs,
       length-set (l .masks) (l .count) (s .sites-from .result) ∙ l .inv .2,
       c .without-first .ensures .0 ∙ ap (drop 1) (l .inv .3) ∙ drop-drop 1 (l .count) (members (byte (p .mask))),
-      masks-more (isSite (meant p)) (l .masks) (l .count) (s .sites-from .result) (omega (arith, h, l .inv .2)) (l .inv .4) (s .sites-from .ensures (l .count) (l .inv .3)),
+      masks-more (isSite (placed (meant p))) (l .masks) (l .count) (s .sites-from .result) (omega (arith, h, l .inv .2)) (l .inv .4) (s .sites-from .ensures (l .count) (l .inv .3)),
     )
 
 -- Once none is left, the round is of all members.

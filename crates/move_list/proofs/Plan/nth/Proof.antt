@@ -7,7 +7,7 @@ use native.Mathlib.Omega.{arith}
 use Rattle.image.specs.Layout.{blockCount}
 use Rattle.mask.specs.Masks.{byte}
 use Rattle.mask.proofs.Masks.{size-members}
-use Rattle.mask.proofs.SiteLaws.{size-le}
+use Rattle.mask.proofs.MaskSites.{size-le}
 use Rattle.move_list.specs.declared.Move.{Move}
 use Rattle.move_list.proofs.MovePlans.{below-next, movesBelow, move-beyond, move-here, none-below}
 use Rattle.move_list.proofs.Plan.nth.Statement.{statement}

@@ -1,7 +1,6 @@
 -- The masks are those of the newest sites, and what is found by them is what the plan has. Assumes nothing.
 use mathlib.Core.Path.{refl}
 use borrow.Author.Needs.{needs}
-use Rattle.reorganise.proofs.Looks.{newest-usable}
 use Rattle.move_list.proofs.finding.find.Statement.{statement}
 use Rattle.move_list.proofs.finding.find.Tie as tie
 
@@ -9,9 +8,7 @@ slice-aggregate-newest-masks : tie.Need-slice-aggregate-newest-masks
 slice-aggregate-newest-masks c = search needs
 
 newest-masks-requires : tie.Need-newest-masks-requires
-newest-masks-requires c κs =
-    let s = c .before .before in
-    (refl, (s .pre .is .counted, newest-usable (s .args .k) (s .args .image .now) (s .pre)))
+newest-masks-requires c κs = (refl, c .before .before .pre)
 
 slice-aggregate-find-by : tie.Need-slice-aggregate-find-by
 slice-aggregate-find-by c = search needs

@@ -10,7 +10,7 @@ use Rattle.lists.specs.Tests.{anyBelow}
 use Rattle.lists.proofs.Counts.{any-more}
 use Rattle.image.specs.Layout.{blockCount, cardCount}
 use Rattle.mask.specs.Masks.{AreMembers, byte}
-use Rattle.mask.proofs.SiteLaws.{size-le}
+use Rattle.mask.proofs.MaskSites.{size-le}
 use Rattle.mask.specs.SiteMasks.{MasksBelow}
 use Rattle.mask.proofs.SiteMasks.{masks-more, place-counts, place-fits, place-next, sites-at}
 use Rattle.promise.proofs.Finish.{given-whole}

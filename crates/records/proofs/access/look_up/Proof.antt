@@ -89,18 +89,15 @@ returns-3 c =
 at-end : (c : tie.After-struct-known2) → let f = found (c .before .before .before .before .before) in Given (f .read .result .control) (f .before .before .args .image .now)
 at-end c = is-given (c .before .before .before .before .before)
 
-sub-placement-at : tie.Need-sub-placement-at
-sub-placement-at c = omega (arith, at-end c .is .counted .some)
+sub-t11 : tie.Need-sub-t11
+sub-t11 c = omega (arith, at-end c .is .counted .some)
 
-cast-placement-at : tie.Need-cast-placement-at
-cast-placement-at c = search needs
-
-placement-at-requires : tie.Need-placement-at-requires
-placement-at-requires c κs = let n = at-end c .is .counted in (omega (arith, given-whole (at-end c)), omega (arith, n .few, n .some))
+cast-t12 : tie.Need-cast-t12
+cast-t12 c = search needs
 
 returns-4 : tie.Need-returns-4
 returns-4 c =
-    let t = c .before .before in
+    let t = c .before in
     let o = t .before in
     let h = o .before in
     let b = h .before in
@@ -110,7 +107,7 @@ returns-4 c =
     let f = e .before .before in
     let a = f .before .before .args in
     ready-up (a .image .now) (a .tran .0) (a .rec .0) (f .read .result) (f .read .ensures) (e .if1 .left) _ (y .early-rows .ensures) (x .if2 .left) _
-    (sym (o .locked-out .ensures) ∙ t .if3 .left) refl (c .placement-at .ensures) (lists-at (a .image .now) (h .find .result) (b .block-of .ensures) (h .find .ensures))
+    (sym (o .locked-out .ensures) ∙ t .if3 .left) refl refl (lists-at (a .image .now) (h .find .result) (b .block-of .ensures) (h .find .ensures))
 
 pub look-up-spec : {M : Type 1} → statement M
 look-up-spec =
@@ -127,7 +124,6 @@ look-up-spec =
     locked-out-requires
     refused-requires-3
     returns-3
-    sub-placement-at
-    cast-placement-at
-    placement-at-requires
+    sub-t11
+    cast-t12
     returns-4)

@@ -1,82 +1,73 @@
--- Where the new block is put on each site behind the first n, it is put on each site. Assumes nothing.
-use mathlib.Core.List.{List}
-use mathlib.Core.Path.{_∙_, _≡_, ap, refl, subst, sym}
-use Prim.Native.Nat.{ℕ, _+_, _-_, _/_, _≤_}
-use native.Mathlib.Nat.{add-zero}
+-- Where the new block is put on each site that is left, it is put on each site. Assumes nothing.
+use mathlib.Core.Path.{_∙_, _≡_, refl, subst, sym}
+use Prim.Native.Nat.{ℕ, _/_, _<_}
 use native.Mathlib.Omega.{arith}
-use lib.ListN.{drop, drop-of-length-le, getD, length, length-drop}
-use lib.Seq.{drop-drop, getD-drop}
+use lib.ListN.{length}
 use borrow.Author.Needs.{needs}
 use Rattle.image.specs.Layout.{slotCount}
-use Rattle.mask.specs.Placements.{AreSites, meant, siteList}
-use Rattle.mask.proofs.SiteLaws.{listed-at, listed-card, site-count}
+use Rattle.mask.specs.Masks.{AreMembers, byte, members}
+use Rattle.mask.specs.Placements.{isSite}
+use Rattle.mask.proofs.FirstMember.{no-members, one-fewer, some-members}
 use Rattle.slot.specs.Words.{stateOf}
+use Rattle.trail.specs.Trail.{shownAt}
 use Rattle.promise.proofs.PutEach.{put-end, put-turn, putEach}
 use Rattle.records.proofs.Locking.{lay-laid, newBlock}
 use Rattle.records.proofs.slots.lay.Statement.{statement}
 use Rattle.records.proofs.slots.lay.Tie as tie
 
 abbrev Inv-loop : tie.InvT-loop
-Inv-loop image₀ tran rec pending sites count n₀ image n =
+Inv-loop image₀ newest tran rec pending left₀ image left =
     let b = rec .0 / slotCount in
     let x = newBlock (tran .0) (rec .0) (stateOf pending) .0 in
-    (n ≤ count) × (length image ≡ length image₀) × (putEach b x (drop n (siteList sites)) image ≡ putEach b x (siteList sites) image₀)
+    (left < 256) × (length image ≡ length image₀) × (putEach b x (members (byte left)) image ≡ putEach b x (members (byte left₀)) image₀)
 
 abbrev μ-loop : tie.MeasureT-loop
-μ-loop image₀ tran rec pending sites count n₀ image n = count - n
+μ-loop image₀ newest tran rec pending left₀ image left = length (members (byte left))
 
 block-of-requires : tie.Need-block-of-requires Inv-loop μ-loop
 block-of-requires c κs = search needs
 
-sites-requires : tie.Need-sites-requires Inv-loop μ-loop
-sites-requires c κs = let s = c .before .before in (s .pre .1 .0, omega (arith, c .block-of .ensures, s .pre .0 .1))
-
-cast-count : tie.Need-cast-count Inv-loop μ-loop
-cast-count c = search needs
+mask-at-requires : tie.Need-mask-at-requires Inv-loop μ-loop
+mask-at-requires c κs =
+    let s = c .before .before .before in
+    ((s .pre .0 .0, s .pre .1 .there, omega (arith, c .block-of .ensures, s .pre .0 .1)), s .pre .1 .usable)
 
 loop-holds : tie.Need-loop-holds Inv-loop μ-loop
-loop-holds c = (omega arith, refl, refl)
+loop-holds c = (search needs, refl, refl)
 
-element-copy-out-lay-on : tie.Need-element-copy-out-lay-on Inv-loop μ-loop
-element-copy-out-lay-on c =
-    let i = c .before in
-    let t = i .before .before in
-    let o = t .before in
-    omega (arith, i .loop-test .taken, t .sites .ensures .counted, site-count (meant (o .before .before .args .newest)) (o .block-of .result .0))
+-- Where the loop goes on, some site is left.
+some : (c : tie.In-loop Inv-loop μ-loop) → 0 < length (members (byte (c .before .loop .left)))
+some c = let l = c .before .loop in some-members (l .left) (l .inv .0) (c .loop-test .taken)
+
+first-member-requires : tie.Need-first-member-requires Inv-loop μ-loop
+first-member-requires c κs = some c
 
 lay-on-requires : tie.Need-lay-on-requires Inv-loop μ-loop
 lay-on-requires c κs =
-    let i = c .before .before in
-    let l = i .before .loop in
-    let t = i .before .before in
-    let s = t .before .before .before in
-    (search needs, listed-card (t .sites .ensures) (l .n) (i .loop-test .taken) record { 0 = 0 }, s .pre .0 .1, s .pre .0 .2)
+    let f = c .before in
+    let s = f .before .before .before .before .before .before .before in
+    (search needs, f .first-member .ensures .1, s .pre .0 .1, s .pre .0 .2)
 
-add-n : tie.Need-add-n Inv-loop μ-loop
-add-n c = search needs
+without-first-requires : tie.Need-without-first-requires Inv-loop μ-loop
+without-first-requires c κs = some (c .before .before .before .before .before)
 
 loop-less : tie.Need-loop-less Inv-loop μ-loop
-loop-less c = search needs
+loop-less c =
+    let i = c .before .before .before .before .before .before in
+    let l = i .before .loop in
+    one-fewer (l .left) (c .without-first .result) (l .inv .0) (i .loop-test .taken) (c .without-first .ensures .0)
 
 loop-again : tie.Need-loop-again Inv-loop μ-loop
 loop-again c =
-    let k = c .before .before in
-    let i = c .before .before .before .before .before in
+    let o = c .before .before .before in
+    let f = o .before .before in
+    let i = f .before in
     let l = i .before .loop in
-    let t = i .before .before in
-    let s = t .before .before .before in
-    let a = s .args in
-    let are = t .sites .ensures in
-    let list : List ℕ = siteList (t .sites .result) in
-    let long : length list ≡ t .sites .result .count = ap length (are .listed) ∙ sym (are .counted) in (
-      omega (arith, i .loop-test .taken),
+    let a = i .before .before .before .before .before .before .args in (
       search needs,
-      put-turn (a .rec .0 / slotCount) (newBlock (a .tran .0) (a .rec .0) (stateOf (a .pending)) .0) (l .image) _ (drop (l .n) list)
-          (omega (arith, length-drop (l .n) list, long, i .loop-test .taken)) (drop (l .n + 1) list) (sym (drop-drop 1 (l .n) list)) _
-          (listed-at are (l .n) (i .loop-test .taken) record { 0 = 0 } ∙ ap (λ (z : List ℕ). getD z (l .n) 0) (sym (are .listed))
-          ∙ sym (getD-drop (l .n) list 0 0 ∙ ap (λ (j : ℕ). getD list j 0) (add-zero (l .n))))
-          (k .lay-on .ensures)
-          ∙ l .inv .2,
+      search needs,
+      put-turn (a .rec .0 / slotCount) (newBlock (a .tran .0) (a .rec .0) (stateOf (a .pending)) .0) (l .image) _ (members (byte (l .left))) (some i) _
+          (c .without-first .ensures .0) _ (f .first-member .ensures .0) (o .lay-on .ensures) ∙ l .inv .2,
     )
 
 same-length : tie.Need-same-length Inv-loop μ-loop
@@ -87,16 +78,14 @@ returns c =
     let l = c .before .loop in
     let t = c .before .before in
     let o = t .before in
-    let s = o .before .before in
+    let s = o .before .before .before in
     let a = s .args in
     let v = stateOf (a .pending) in
-    let are = t .sites .ensures in
-    let list : List ℕ = siteList (t .sites .result) in
-    let long : length list ≡ t .sites .result .count = ap length (are .listed) ∙ sym (are .counted) in
-    sym (put-end (a .rec .0 / slotCount) (newBlock (a .tran .0) (a .rec .0) v .0) (l .image) (drop (l .n) list) (drop-of-length-le list {i = l .n} (omega (arith, long, c .loop-test .left))))
+    let m : ℕ = t .mask-at .result in
+    sym (put-end (a .rec .0 / slotCount) (newBlock (a .tran .0) (a .rec .0) v .0) (l .image) (members (byte (l .left))) (no-members (l .left) (c .loop-test .left)))
     ∙ l .inv .2
-    ∙ lay-laid (a .image .now) (a .tran .0) (a .rec .0) v (meant (a .newest)) (s .pre .0 .0) (s .pre .0 .1) (s .pre .1 .1) (t .sites .result)
-    (subst (λ (n : ℕ). AreSites (t .sites .result) (meant (a .newest)) n) (o .block-of .ensures) are)
+    ∙ lay-laid (a .image .now) (a .tran .0) (a .rec .0) v (shownAt (a .image .now) (a .newest)) (s .pre .0 .0) (s .pre .0 .1) (s .pre .1 .is) m
+    (subst (λ (n : ℕ). AreMembers m (isSite (shownAt (a .image .now) (a .newest)) n)) (o .block-of .ensures) (t .mask-at .ensures))
 
 pub lay-spec : {M : Type 1} → statement M
 lay-spec =
@@ -105,12 +94,11 @@ lay-spec =
     Inv-loop
     μ-loop
     block-of-requires
-    sites-requires
-    cast-count
+    mask-at-requires
     loop-holds
-    element-copy-out-lay-on
+    first-member-requires
     lay-on-requires
-    add-n
+    without-first-requires
     loop-less
     loop-again
     same-length

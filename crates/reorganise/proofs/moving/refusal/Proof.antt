@@ -5,14 +5,13 @@ use borrow.Rule.Slice.PartMut.{midOf}
 use lib.ListN.{length}
 use mathlib.Core.Bool.{Bool, not}
 use mathlib.Core.List.{List}
-use mathlib.Core.Path.{_∙_, _≡_, ap, refl}
+use mathlib.Core.Path.{_∙_, _≡_, refl}
 use native.Mathlib.Omega.{arith}
 use Rattle.image.specs.Layout.{blockSize}
 use Rattle.slot.specs.Blocks.{someLocked, ofList}
 use Rattle.method.specs.Rules.{move, row}
-use Rattle.control.specs.ControlBytes.{Part}
+use Rattle.promise.proofs.SharedRows.{card-given}
 use Rattle.promise.specs.Given.{rowsOn}
-use Rattle.promise.specs.Rows.{cardRows}
 use Rattle.reorganise.proofs.MoveRows.{copy-card, copy-end, copy-rows, refused-block, refused-card}
 use borrow.Author.Needs.{needs}
 use Rattle.reorganise.proofs.moving.refusal.Statement.{statement}
@@ -33,7 +32,7 @@ returns-2 c =
     let s = r .before .before .before .before in
     let a = s .args in
     refused-card (a .image .now) (a .card .0) (a .block .0) (r .card-refusal .result) (r .before .if1 .left)
-    (r .card-refusal .ensures ∙ ap (λ (p : Part). cardRows p (a .card .0)) (s .pre .is .means)) (c .if2 .taken)
+    (r .card-refusal .ensures ∙ card-given (s .pre) (a .card .0)) (c .if2 .taken)
 
 block-address-requires : tie.Need-block-address-requires
 block-address-requires c κs =

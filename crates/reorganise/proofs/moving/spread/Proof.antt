@@ -14,13 +14,12 @@ use Rattle.image.specs.Layout.{blockCount, blockSize}
 use Rattle.image.specs.Parts.{Whole, putBlock, zeros}
 use Rattle.mask.specs.Masks.{Byte, byte, hasCard, members, withoutCard}
 use Rattle.mask.proofs.Masks.{has-card, has-without}
-use Rattle.mask.proofs.SiteLaws.{few-members}
+use Rattle.mask.proofs.MaskSites.{few-members}
 use Rattle.mask.proofs.FirstMember.{first-in, no-members, one-fewer, some-members}
 use Rattle.promise.proofs.Finish.{given-whole}
 use Rattle.promise.proofs.PutEach.{put-end, putEach}
 use Rattle.cabinet_rules.specs.Images.{Image}
 use Rattle.trail.specs.Trail.{holdsAt}
-use Rattle.reorganise.proofs.Looks.{newest-usable}
 use Rattle.reorganise.proofs.MoveRows.{accepted}
 use Rattle.reorganise.proofs.MoveWrites.{count-le, count-turn, fill-turn, lacking, still-holds}
 use Rattle.reorganise.proofs.Moves.{move-done}
@@ -41,15 +40,15 @@ abbrev μ-loop : tie.MeasureT-loop
 
 newest-sites-requires : tie.Need-newest-sites-requires Inv-loop μ-loop
 newest-sites-requires c κs =
-    let s = c .before in
-    (s .pre .0 .is .counted, (newest-usable (s .args .k) (s .args .image .now) (s .pre .0), accepted (s .args .image .now) (s .args .card .0) (s .args .block .0) (s .pre .1) .1))
+    let s = c .before .before in
+    (s .pre .0, accepted (s .args .image .now) (s .args .card .0) (s .args .block .0) (s .pre .1) .1)
 
 has-requires : tie.Need-has-requires Inv-loop μ-loop
 has-requires c κs = search needs
 
 get-block-requires : tie.Need-get-block-requires Inv-loop μ-loop
 get-block-requires c κs =
-    let s = c .before .before .before .before in
+    let s = c .before .before .before .before .before in
     let r = accepted (s .args .image .now) (s .args .card .0) (s .args .block .0) (s .pre .1) in
     (given-whole (s .pre .0), r .0, r .1)
 
@@ -59,10 +58,10 @@ loop-holds c = (search needs, refl, search needs, refl, (λ d h. refl), omega ar
 -- The image is whole, and the block is one.
 module _ (l : tie.At-loop Inv-loop μ-loop) where
   whole : Whole (l .loop .image)
-  whole = l .loop .inv .1 ∙ given-whole (l .before .before .before .before .before .before .pre .0)
+  whole = l .loop .inv .1 ∙ given-whole (l .before .before .before .before .before .before .before .pre .0)
 
-  in-range : l .before .before .before .before .before .before .args .block .0 < blockCount
-  in-range = let s = l .before .before .before .before .before .before in accepted (s .args .image .now) (s .args .card .0) (s .args .block .0) (s .pre .1) .1
+  in-range : l .before .before .before .before .before .before .before .args .block .0 < blockCount
+  in-range = let s = l .before .before .before .before .before .before .before in accepted (s .args .image .now) (s .args .card .0) (s .args .block .0) (s .pre .1) .1
 
 -- Where the loop goes on, some site is left.
 some : (c : tie.In-loop Inv-loop μ-loop) → 0 < length (members (byte (c .before .loop .left)))
@@ -82,7 +81,7 @@ fill-requires c κs =
     (whole (i .before), c .before .before .before .first-member .ensures .1, in-range (i .before))
 
 -- What the first of those that are left holds is what it held before the loop.
-looked : (h : tie.After-holds Inv-loop μ-loop) → let l = h .before .before .before .before in let s = l .before .before .before .before .before .before in
+looked : (h : tie.After-holds Inv-loop μ-loop) → let l = h .before .before .before .before in let s = l .before .before .before .before .before .before .before in
     h .holds .result ≡ holdsAt (s .args .image .now) (byte (s .args .k .working)) (s .args .block .0) (h .before .before .first-member .result .0)
 looked h =
     let f = h .before .before in
@@ -96,7 +95,7 @@ add-copies c =
     let h = c .before .before .before .before in
     let i = c .before .before .before .before .before .before .before in
     let l = i .before .loop in
-    let s = i .before .before .before .before .before .before .before in
+    let s = i .before .before .before .before .before .before .before .before in
     let g = holdsAt (s .args .image .now) (byte (s .args .k .working)) (s .args .block .0) in
     let all : List ℕ = members (byte (l .left)) in
     let m : Byte = byte (i .before .before .before .before .before .newest-sites .result) in
@@ -120,7 +119,7 @@ loop-again c =
     let f = h .before .before in
     let i = f .before in
     let l = i .before .loop in
-    let s = i .before .before .before .before .before .before .before in
+    let s = i .before .before .before .before .before .before .before .before in
     let a = s .args in
     let b : ℕ = a .block .0 in
     let x : ℕ = f .first-member .result .0 in
@@ -146,7 +145,7 @@ loop-again c =
 fill-requires-2 : tie.Need-fill-requires-2 Inv-loop μ-loop
 fill-requires-2 c κs =
     let l = c .before .before in
-    let s = l .before .before .before .before .before .before in
+    let s = l .before .before .before .before .before .before .before in
     (whole l, accepted (s .args .image .now) (s .args .card .0) (s .args .block .0) (s .pre .1) .0, in-range l)
 
 same-length : tie.Need-same-length Inv-loop μ-loop
@@ -160,7 +159,7 @@ returns c =
     let gb = l .before in
     let st = gb .before .before in
     let n = st .before in
-    let s = n .before .before in
+    let s = n .before .before .before in
     let a = s .args in
     let g = holdsAt (a .image .now) (byte (a .k .working)) (a .block .0) in
     let none = no-members (l .loop .left) (e .loop-test .left) in

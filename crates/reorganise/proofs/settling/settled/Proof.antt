@@ -1,7 +1,6 @@
 -- The masks are those of the newest sites, and the pass by them decides. Assumes nothing.
 use mathlib.Core.Path.{refl}
 use borrow.Author.Needs.{needs}
-use Rattle.reorganise.proofs.Looks.{newest-usable}
 use Rattle.reorganise.proofs.settling.settled.Statement.{statement}
 use Rattle.reorganise.proofs.settling.settled.Tie as tie
 
@@ -9,9 +8,7 @@ slice-aggregate-newest-masks : tie.Need-slice-aggregate-newest-masks
 slice-aggregate-newest-masks c = search needs
 
 newest-masks-requires : tie.Need-newest-masks-requires
-newest-masks-requires c κs =
-    let s = c .before .before in
-    (refl, (s .pre .is .counted, newest-usable (s .args .k) (s .args .image .now) (s .pre)))
+newest-masks-requires c κs = (refl, c .before .before .pre)
 
 slice-aggregate-settled-by : tie.Need-slice-aggregate-settled-by
 slice-aggregate-settled-by c = search needs

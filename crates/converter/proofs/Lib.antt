@@ -1,0 +1,2 @@
+pub mod OlderForm
+pub mod Conversion
