@@ -1,7 +1,8 @@
 #!/bin/sh
 # before.sh [COMMIT]: prints a table of each call by the archive of COMMIT ("before") and by that of this tree
 # ("after"): times, instructions and ratios. Without valgrind the instructions are left out. The first run for a commit
-# proves its tree. COMMIT has the calls that this tree has, and both answer alike.
+# proves its tree. COMMIT has the fifteen calls and the move list, and both answer alike. One from before tables gets
+# images of its own length, in a state with a table those of the same store without it, and no figures of calls it lacks.
 set -eu
 cd "$(dirname "$0")/.."
 . bench/earlier.sh

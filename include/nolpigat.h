@@ -1,21 +1,23 @@
 /* The replicated record store for callers in C99 and C++: link with libnolpigat.a (x86-64).
  *
- * The store lies in an image of 21,024 bytes that the caller lends with each call. It keeps 512
+ * The store lies in an image of 21,216 bytes that the caller lends with each call. It keeps 512
  * records of 16 bits, each on two of up to eight cards. docs/RULES.md has the rules; for every image
  * length and contents, answer and image after a call are proved to be those of the rules.
  *
  * The caller's part:
  * - lend at least the length that is passed; no pointer may be null, even with length 0;
- * - let the bytes of a command and those of a list lie outside the image;
+ * - let the bytes of a command, of a list and of a table's lines lie outside the image, and the two
+ *   images of a conversion apart from each other;
  * - while a call that changes an image runs, make no other call on that image.
- * Every length and contents are allowed: another length than 21,024 is refused with 1, a broken
- * control part with 2. An image of zeros is refused with 2 until its first start. A refused call
+ * Every length and contents are allowed: another length than 21,216 is refused with 1, a broken
+ * control form with 2. An image of zeros is refused with 2 until its first start. A refused call
  * leaves the image as found. A call that is cut short may leave an image with half of its changes:
- * work on a copy where that can happen (docs/RECIPES.md, copy and switch).
+ * work on a copy where that can happen (docs/RECIPES.md, copy and switch). Images of 21,024 bytes,
+ * which versions before 2.0 left, are lengthened by nolpigat_convert.
  *
  * No call keeps a pointer, and there is no state but the image, so every function is re-entrant.
  * Calls on different images may run at the same time, and so may calls with a const image on one
- * image. Images, commands and lists are bytes and need no alignment. A call needs at most
+ * image. Images, commands, lists and lines are bytes and need no alignment. A call needs at most
  * NOLPIGAT_STACK_SIZE bytes of stack; it allocates no memory and makes no system call.
  *
  * Numbers: cards 0 to 7, blocks 0 to 63, records 0 to 511, transactions 1 to 15, values to store 0 to
@@ -23,9 +25,10 @@
  * (80 hex). C converts an argument to the parameter's type before the call: card 256 would be card 0.
  *
  * An answer is kind * 65536 + number; ok is 0. The number is 0 where the kind has none. If several
- * refusals apply, the lowest is returned, except that a command's form (15) comes first. Refusals 1,
- * 2 and 4 come from every call up to move_list but start, which gives only 1 and 9; each call names
- * its others. The functions behind move_list name all their refusals.
+ * refusals apply, the lowest is returned, except that a command's form (15) comes first, and the gaps
+ * and overlaps of a table (17, 18) before 10. Refusals 1, 2 and 4 come from every call up to move_list
+ * but start, which gives only 1 and 9; each call names its others. The functions behind move_list name
+ * all their refusals.
  */
 #ifndef NOLPIGAT_H
 #define NOLPIGAT_H
@@ -34,18 +37,24 @@
 #include <stdint.h>
 
 /* The version of this header and of the archive it describes. */
-#define NOLPIGAT_VERSION_MAJOR 1
-#define NOLPIGAT_VERSION_MINOR 6
+#define NOLPIGAT_VERSION_MAJOR 2
+#define NOLPIGAT_VERSION_MINOR 0
 #define NOLPIGAT_VERSION_PATCH 0
-#define NOLPIGAT_VERSION "1.6.0"
+#define NOLPIGAT_VERSION "2.0.0"
 
-/* The lengths of an image, of a command and of an entry of a move list, in bytes. */
-#define NOLPIGAT_IMAGE_SIZE 21024
+/* The lengths of an image, of one that versions before 2.0 left, of a command, of an entry of a move
+ * list and of a line of a table, in bytes. */
+#define NOLPIGAT_IMAGE_SIZE 21216
+#define NOLPIGAT_OLDER_IMAGE_SIZE 21024
 #define NOLPIGAT_COMMAND_SIZE 5
 #define NOLPIGAT_MOVE_SIZE 2
+#define NOLPIGAT_LINE_SIZE 4
 
 /* A move list with room for so many entries is never too short: 8 cards of 64 blocks. */
 #define NOLPIGAT_MOST_MOVES 512
+
+/* The most lines of a table: one for each block. */
+#define NOLPIGAT_MOST_LINES 64
 
 /* The longest text of nolpigat_answer_text has so many bytes, its final 0 counted. */
 #define NOLPIGAT_ANSWER_TEXT_SIZE 19
@@ -85,12 +94,13 @@ enum {
     NOLPIGAT_KIND_LISTED = 11,     /* how many moves: 0 to NOLPIGAT_MOST_MOVES */
     NOLPIGAT_KIND_NONE = 12,
     NOLPIGAT_KIND_NUMBER = 13,     /* what a query asked for */
+    NOLPIGAT_KIND_WRITTEN = 14,    /* how many bytes were written */
     NOLPIGAT_KIND_REFUSED = 15     /* the refusal's number, below */
 };
 
 /* Numbers of refusals. */
 enum {
-    NOLPIGAT_REFUSAL_LENGTH = 1,        /* image length is not 21,024 */
+    NOLPIGAT_REFUSAL_LENGTH = 1,        /* an image has not its length */
     NOLPIGAT_REFUSAL_CONTROL_FORM = 2,  /* control form broken; also before the first start */
     NOLPIGAT_REFUSAL_RANGE = 3,         /* a number is outside its range */
     NOLPIGAT_REFUSAL_STOPPED = 4,       /* stopped: every call but start */
@@ -98,14 +108,16 @@ enum {
     NOLPIGAT_REFUSAL_ALREADY_OPEN = 6,  /* begin of an open transaction */
     NOLPIGAT_REFUSAL_LOCKED = 7,        /* some holder's slot is locked by another number */
     NOLPIGAT_REFUSAL_CARD = 8,          /* the call's condition on the card is unmet */
-    NOLPIGAT_REFUSAL_PLACEMENT = 9,     /* the mask cannot be a placement */
-    NOLPIGAT_REFUSAL_ACTIVE = 10,       /* place with three or more active */
+    NOLPIGAT_REFUSAL_PLACEMENT = 9,     /* these cards cannot be a placement */
+    NOLPIGAT_REFUSAL_ACTIVE = 10,       /* place: three or more are active */
     NOLPIGAT_REFUSAL_NOT_HELD = 11,     /* move: the card does not hold the block */
     NOLPIGAT_REFUSAL_COPY_LOCKED = 12,  /* move: the card's copy has a locked slot */
     NOLPIGAT_REFUSAL_UNSETTLED = 13,    /* settle: its condition unmet */
     NOLPIGAT_REFUSAL_HOME = 14,         /* withdraw: an open transaction has its home there */
     NOLPIGAT_REFUSAL_MALFORMED = 15,    /* command malformed */
-    NOLPIGAT_REFUSAL_LIST = 16          /* move_list: the list is shorter than needed */
+    NOLPIGAT_REFUSAL_LIST = 16,         /* move_list: the list is shorter than needed */
+    NOLPIGAT_REFUSAL_GAP = 17,          /* place_by_table: a block is in no line */
+    NOLPIGAT_REFUSAL_OVERLAP = 18       /* place_by_table: a block is in two lines */
 };
 
 /* Operations of commands, each with the fields that it has. */
@@ -145,7 +157,7 @@ static inline int nolpigat_is_refused(uint32_t answer) {
 /* What a refusal's number means, for people: never null, and one text for all unknown numbers. */
 static inline const char *nolpigat_refusal_text(uint32_t number) {
     switch (number) {
-    case NOLPIGAT_REFUSAL_LENGTH: return "the image has another length than 21,024 bytes";
+    case NOLPIGAT_REFUSAL_LENGTH: return "an image has another length than the call takes";
     case NOLPIGAT_REFUSAL_CONTROL_FORM: return "the control part is broken or the store was never started";
     case NOLPIGAT_REFUSAL_RANGE: return "a number is outside its range";
     case NOLPIGAT_REFUSAL_STOPPED: return "the store has stopped";
@@ -153,7 +165,7 @@ static inline const char *nolpigat_refusal_text(uint32_t number) {
     case NOLPIGAT_REFUSAL_ALREADY_OPEN: return "the transaction is open already";
     case NOLPIGAT_REFUSAL_LOCKED: return "the record is locked by another transaction";
     case NOLPIGAT_REFUSAL_CARD: return "the card is not in the state that the call needs";
-    case NOLPIGAT_REFUSAL_PLACEMENT: return "the mask cannot be a placement";
+    case NOLPIGAT_REFUSAL_PLACEMENT: return "these cards cannot be a placement";
     case NOLPIGAT_REFUSAL_ACTIVE: return "three or more placements are active";
     case NOLPIGAT_REFUSAL_NOT_HELD: return "the card does not hold the block";
     case NOLPIGAT_REFUSAL_COPY_LOCKED: return "the card's copy of the block has a locked record";
@@ -161,6 +173,8 @@ static inline const char *nolpigat_refusal_text(uint32_t number) {
     case NOLPIGAT_REFUSAL_HOME: return "the card is the home of an open transaction";
     case NOLPIGAT_REFUSAL_MALFORMED: return "the command is malformed";
     case NOLPIGAT_REFUSAL_LIST: return "the list is too short for the moves";
+    case NOLPIGAT_REFUSAL_GAP: return "a block is in no line of the table";
+    case NOLPIGAT_REFUSAL_OVERLAP: return "a block is in two lines of the table";
     default: return "the refusal is unknown to this version";
     }
 }
@@ -182,6 +196,7 @@ static inline const char *nolpigat_kind_text(uint32_t kind) {
     case NOLPIGAT_KIND_LISTED: return "listed";
     case NOLPIGAT_KIND_NONE: return "none";
     case NOLPIGAT_KIND_NUMBER: return "number";
+    case NOLPIGAT_KIND_WRITTEN: return "written";
     case NOLPIGAT_KIND_REFUSED: return "refused";
     default: return "unknown";
     }
@@ -204,16 +219,17 @@ static inline uint32_t nolpigat_number_range(uint32_t kind) {
     case NOLPIGAT_KIND_LOAD:
     case NOLPIGAT_KIND_LISTED:
     case NOLPIGAT_KIND_NUMBER:
+    case NOLPIGAT_KIND_WRITTEN:
     case NOLPIGAT_KIND_REFUSED: return 65536;
     default: return 0;
     }
 }
 
 /* The answer in the words of the listing, as "value 1234", "placed E0", "refused 7", "listed 3",
- * "none" or "number 2"; "unknown" and the code where it is no answer's. The text is put into a buffer
- * of size bytes. It is always ended by 0, and cut where it has no room; with size 0 the buffer is not
- * touched. Returns the length of the whole text without its 0: it is cut if that is not below size,
- * which does not happen with NOLPIGAT_ANSWER_TEXT_SIZE. */
+ * "none", "number 2" or "written 21216"; "unknown" and the code where it is no answer's. The text is
+ * put into a buffer of size bytes. It is always ended by 0, and cut where it has no room; with size 0
+ * the buffer is not touched. Returns the length of the whole text without its 0: it is cut if that is
+ * not below size, which does not happen with NOLPIGAT_ANSWER_TEXT_SIZE. */
 static inline size_t nolpigat_answer_text(uint32_t answer, char *buffer, size_t size) {
     const uint32_t kind = nolpigat_kind(answer), range = nolpigat_number_range(kind);
     const int known = nolpigat_number(answer) < range;
@@ -304,9 +320,9 @@ uint32_t nolpigat_fit(uint8_t *image, size_t length, uint8_t card);
 NOLPIGAT_MUST_CHECK
 uint32_t nolpigat_withdraw(uint8_t *image, size_t length, uint8_t card);
 
-/* place: the mask becomes the newest placement.
+/* place: the mask becomes the newest placement, with sites on two supply rails.
  * mask: two members at least, all working, not the newest mask again; the newest mask again is taken
- * where that placement is older than the choice of sites on two supply rails.
+ * where that placement is by a table, or older than the choice of sites on two supply rails.
  * Answer: ok. Refused: 9 the mask is not such; 10 three or more placements are active. */
 NOLPIGAT_MUST_CHECK
 uint32_t nolpigat_place(uint8_t *image, size_t length, uint8_t mask);
@@ -314,7 +330,8 @@ uint32_t nolpigat_place(uint8_t *image, size_t length, uint8_t mask);
 /* fail: the card no longer works and is marked failed; its table is not read again before a fit. If
  * some active placement now has two failed or fewer than two working members, every open transaction
  * is rolled back on the working cards and the store stops. Otherwise transactions begun there are
- * rolled back, and if it was in the newest placement, one without it is added.
+ * rolled back, and if it was in the newest placement, one without it is added, with sites on two
+ * supply rails, also after a table.
  * card: 0 to 7, working.
  * Answer: placed with the mask added, unplaced if none is, or stopped. Refused: 3; 8 not working. */
 NOLPIGAT_MUST_CHECK
@@ -354,6 +371,19 @@ NOLPIGAT_MUST_CHECK
 uint32_t nolpigat_command(uint8_t *image, size_t length, const uint8_t *command,
                           size_t command_length);
 
+/* place_by_table: the cards that the table's lines name become the newest placement, in which each
+ * block lies on the two cards of its line. It has no command.
+ * lines, lines_length: whole lines of four bytes, at most NOLPIGAT_MOST_LINES, outside the image. A
+ * line is the first and the last block of a range, 0 to 63 and the first not above the last, and two
+ * different working cards, 0 to 7: the first and the second site. Each block is in exactly one line;
+ * the lines may come in any order. The cards named may be the newest mask again.
+ * Answer: ok. Refused: 3, also for bytes that are not whole lines and for too many; 9 a line's cards
+ * are equal or one does not work; 17 a block is in no line, so also where there are no lines; 18 a
+ * block is in two; 10 three or more placements are active. 17 and 18 come before 10. */
+NOLPIGAT_MUST_CHECK
+uint32_t nolpigat_place_by_table(uint8_t *image, size_t length, const uint8_t *lines,
+                                 size_t lines_length);
+
 /* move_list: the fewest moves that let settle succeed, blocks rising and then cards rising. It has no
  * command, and the image is only read.
  * list, list_length: room for list_length / 2 entries, outside the image. An entry is two bytes, the
@@ -366,6 +396,16 @@ uint32_t nolpigat_command(uint8_t *image, size_t length, const uint8_t *command,
 NOLPIGAT_MUST_CHECK
 uint32_t nolpigat_move_list(const uint8_t *image, size_t image_length, uint8_t *list,
                             size_t list_length);
+
+/* convert: an image that versions before 2.0 left, of NOLPIGAT_OLDER_IMAGE_SIZE bytes, is lengthened:
+ * the lent one, of NOLPIGAT_IMAGE_SIZE bytes, becomes its bytes and zeros behind them. The older image
+ * is only read. A stopped store is converted too.
+ * older, older_length: the older image; image, length: the lent one, of any contents, apart from it.
+ * Answer: written with the number of bytes, NOLPIGAT_IMAGE_SIZE. Refused: 1 one of the two lengths is
+ * not such; 2 the older image's control form is broken by the rules before 2.0, so also where it is
+ * zero. Then the lent image stays as it was. */
+NOLPIGAT_MUST_CHECK
+uint32_t nolpigat_convert(const uint8_t *older, size_t older_length, uint8_t *image, size_t length);
 
 /* Queries. They only read, and have no commands. Those up to free_transaction ask the control part
  * and are never refused with 4, so that a panel can ask them after a stop.

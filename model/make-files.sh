@@ -36,5 +36,6 @@ while read -r edition kind seed earlier commands; do
 done <<LIST
 base mixed 2399 400 1200
 rails mixed 1977 400 1200
+below-wire mixed 2402 400 1200
 LIST
 target/release/count ../tests/listings/*/stdin

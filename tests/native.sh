@@ -5,7 +5,7 @@
 set -u
 . "$(dirname "$0")/check.sh"
 program=$scratch/program
-recipes='boot charge exchange in_the_way copy_and_switch'
+recipes='boot charge exchange in_the_way copy_and_switch table convert'
 
 # stored COMMAND..: it succeeds with every stored command file as its input.
 stored() {
@@ -21,7 +21,8 @@ lists() {
     done
 }
 
-# goes_on COMMAND..: with the image of each stored case it prints that case's listing, and it takes no other length.
+# goes_on COMMAND..: with the image of each stored case, which it converts, it prints that case's listing, and it takes no
+# file of another length.
 goes_on() {
     for folder in "$root"/tests/older/*; do
         "$@" "$folder/image" <"$folder/stdin" >"$scratch/listing" && cmp "$scratch/listing" "$folder/stdout" || return 1
@@ -87,6 +88,17 @@ queries() {
 
 move_list() {
     build "$root/tests/move_list.c" && "$program"
+}
+
+tables() {
+    build "$root/tests/tables.c" && "$program"
+}
+
+convert() {
+    build "$root/tests/convert.c" || return 1
+    for folder in "$root"/tests/older/*; do
+        "$program" "$folder/image" || return 1
+    done
 }
 
 texts() {
@@ -158,7 +170,7 @@ rust_format() {
     cargo fmt --check --manifest-path "$root/bindings/rust/Cargo.toml"
 }
 
-tests='header must_check first listing moves calls queries move_list texts'
+tests='header must_check first listing moves calls queries move_list tables convert texts'
 native gcc c99 c $tests readme stack
 native gcc c11 c header
 native g++ c++17 c++ $tests

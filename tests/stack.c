@@ -1,7 +1,8 @@
 /* Measures the stack that calls need: performs the commands on standard input on a painted stack, each
  * through its own call and through nolpigat_command, and after each of them every function that only
- * reads. Prints the bytes used. Exit 1 if they are more than NOLPIGAT_STACK_SIZE. Link it with -z now: else the
- * dynamic linker binds memset and memcpy on this stack. */
+ * reads, and on copies a placing by table, calls that follow a table, and a conversion. Prints the bytes
+ * used. Exit 1 if they are more than NOLPIGAT_STACK_SIZE. Link it with -z now: else the dynamic linker
+ * binds memset and memcpy on this stack. */
 #include "call.h"
 #include <stdio.h>
 #include <string.h>
@@ -14,7 +15,9 @@
 static uint8_t commands[MOST_COMMANDS][NOLPIGAT_COMMAND_SIZE];
 static size_t number;
 static uint8_t by_call[SIZE], by_command[SIZE];
+static uint8_t by_table[SIZE], converted[SIZE];
 static uint8_t list[NOLPIGAT_MOST_MOVES * NOLPIGAT_MOVE_SIZE];
+static uint8_t lines[NOLPIGAT_MOST_LINES * NOLPIGAT_LINE_SIZE];
 static unsigned char stack[1 << 16];
 static const unsigned char *base;
 static ucontext_t outside, inside;
@@ -27,6 +30,32 @@ static void queries(uint8_t transaction, uint16_t record) {
                nolpigat_home(by_call, SIZE, transaction) + nolpigat_free_transaction(by_call, SIZE) +
                nolpigat_source(by_call, SIZE, transaction, record) +
                nolpigat_holders(by_call, SIZE, transaction, record);
+}
+
+/* A table of one line a block, on the two first working cards. */
+static void fill_lines(uint8_t working) {
+    uint8_t first = 0, second, block;
+    while (first < 7 && !(working & 0x80 >> first))
+        first++;
+    second = (uint8_t)(first + 1);
+    while (second < 7 && !(working & 0x80 >> second))
+        second++;
+    for (block = 0; block < NOLPIGAT_MOST_LINES; block++) {
+        uint8_t *line = lines + block * NOLPIGAT_LINE_SIZE;
+        line[0] = line[1] = block;
+        line[2] = block % 2 ? first : second;
+        line[3] = block % 2 ? second : first;
+    }
+}
+
+/* The image's first bytes are those of an older one as long as no table is placed in it. */
+static void tables(const struct fields *fields) {
+    memcpy(by_table, by_call, SIZE);
+    fill_lines(by_call[5]);
+    refused += nolpigat_place_by_table(by_table, SIZE, lines, sizeof lines);
+    refused += nolpigat_move_list(by_table, SIZE, list, sizeof list) + nolpigat_settle(by_table, SIZE);
+    refused += call(by_table, fields);
+    refused += nolpigat_convert(by_call, NOLPIGAT_OLDER_IMAGE_SIZE, converted, SIZE);
 }
 
 /* Runs on the painted stack. Its own frame, and those of the functions of this file that make the
@@ -43,6 +72,7 @@ static void perform_all(void) {
                                               fields.card, fields.number, fields.value);
             refused += call(by_call, &fields);
             queries(fields.transaction, fields.number);
+            tables(&fields);
         }
     }
 }

@@ -16,9 +16,10 @@ fn word(code: u32) -> String {
 
 /// Each answer once, by an archive beside the model.
 pub fn compared(archive: Side, case: &Case) -> String {
-    let (mut image, mut model, mut lent) = (case.image.clone(), case.image.clone(), Lent::default());
-    let mut words = BTreeSet::new();
     let place = format!("{} {}, {}", case.state, case.call, archive.name);
+    let mut image = case.image_of(archive).unwrap_or_else(|| panic!("{place}: it lacks the call"));
+    let (mut model, mut lent) = (case.image.clone(), Lent::default());
+    let mut words = BTreeSet::new();
     for asked in &case.calls {
         let wanted = (MODEL.perform)(&mut model, &mut lent, asked);
         let found = (archive.perform)(&mut image, &mut lent, asked);
@@ -26,6 +27,9 @@ pub fn compared(archive: Side, case: &Case) -> String {
         assert!(lent.same(), "{place}: the lists differ");
         words.insert(word(wanted));
     }
-    assert!(image == model, "{place}: the images differ");
+    // A side without tables differs in the marks and in what is kept.
+    let older = archive.older_length.is_some();
+    let same = if older { image[32..] == model[32..image.len()] } else { image == model };
+    assert!(same, "{place}: the images differ");
     words.into_iter().collect::<Vec<_>>().join(", ")
 }

@@ -1,6 +1,7 @@
 //! The calls of libbefore.a, the archive of an earlier commit, as `differential::archive` has those of libnolpigat.a.
 //! Its functions are named apart, so that both archives link into one program.
 
+use model::image::{LENGTH, OLDER_LENGTH};
 use model::Call;
 
 extern "C" {
@@ -20,6 +21,12 @@ extern "C" {
     fn before_nolpigat_state(image: *const u8, length: usize) -> u32;
     fn before_nolpigat_load(image: *const u8, length: usize, card: u8) -> u32;
     fn before_nolpigat_move_list(image: *const u8, image_length: usize, list: *mut u8, list_length: usize) -> u32;
+}
+
+/// The length of the archive's images: it refuses a start on another.
+pub fn length() -> usize {
+    let refused = perform(&mut [0; LENGTH], &Call::Start { mask: 0xFF }) != 0;
+    if refused { OLDER_LENGTH } else { LENGTH }
 }
 
 /// The code of the archive's answer. A block is a byte there.

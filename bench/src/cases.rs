@@ -1,11 +1,12 @@
 //! The images on which calls are timed, and the calls.
 
-use crate::sides::Asked;
+use crate::sides::{Asked, Side};
 use model::calls::{perform, started, Call};
 use model::control::Control;
-use model::image::{BLOCKS, CARDS, RECORDS};
+use model::image::{BLOCKS, CARDS, OLDER_LENGTH, RECORDS};
 use model::move_list::fewest_moves;
 use model::sites::{members, sites};
+use model::table::{place_by_table, write_lines, Line};
 use model::Answer;
 
 /// Calls that run one after another on a copy of the image.
@@ -13,6 +14,8 @@ pub struct Case {
     pub state: &'static str,
     pub call: &'static str,
     pub image: Vec<u8>,
+    /// The same store without a table, for a side that has none.
+    without_table: Option<Vec<u8>>,
     pub calls: Vec<Asked>,
     /// The figures are those of the whole list, and not of one call.
     whole: bool,
@@ -20,8 +23,11 @@ pub struct Case {
 
 impl Case {
     fn new(state: &'static str, call: &'static str, image: &[u8], calls: Vec<Call>) -> Case {
-        let calls = calls.into_iter().map(Asked::Call).collect();
-        Case { state, call, image: image.to_vec(), calls, whole: false }
+        Case::of(state, call, image, calls.into_iter().map(Asked::Call).collect())
+    }
+
+    fn of(state: &'static str, call: &'static str, image: &[u8], calls: Vec<Asked>) -> Case {
+        Case { state, call, image: image.to_vec(), without_table: None, calls, whole: false }
     }
 
     fn whole(state: &'static str, call: &'static str, image: &[u8], calls: Vec<Call>) -> Case {
@@ -29,7 +35,18 @@ impl Case {
     }
 
     fn move_list(state: &'static str, call: &'static str, image: &[u8]) -> Case {
-        Case { state, call, image: image.to_vec(), calls: vec![Asked::MoveList; 4], whole: false }
+        Case::of(state, call, image, vec![Asked::MoveList; 4])
+    }
+
+    /// The image on which a side runs. An older side has its own length and no tables; None where it lacks the call.
+    pub fn image_of(&self, side: Side) -> Option<Vec<u8>> {
+        let Some(length) = side.older_length else { return Some(self.image.clone()) };
+        if !self.calls.iter().all(Asked::is_old) {
+            return None;
+        }
+        let mut image = self.without_table.as_ref().unwrap_or(&self.image).clone();
+        image.truncate(length());
+        Some(image)
     }
 
     /// What the figures of a copy are divided by.
@@ -42,13 +59,19 @@ impl Case {
     }
 
     /// The order of the table's rows: by state, single calls first, as the calls are numbered.
-    fn place(&self) -> (bool, bool, u8) {
-        (self.state == REORGANISING, self.whole, self.calls[0].place())
+    fn place(&self) -> (usize, bool, u8) {
+        let state = STATES.iter().position(|state| *state == self.state).expect("one of the states");
+        (state, self.whole, self.calls[0].place())
     }
 }
 
 const FULL: &str = "full";
+const ONE_TABLE: &str = "full, one table";
 const REORGANISING: &str = "reorganising";
+const OLDER: &str = "full, an older image";
+
+/// In the order of the table's rows.
+const STATES: [&str; 4] = [FULL, ONE_TABLE, REORGANISING, OLDER];
 
 /// Records that a transaction stores before it ends.
 const PENDING: usize = 8;
@@ -153,7 +176,32 @@ fn lists(state: &'static str, image: &[u8]) -> Vec<Case> {
     ]
 }
 
-/// The calls that are alike in both states.
+/// A line for each block, with its sites by rails: the table changes no block's cards.
+fn table_of_rails(image: &[u8]) -> Vec<u8> {
+    let newest = Control::read(image).expect("the form is whole").newest();
+    let line = |block: usize| {
+        Line { first: block as u8, last: block as u8, cards: sites(newest, block).map(|card| card as u8) }
+    };
+    write_lines(&(0..BLOCKS).map(line).collect::<Vec<Line>>())
+}
+
+/// The same store with one placement by table, which has every block where it lies.
+fn with_table(image: &[u8]) -> Vec<u8> {
+    let mut placed = image.to_vec();
+    assert_eq!(place_by_table(&mut placed, &table_of_rails(image)), Answer::Ok);
+    after(&placed, vec![Call::Settle])
+}
+
+/// Placings by table: a line for each block, and two lines in all.
+fn placings(state: &'static str, image: &[u8]) -> Vec<Case> {
+    let two_lines = vec![0, 31, 0, 5, 32, 63, 1, 6];
+    vec![
+        Case::of(state, "place by table", image, vec![Asked::Table(table_of_rails(image)); 2]),
+        Case::of(state, "place by table, two lines", image, vec![Asked::Table(two_lines); 2]),
+    ]
+}
+
+/// The calls that are alike in all states.
 fn common(state: &'static str, image: &[u8]) -> Vec<Case> {
     let homes = homes(image);
     let others: Vec<u8> = homes.iter().copied().filter(|home| *home != FAILING).collect();
@@ -176,8 +224,8 @@ fn common(state: &'static str, image: &[u8]) -> Vec<Case> {
 }
 
 /// The other calls on the full store.
-fn on_full(full: &[u8]) -> Vec<Case> {
-    let case = |call, calls| Case::new(FULL, call, full, calls);
+fn on_full(state: &'static str, full: &[u8]) -> Vec<Case> {
+    let case = |call, calls| Case::new(state, call, full, calls);
     let newest = Control::read(full).expect("the form is whole").newest();
     let at_sites = |block: usize| sites(newest, block).map(|card| Call::Move { card: card as u8, block: block as u16 });
     vec![
@@ -186,7 +234,7 @@ fn on_full(full: &[u8]) -> Vec<Case> {
         case("place", vec![Call::Place { mask: 0xFE }, Call::Place { mask: 0x7E }]),
         case("move", (0..BLOCKS).flat_map(at_sites).collect()),
         case("settle", vec![Call::Settle; 4]),
-        Case::move_list(FULL, "move list", full),
+        Case::move_list(state, "move list", full),
     ]
 }
 
@@ -204,15 +252,28 @@ fn on_half(half: &[u8]) -> Vec<Case> {
     ]
 }
 
+/// All cases of a state.
+fn of_state(state: &'static str, image: &[u8], own: fn(&'static str, &[u8]) -> Vec<Case>) -> Vec<Case> {
+    let mut all = common(state, image);
+    all.extend(own(state, image));
+    all.extend(lists(state, image));
+    all
+}
+
 pub fn cases() -> Vec<Case> {
     let full = filled(0xFF);
     let half = reorganising(BLOCKS / 2);
-    let mut all = Vec::new();
-    for (state, image, own) in [(FULL, &full, on_full(&full)), (REORGANISING, &half, on_half(&half))] {
-        all.extend(common(state, image));
-        all.extend(own);
-        all.extend(lists(state, image));
+    let mut all = of_state(FULL, &full, on_full);
+    all.extend(placings(FULL, &full));
+    // Beside each case with the table stands the one of the same store without it.
+    let without_table = of_state(ONE_TABLE, &full, on_full);
+    let with_table = with_table(&full);
+    for (case, without) in of_state(ONE_TABLE, &with_table, on_full).into_iter().zip(without_table) {
+        all.push(Case { without_table: Some(without.image), ..case });
     }
+    all.extend(placings(ONE_TABLE, &with_table));
+    all.extend(of_state(REORGANISING, &half, |_, half| on_half(half)));
+    all.push(Case::of(OLDER, "convert", &full[..OLDER_LENGTH], vec![Asked::Convert; 4]));
     let eight = place_and_move(&full, [0x7E, 0x3C], BLOCKS / 4);
     all.push(Case::move_list(REORGANISING, "move list, eight cards", &eight));
     all.sort_by_key(Case::place);

@@ -21,7 +21,7 @@ pub fn run_on(image: &[u8], copies: usize, run: impl FnOnce(&mut [Vec<u8>])) {
 pub fn run_case(sides: &[Side], at: usize, side: &str, copies: usize) -> Option<()> {
     let (all, side) = (cases(), named(sides, side)?);
     let case = all.get(at)?;
-    run_on(&case.image, copies, |copies| timing::run(side, copies, &mut Lent::default(), case));
+    run_on(&case.image_of(side)?, copies, |copies| timing::run(side, copies, &mut Lent::default(), case));
     Some(())
 }
 
@@ -37,7 +37,8 @@ fn collected(at: usize, side: &str, copies: usize) -> Option<u64> {
     text.lines().find_map(|line| line.split_once("Collected :"))?.1.trim().parse().ok()
 }
 
-/// Instructions of each side by the number of the case, divided by the shares of each copy; None without valgrind.
+/// Instructions of each side by the number of the case, divided by the shares of each copy; None without valgrind, or
+/// where a side lacks the call.
 pub fn instructions<const N: usize>(at: usize, sides: [Side; N], shares: usize) -> Option<[f64; N]> {
     let mut counts = [0.0; N];
     for (count, side) in counts.iter_mut().zip(sides) {

@@ -2,42 +2,64 @@
 
 use differential::archive;
 use model::commands::Fields;
+use model::converter::convert;
+use model::image::LENGTH;
 use model::move_list::{move_list, Move, MOST_MOVES};
+use model::table::place_by_table;
 use model::{perform, Call};
 
-#[derive(Clone, Copy, Debug)]
+#[derive(Clone, Debug)]
 pub enum Asked {
     Call(Call),
     /// In a list with room for every move.
     MoveList,
+    /// A placing by the lines in these bytes.
+    Table(Vec<u8>),
+    /// The image is an older one.
+    Convert,
 }
 
 impl Asked {
-    /// The number of the call, and the next after all calls for the list.
+    /// The number of the call, and the next ones after all calls for the others.
     pub fn place(&self) -> u8 {
         match self {
             Asked::Call(call) => Fields::of(call).operation,
             Asked::MoveList => 15,
+            Asked::Table(_) => 16,
+            Asked::Convert => 17,
         }
+    }
+
+    /// The deliveries before tables have it too.
+    pub fn is_old(&self) -> bool {
+        matches!(self, Asked::Call(_) | Asked::MoveList)
     }
 }
 
-/// The lists that are lent, in the form of an archive and in that of the model.
+/// The lists and the images that are lent, in the form of an archive and in that of the model.
 pub struct Lent {
     archive: [u8; 2 * MOST_MOVES],
     model: [Move; MOST_MOVES],
+    archive_image: Vec<u8>,
+    model_image: Vec<u8>,
 }
 
 impl Default for Lent {
     fn default() -> Lent {
-        Lent { archive: [0; 2 * MOST_MOVES], model: [Move::default(); MOST_MOVES] }
+        Lent {
+            archive: [0; 2 * MOST_MOVES],
+            model: [Move::default(); MOST_MOVES],
+            archive_image: vec![0xFF; LENGTH],
+            model_image: vec![0xFF; LENGTH],
+        }
     }
 }
 
 impl Lent {
-    /// An archive and the model have left the same entries.
+    /// An archive and the model have left the same entries and the same image.
     pub fn same(&self) -> bool {
-        self.archive.chunks(2).zip(&self.model).all(|(bytes, entry)| *bytes == [entry.card, entry.block])
+        let mut entries = self.archive.chunks(2).zip(&self.model);
+        entries.all(|(bytes, entry)| *bytes == [entry.card, entry.block]) && self.archive_image == self.model_image
     }
 }
 
@@ -47,6 +69,8 @@ pub struct Side {
     pub name: &'static str,
     /// Answers a code.
     pub perform: fn(&mut [u8], &mut Lent, &Asked) -> u32,
+    /// The length of its images; None is that of the delivery in force, with tables.
+    pub older_length: Option<fn() -> usize>,
 }
 
 /// The archive libnolpigat.a.
@@ -55,7 +79,10 @@ pub const RATTLE: Side = Side {
     perform: |image, lent, asked| match asked {
         Asked::Call(call) => archive::perform(image, call),
         Asked::MoveList => archive::move_list(image, &mut lent.archive),
+        Asked::Table(lines) => archive::place_by_table(image, lines),
+        Asked::Convert => archive::convert(image, &mut lent.archive_image),
     },
+    older_length: None,
 };
 
 pub const MODEL: Side = Side {
@@ -63,7 +90,10 @@ pub const MODEL: Side = Side {
     perform: |image, lent, asked| match asked {
         Asked::Call(call) => archive::code(perform(image, call)),
         Asked::MoveList => archive::list_code(move_list(image, &mut lent.model)),
+        Asked::Table(lines) => archive::code(place_by_table(image, lines)),
+        Asked::Convert => archive::code(convert(image, &mut lent.model_image)),
     },
+    older_length: None,
 };
 
 /// The archive libbefore.a.
@@ -73,7 +103,9 @@ pub const BEFORE: Side = Side {
     perform: |image, lent, asked| match asked {
         Asked::Call(call) => crate::before::perform(image, call),
         Asked::MoveList => crate::before::move_list(image, &mut lent.archive),
+        Asked::Table(_) | Asked::Convert => unreachable!("the cases of this side have none"),
     },
+    older_length: Some(crate::before::length),
 };
 
 pub fn named(sides: &[Side], name: &str) -> Option<Side> {

@@ -44,10 +44,11 @@ pub fn run(side: Side, copies: &mut [Vec<u8>], lent: &mut Lent, case: &Case) {
     }
 }
 
-/// Nanoseconds of one call, or of the whole list.
-fn round(side: Side, copies: &mut [Vec<u8>], lent: &mut Lent, case: &Case) -> f64 {
+/// Nanoseconds of one call, or of the whole list; no number where the side has no image.
+fn round(side: Side, first: &Option<Vec<u8>>, copies: &mut [Vec<u8>], lent: &mut Lent, case: &Case) -> f64 {
+    let Some(first) = first else { return f64::NAN };
     for image in copies.iter_mut() {
-        image.copy_from_slice(&case.image);
+        image.clone_from(first);
     }
     let start = Instant::now();
     run(side, copies, lent, case);
@@ -58,7 +59,8 @@ fn round(side: Side, copies: &mut [Vec<u8>], lent: &mut Lent, case: &Case) -> f6
 pub fn pass<const N: usize>(sides: [Side; N], case: &Case) -> Vec<[f64; N]> {
     let mut copies = vec![case.image.clone(); COPIES];
     let mut lent = Lent::default();
-    let mut in_turns = || sides.map(|side| round(side, &mut copies, &mut lent, case));
+    let images = sides.map(|side| (side, case.image_of(side)));
+    let mut in_turns = || images.each_ref().map(|(side, first)| round(*side, first, &mut copies, &mut lent, case));
     for _ in 0..WARM_UP {
         in_turns();
     }

@@ -39,6 +39,18 @@ pub fn perform_command(image: &mut [u8], bytes: &[u8]) -> u32 {
     unsafe { nolpigat_command(image.as_mut_ptr(), image.len(), bytes.as_ptr(), bytes.len()) }
 }
 
+/// The code of the archive's answer to a placing by table.
+pub fn place_by_table(image: &mut [u8], lines: &[u8]) -> u32 {
+    // Both slices are lent for the call alone, and they do not overlap.
+    unsafe { nolpigat_place_by_table(image.as_mut_ptr(), image.len(), lines.as_ptr(), lines.len()) }
+}
+
+/// The code of the archive's answer to a conversion into a lent image.
+pub fn convert(older: &[u8], image: &mut [u8]) -> u32 {
+    // Both slices are lent for the call alone, and they do not overlap.
+    unsafe { nolpigat_convert(older.as_ptr(), older.len(), image.as_mut_ptr(), image.len()) }
+}
+
 /// The code of the archive's answer to a lent list, whose entries are two bytes, card and block.
 pub fn move_list(image: &[u8], list: &mut [u8]) -> u32 {
     // Both slices are lent for the call alone, and they do not overlap.
@@ -97,6 +109,7 @@ pub fn code(answer: Answer) -> u32 {
         Answer::Protected => (8, 0),
         Answer::Unprotected => (9, 0),
         Answer::Load(load) => (10, load),
+        Answer::Written(bytes) => (14, bytes),
         Answer::Refused(number) => (REFUSED, number.into()),
     };
     kind * NUMBER_RANGE + u32::from(number)

@@ -6,12 +6,23 @@ use model::tally::{possible, ANSWERS, OPERATIONS};
 use model::Call;
 use std::collections::{BTreeMap, BTreeSet};
 
-/// The fifteen calls, and a command's bytes.
-pub const ENTRIES: usize = 16;
+/// The fifteen calls, a command's bytes, and a placing by table.
+pub const ENTRIES: usize = 17;
 pub const COMMAND_ENTRY: usize = 15;
+pub const TABLE_ENTRY: usize = 16;
+
+const TABLE_NAME: &str = "place by table";
+
+/// What a placing by table can be refused with.
+const TABLE_REFUSALS: [u8; 8] = [1, 2, 3, 4, 9, 10, 17, 18];
 
 /// Kinds of answers, then refusals by number.
-const ANSWER_CLASSES: usize = 32;
+const ANSWER_CLASSES: usize = 36;
+
+/// The name of an entry.
+fn entry_name(entry: usize) -> &'static str {
+    OPERATIONS.get(entry).map_or(TABLE_NAME, |(name, ..)| name)
+}
 
 pub type Entries = [usize; ENTRIES];
 
@@ -48,7 +59,7 @@ fn byte_arguments(call: &Call) -> Vec<u16> {
 
 fn answer_class(code: u32) -> usize {
     let (kind, number) = (code / NUMBER_RANGE, code % NUMBER_RANGE);
-    (if kind == REFUSED { 16 + number.min(15) } else { kind.min(15) }) as usize
+    (if kind == REFUSED { 16 + number.min(19) } else { kind.min(15) }) as usize
 }
 
 fn answer_name(class: usize) -> String {
@@ -90,9 +101,9 @@ impl Cases {
 
     fn answers(&self) -> BTreeSet<String> {
         let mut found = BTreeSet::new();
-        for ((operation, ..), numbers) in OPERATIONS.iter().zip(&self.answers) {
+        for (entry, numbers) in self.answers.iter().enumerate() {
             let met = (0..ANSWER_CLASSES).filter(|class| numbers[*class] > 0);
-            found.extend(met.map(|class| format!("{operation} {}", answer_name(class))));
+            found.extend(met.map(|class| format!("{} {}", entry_name(entry), answer_name(class))));
         }
         found
     }
@@ -101,6 +112,8 @@ impl Cases {
     pub fn faults(&self, images: &[String], named: &[String]) -> Vec<String> {
         let mut wanted = possible();
         wanted.extend(OPERATIONS[..COMMAND_ENTRY].iter().map(|(operation, ..)| format!("{operation} refused 1")));
+        wanted.insert(format!("{TABLE_NAME} ok"));
+        wanted.extend(TABLE_REFUSALS.map(|number| format!("{TABLE_NAME} refused {number}")));
         let found = self.answers();
         let mut faults: Vec<String> = wanted.difference(&found).map(|name| format!("no {name}")).collect();
         faults.extend(found.difference(&wanted).map(|name| format!("impossible: {name}")));
@@ -137,10 +150,10 @@ impl Cases {
     }
 
     pub fn print(&self) {
-        for ((operation, ..), numbers) in OPERATIONS.iter().zip(&self.answers) {
+        for (entry, numbers) in self.answers.iter().enumerate() {
             let met = (0..ANSWER_CLASSES).filter(|class| numbers[*class] > 0);
             let words: Vec<String> = met.map(|class| format!("{} {}", answer_name(class), numbers[class])).collect();
-            println!("{operation}: {}", words.join(", "));
+            println!("{}: {}", entry_name(entry), words.join(", "));
         }
         for (class, calls) in &self.images {
             println!("image, {class}: {} calls", calls.iter().sum::<usize>());

@@ -3,6 +3,7 @@
 pub mod archive;
 pub mod broken_wire;
 pub mod cases;
+pub mod conversions;
 pub mod lent;
 pub mod lists;
 pub mod move_lists;
@@ -12,3 +13,4 @@ pub mod questions;
 pub mod requests;
 pub mod run;
 pub mod single;
+pub mod tables;

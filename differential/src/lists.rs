@@ -3,18 +3,21 @@
 
 use crate::archive::code;
 use crate::broken_wire;
+use crate::conversions;
 use crate::move_lists::{self, MoveLists, Origin};
 use crate::pair::{Outcome, Pair, Request, ALIGNMENTS};
 use crate::protection::{self, IN_LIST};
 use crate::run::Run;
-use model::commands::read_command;
-use model::control::Control;
+use crate::tables;
+use model::commands::{read_command, COMMAND_BYTES};
+use model::control::{form_of, Control, NO_HOMES};
 use model::edition::Edition;
-use model::image::table_at;
+use model::image::{table_at, CONTROL};
 use model::images::disturb;
 use model::kinds::KINDS;
-use model::lists::{List, Lists, HISTORIES};
+use model::lists::{List, Lists, Step, HISTORIES};
 use model::plain::{Expected, Plain};
+use model::random::Random;
 use model::rail_situations::{rail_situations, OVER_OLD};
 use model::sites::members;
 use model::tally::OPERATIONS;
@@ -78,6 +81,10 @@ struct ListRun {
 
 impl ListRun {
     fn new(run: &mut Run, list: List) -> ListRun {
+        if let Some(older) = &list.older {
+            let mut random = Random::new(run.calls as u64);
+            conversions::check_left(run, &mut random, older, list.image());
+        }
         let mut pair = Pair::default();
         pair.load(list.image(), run.random.below(ALIGNMENTS));
         if let Some(plain) = &list.plain {
@@ -89,23 +96,42 @@ impl ListRun {
     fn run(&mut self, run: &mut Run, move_lists: &mut MoveLists, most: usize) {
         let name = list_name(self.list.name, self.list.from_older());
         for _ in 0..self.list.calls.min(most) {
-            let bytes = self.list.next_command();
+            let step = self.list.next_step();
             self.disturb(run);
             run.cases.add(&name);
-            let Some(call) = read_command(&bytes) else {
-                run.perform(&mut self.pair, &Request::Command(&bytes));
-                continue;
-            };
-            let wide = matches!(call, Call::Move { block: 256.., .. });
-            let by_bytes = wide || run.random.chance(300);
-            let request = if by_bytes { Request::Command(&bytes) } else { Request::Call(call) };
-            let before = self.pair.image().to_vec();
-            let outcome = run.perform(&mut self.pair, &request);
-            count_situations(run, &before, &call, &outcome);
-            self.compare_with_plain(run, &request, &call, &outcome);
+            match step {
+                Step::Command(bytes) => self.command(run, &bytes),
+                Step::Table(lines) => self.table(run, &lines),
+            }
             if self.list.plain.is_some() && move_lists.chance(MOVES_LISTED) {
                 move_lists.check(run, Origin::Reached, self.pair.archive_image());
             }
+        }
+    }
+
+    fn command(&mut self, run: &mut Run, bytes: &[u8; COMMAND_BYTES]) {
+        let Some(call) = read_command(bytes) else {
+            run.perform(&mut self.pair, &Request::Command(bytes));
+            return;
+        };
+        let wide = matches!(call, Call::Move { block: 256.., .. });
+        let by_bytes = wide || run.random.chance(300);
+        let request = if by_bytes { Request::Command(bytes) } else { Request::Call(call) };
+        let before = self.pair.image().to_vec();
+        let outcome = run.perform(&mut self.pair, &request);
+        count_situations(run, &before, &call, &outcome);
+        self.compare_with_plain(run, &request, &call, &outcome);
+    }
+
+    fn table(&mut self, run: &mut Run, lines: &[u8]) {
+        let before = self.pair.image().to_vec();
+        let request = Request::Table(lines);
+        let outcome = run.perform(&mut self.pair, &request);
+        tables::count(run, tables::IN_LIST, &before, lines, &outcome.answer);
+        let Some(answer) = self.list.expect_table(lines) else { return };
+        let same = self.list.plain.as_ref().is_some_and(|plain| same_cards(plain, self.pair.archive_image()));
+        if outcome.code != code(answer) || !same {
+            run.report(&request, &format!("the plain list expects {answer}; same cards: {same}; {outcome}"));
         }
     }
 
@@ -140,7 +166,7 @@ impl ListRun {
     }
 }
 
-/// What is special about 65,535, in a store with old placements, and about a state.
+/// What is special about 65,535, in a store with old placements or with tables, and about a state.
 fn count_situations(run: &mut Run, before: &[u8], call: &Call, outcome: &Outcome) {
     broken_wire::count(run, broken_wire::IN_LIST, before, call, &outcome.answer);
     let in_range = call.in_range(Edition::Today);
@@ -148,6 +174,7 @@ fn count_situations(run: &mut Run, before: &[u8], call: &Call, outcome: &Outcome
     for name in rail_situations(&control, call, &outcome.answer) {
         run.cases.add(&name);
     }
+    tables::count_call(run, &control, call, &outcome.answer);
     protection::count(run, IN_LIST, &control, call, &outcome.answer);
 }
 
@@ -165,14 +192,10 @@ fn count_plain(run: &mut Run, operation: usize, call: &Call, outcome: &Outcome, 
     }
 }
 
-/// Working, failed and active, with the marks, are there as the plain list has them.
+/// Working, failed and active, with the marks and what is kept, are there as the plain list has them.
 fn same_cards(plain: &Plain, image: &[u8]) -> bool {
-    let mut wanted = [0; 8];
-    wanted[0] = (plain.active.len() as u8) << 4;
-    for (place, placement) in plain.active.iter().enumerate() {
-        wanted[1 + place] = placement.mask;
-        wanted[7] |= if placement.marked { 0x80 >> place } else { 0 };
-    }
-    (wanted[5], wanted[6]) = (plain.working, plain.failed);
-    image[..8] == wanted
+    let (placements, working, failed) = (plain.active.clone(), plain.working, plain.failed);
+    let wanted = Control { stopped: false, placements, working, failed, homes: NO_HOMES }.form();
+    let found = form_of(image);
+    found[..8] == wanted[..8] && found[CONTROL..] == wanted[CONTROL..]
 }

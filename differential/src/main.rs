@@ -1,17 +1,20 @@
-//! differential SEED CALLS: half of the calls on single images, half in long lists; then move lists.
+//! differential SEED CALLS: half of the calls on single images, half in long lists; then move lists and conversions.
 //! differential move-lists SEED IMAGES: move lists on so many images alone.
 //! Exit 1 on a difference, or if a run that is long enough misses a class of cases.
 
 use differential::run::Run;
-use differential::{broken_wire, lists, move_lists, protection, questions, single};
+use differential::{broken_wire, conversions, lists, move_lists, protection, questions, single, tables};
 use std::process::exit;
 use std::time::Instant;
 
 /// A run of fewer calls need not meet every class.
-const CALLS_FOR_ALL_CLASSES: usize = 200_000;
+const CALLS_FOR_ALL_CLASSES: usize = 400_000;
 
 /// An image for the move list after so many calls.
 const CALLS_BY_IMAGE: usize = 250;
+
+/// A conversion after so many calls.
+const CALLS_BY_CONVERSION: usize = 200;
 
 const IMAGES_FOR_ALL_CLASSES: usize = CALLS_FOR_ALL_CLASSES / CALLS_BY_IMAGE;
 
@@ -23,15 +26,19 @@ fn run_all(run: &mut Run, calls: usize) -> Vec<String> {
     lists::run(run, calls - calls / 2);
     let last = Instant::now();
     move_lists::run(run, calls / CALLS_BY_IMAGE);
+    let images = last.elapsed().as_secs_f64();
+    conversions::run(run, calls / CALLS_BY_CONVERSION);
     run.cases.print();
     let (single, lists) = ((middle - start).as_secs_f64(), (last - middle).as_secs_f64());
-    let images = last.elapsed().as_secs_f64();
     println!("seed {}: {} calls, {single:.1} s single, {lists:.1} s lists", run.seed, run.calls);
     println!("{} questions on images that requests left", run.questions);
     println!("{} move lists in lists and on {} images, {images:.1} s on images", run.lists, calls / CALLS_BY_IMAGE);
+    println!("{} conversions", run.conversions);
     let named = [
         single::argument_classes(),
         lists::classes(),
+        tables::classes(),
+        conversions::classes(),
         protection::classes(),
         broken_wire::classes(),
         questions::classes(),

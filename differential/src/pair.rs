@@ -1,8 +1,10 @@
 //! Two images of the same bytes, one lent to the archive and one to the model.
 
 use crate::archive::{self, NUMBER_RANGE};
+use crate::cases::TABLE_ENTRY;
 use model::commands::Fields;
 use model::move_list::{move_list, ListAnswer, Move};
+use model::table::place_by_table;
 use model::{listing, perform, Answer, Call};
 use std::fmt;
 use std::ops::Range;
@@ -19,14 +21,17 @@ pub const ALIGNMENTS: usize = 16;
 pub enum Request<'a> {
     Call(Call),
     Command(&'a [u8]),
+    /// A placing by the lines in these bytes.
+    Table(&'a [u8]),
 }
 
 impl Request<'_> {
-    /// The number of the operation; 15 for bytes that name none.
+    /// The number of the operation; 15 for bytes that name none, and one more for a placing by table.
     pub fn operation(&self) -> usize {
         match self {
             Request::Call(call) => Fields::of(call).operation as usize,
             Request::Command(bytes) => bytes.first().map_or(15, |byte| byte >> 4) as usize,
+            Request::Table(_) => TABLE_ENTRY,
         }
     }
 }
@@ -83,6 +88,15 @@ impl<A: fmt::Display> fmt::Display for Outcome<A> {
     }
 }
 
+/// The archive's answer to lines that begin at this alignment. It leaves them as lent.
+fn place_lent(image: &mut [u8], lines: &[u8], alignment: usize) -> u32 {
+    let mut lent = vec![GUARD_BYTE; alignment];
+    lent.extend(lines);
+    let code = archive::place_by_table(image, &lent[alignment..]);
+    assert_eq!(lent[alignment..], *lines, "the archive changed the lines");
+    code
+}
+
 #[derive(Default)]
 pub struct Pair {
     archive: Vec<u8>,
@@ -128,6 +142,9 @@ impl Pair {
         let (code, answer) = match request {
             Request::Call(call) => (archive::perform(archive, call), perform(model, call)),
             Request::Command(bytes) => (archive::perform_command(archive, bytes), listing::answer(model, bytes)),
+            Request::Table(lines) => {
+                (place_lent(archive, lines, self.image.start % ALIGNMENTS), place_by_table(model, lines))
+            }
         };
         Outcome { code, answer, wanted: archive::code(answer), byte: self.different_byte() }
     }

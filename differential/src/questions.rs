@@ -3,8 +3,11 @@
 use crate::archive;
 use crate::run::Run;
 use model::commands::{Fields, COMMAND_BYTES};
+use model::control::Control;
+use model::image::LENGTH;
 use model::queries::{ask, Query, Told};
 use model::random::Random;
+use model::sites::Placement;
 
 /// Of a thousand requests, so many are followed by a question on the image that they left.
 const ASKED: usize = 250;
@@ -29,12 +32,16 @@ const TOLD: [&[&str]; 9] = [
     &["0", "number", "refused 1", "refused 2", "refused 3", "refused 4", "refused 5", "refused 7"],
 ];
 
+/// What is told on an image with a table.
+const WITH_TABLE: &str = "anything, a table is active";
+
 const WRITING: [&str; 4] = ["fields written", "fields refused", "fields read", "bytes refused"];
 
 /// Classes that a run must meet.
 pub fn classes() -> Vec<String> {
     let told = NAMES.iter().zip(TOLD).flat_map(|(name, all)| all.iter().map(move |told| class(name, told)));
-    told.chain(WRITING.map(String::from)).collect()
+    let with_table = NAMES.iter().map(|name| class(name, WITH_TABLE));
+    told.chain(with_table).chain(WRITING.map(String::from)).collect()
 }
 
 fn class(name: &str, told: &str) -> String {
@@ -82,12 +89,20 @@ fn random_query(random: &mut Random) -> (usize, Query) {
     (which, query)
 }
 
+fn has_table(image: &[u8]) -> bool {
+    let control = (image.len() == LENGTH).then(|| Control::read(image)).flatten();
+    control.is_some_and(|control| control.placements.iter().any(Placement::is_by_table))
+}
+
 /// A question on the image that a request left.
 fn check_told(run: &mut Run, image: &[u8]) {
     let (which, query) = random_query(&mut run.random);
     let (code, told) = (archive::ask(image, query), ask(image, query));
     run.questions += 1;
     run.cases.add(&class(NAMES[which], &told_name(told)));
+    if !matches!(told, Told::Refused(_)) && has_table(image) {
+        run.cases.add(&class(NAMES[which], WITH_TABLE));
+    }
     if code != archive::told_code(told) {
         run.report(&query, &format!("the archive tells {code:#X}, the model {told}"));
     }

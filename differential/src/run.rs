@@ -19,6 +19,8 @@ pub struct Run {
     pub lists: usize,
     /// Questions so far.
     pub questions: usize,
+    /// Conversions so far.
+    pub conversions: usize,
     pub differences: usize,
 }
 
@@ -31,6 +33,7 @@ impl Run {
             calls: 0,
             lists: 0,
             questions: 0,
+            conversions: 0,
             differences: 0,
         }
     }

@@ -6,16 +6,26 @@ use crate::pair::{Pair, Request, ALIGNMENTS};
 use crate::protection::{self, SINGLE};
 use crate::requests::{command_class, command_classes, random_command, Requests, RECORD_ENDS, VALUE_ENDS};
 use crate::run::Run;
+use crate::tables;
 use model::clauses::{broken, broken_control, Clause, CLAUSES};
-use model::control::Control;
-use model::image::{CONTROL, LENGTH};
+use model::control::{form_of, put_form, Control};
+use model::image::{CONTROL, KEPT, LENGTH, OLDER_LENGTH};
 use model::images::{random_tables, whole_control};
 use model::random::Random;
+use model::sites::Placement;
+use model::table_situations::has_all_kinds;
+use model::tables::random_table;
 use model::{Answer, Call};
 
 const CALLS_ON_AN_IMAGE: usize = 64;
 
-const LENGTHS: [usize; 7] = [0, 1, 31, 32, LENGTH - 1, LENGTH + 1, 2 * LENGTH];
+const LENGTHS: [usize; 8] = [0, 1, 31, 32, OLDER_LENGTH, LENGTH - 1, LENGTH + 1, 2 * LENGTH];
+
+/// Of a thousand requests on an image, so many are placings by table.
+const BY_TABLE: usize = 80;
+
+/// Of a thousand tables, so many have a fault.
+const FAULTY_TABLES: usize = 600;
 
 /// How an image is made.
 #[derive(Clone, Copy)]
@@ -25,13 +35,24 @@ enum Making {
     Length(usize),
     AnyLength,
     AllRandom,
+    /// Any bytes behind the tables of a good image.
+    KeptRandom,
+    /// A few bits behind the tables of a good image are other ones.
+    KeptChanged,
 }
 
 const RUNNING_WITH_FAILED: &str = "running, a placement with a failed card";
 const RUNNING_WITH_OPEN: &str = "running, open transactions";
-const RUNNING_OLD: &str = "running, all active marked 0";
-const RUNNING_MARKED: &str = "running, all active marked 1";
-const RUNNING_BOTH: &str = "running, active of both marks";
+const RUNNING_OLD: &str = "running, all active by the old choice";
+const RUNNING_RAILS: &str = "running, all active by rails";
+const RUNNING_TABLES: &str = "running, all active by table";
+const RUNNING_TWO_KINDS: &str = "running, active of two kinds";
+const RUNNING_ALL_KINDS: &str = "running, active of all three kinds";
+const FOUR_OF_ALL_KINDS: &str = "running, four active of all three kinds";
+const STOPPED_TABLE: &str = "stopped, a table active";
+const KEPT_RANDOM: &str = "any bytes behind the tables";
+const KEPT_BROKEN: &str = "bits changed behind the tables, form broken";
+const KEPT_WHOLE: &str = "bits changed behind the tables, form whole";
 const ANOTHER_LENGTH: &str = "another length";
 const ALL_RANDOM: &str = "all contents random";
 const MALFORMED_BEFORE_1: &str = "malformed command on a wrong length";
@@ -42,7 +63,7 @@ fn makings() -> Vec<Making> {
     let mut all: Vec<Making> = (1..=4).map(|number| Making::Whole { number, stopped: true }).collect();
     all.extend(CLAUSES.map(Making::Broken));
     all.extend(LENGTHS.map(Making::Length));
-    all.extend([Making::AnyLength, Making::AllRandom]);
+    all.extend([Making::AnyLength, Making::AllRandom, Making::KeptRandom, Making::KeptChanged]);
     all
 }
 
@@ -54,7 +75,8 @@ fn active_name(number: usize, stopped: bool) -> String {
 pub fn image_classes() -> Vec<String> {
     let mut all: Vec<String> = (1..=4).flat_map(|n| [active_name(n, false), active_name(n, true)]).collect();
     all.extend([RUNNING_WITH_FAILED, RUNNING_WITH_OPEN, ANOTHER_LENGTH, ALL_RANDOM].map(String::from));
-    all.extend([RUNNING_OLD, RUNNING_MARKED, RUNNING_BOTH].map(String::from));
+    all.extend([RUNNING_OLD, RUNNING_RAILS, RUNNING_TABLES, RUNNING_TWO_KINDS, RUNNING_ALL_KINDS].map(String::from));
+    all.extend([FOUR_OF_ALL_KINDS, STOPPED_TABLE, KEPT_RANDOM, KEPT_BROKEN, KEPT_WHOLE].map(String::from));
     all.extend(CLAUSES.map(|clause| format!("{clause:?} broken alone")));
     all.extend(LENGTHS.map(|length| format!("length {length}")));
     all
@@ -69,11 +91,13 @@ pub fn argument_classes() -> Vec<String> {
 }
 
 fn kind_name(control: &Control) -> &'static str {
-    let marked = control.placements.iter().filter(|placement| placement.marked).count();
-    match marked {
-        0 => RUNNING_OLD,
-        _ if marked == control.placements.len() => RUNNING_MARKED,
-        _ => RUNNING_BOTH,
+    let all = |kind: fn(&Placement) -> bool| control.placements.iter().all(kind);
+    match control.placements.len() {
+        _ if all(Placement::is_chained) => RUNNING_OLD,
+        _ if all(Placement::is_by_rails) => RUNNING_RAILS,
+        _ if all(Placement::is_by_table) => RUNNING_TABLES,
+        _ if has_all_kinds(control) => RUNNING_ALL_KINDS,
+        _ => RUNNING_TWO_KINDS,
     }
 }
 
@@ -84,19 +108,29 @@ fn classes(image: &[u8], making: Making) -> Vec<String> {
         return vec![if named { format!("length {}", image.len()) } else { ANOTHER_LENGTH.into() }];
     }
     let mut found = Vec::new();
-    if let Making::AllRandom = making {
-        found.push(ALL_RANDOM.into());
+    match making {
+        Making::AllRandom => found.push(ALL_RANDOM.into()),
+        Making::KeptRandom => found.push(KEPT_RANDOM.into()),
+        Making::KeptChanged if Control::read(image).is_none() => found.push(KEPT_BROKEN.into()),
+        Making::KeptChanged => found.push(KEPT_WHOLE.into()),
+        _ => {}
     }
-    if let [clause] = broken(&image[..CONTROL])[..] {
+    if let [clause] = broken(&form_of(image))[..] {
         found.push(format!("{clause:?} broken alone"));
     }
     let Some(control) = Control::read(image) else { return found };
     found.push(active_name(control.placements.len(), control.stopped));
     if !control.stopped {
         found.push(kind_name(&control).into());
+        if control.placements.len() == 4 && has_all_kinds(&control) {
+            found.push(FOUR_OF_ALL_KINDS.into());
+        }
         if control.placements.iter().any(|placement| placement.mask & control.failed != 0) {
             found.push(RUNNING_WITH_FAILED.into());
         }
+    }
+    if control.stopped && control.placements.iter().any(Placement::is_by_table) {
+        found.push(STOPPED_TABLE.into());
     }
     if !control.open().is_empty() {
         found.push(RUNNING_WITH_OPEN.into());
@@ -112,15 +146,27 @@ fn make(random: &mut Random, making: Making) -> Vec<u8> {
         _ => whole_control(random, number, false),
     };
     let mut image = vec![0; LENGTH];
-    image[..CONTROL].copy_from_slice(&control);
+    put_form(&mut image, &control);
     random_tables(random, &mut image);
     match making {
         Making::Length(length) => image.resize(length, 0xFF),
         Making::AnyLength => image.resize(random.below(3 * LENGTH), 0xFF),
         Making::AllRandom => random.fill(&mut image),
+        Making::KeptRandom => random.fill(&mut image[KEPT]),
+        Making::KeptChanged => change_kept(random, &mut image),
         Making::Whole { .. } | Making::Broken(_) => {}
     }
     image
+}
+
+/// One bit or two, most often where a table is kept.
+fn change_kept(random: &mut Random, image: &mut [u8]) {
+    let kept: Vec<usize> = KEPT.filter(|at| image[*at] != 0).collect();
+    for _ in 0..1 + random.below(2) {
+        let any = KEPT.start + random.below(KEPT.len());
+        let at = if random.chance(900) { random.any_of(&kept).unwrap_or(any) } else { any };
+        image[at] ^= 1 << random.below(8);
+    }
 }
 
 /// Calls on one image, which takes its first contents again after each that changed it.
@@ -134,6 +180,13 @@ fn calls_on(run: &mut Run, pair: &mut Pair, requests: &mut Requests, image: &[u8
             let outcome = run.perform(pair, &Request::Command(&bytes));
             count_command(run, image, &bytes, outcome.answer);
             entries[COMMAND_ENTRY] += 1;
+        } else if run.random.chance(BY_TABLE) {
+            let working = image.get(5).copied().unwrap_or(0xFF);
+            let lines = random_table(&mut run.random, working, FAULTY_TABLES);
+            let request = Request::Table(&lines);
+            let outcome = run.perform(pair, &request);
+            tables::count(run, tables::SINGLE, image, &lines, &outcome.answer);
+            entries[request.operation()] += 1;
         } else {
             let call = requests.call(&mut run.random);
             let request = Request::Call(call);
@@ -216,7 +269,7 @@ pub fn run(run: &mut Run, calls: usize) {
 
 /// The form as read by the model is that of the clauses one by one.
 fn check_clauses(run: &mut Run, image: &[u8]) {
-    if image.len() == LENGTH && broken(&image[..CONTROL]).is_empty() != Control::read(image).is_some() {
+    if image.len() == LENGTH && broken(&form_of(image)).is_empty() != Control::read(image).is_some() {
         let what = format!("the clauses of {:02X?} are not the model's form", &image[..CONTROL]);
         run.report(&Request::Call(Call::State), &what);
     }

@@ -1,17 +1,23 @@
 /* listing [IMAGE]: runs the commands on standard input and prints their listing. They go on from the
- * image in the file, or begin with zeros. */
+ * image in the file, or begin with zeros. An image that versions before 2.0 left is converted first. */
 #include <nolpigat.h>
 #include <stdio.h>
+#include <string.h>
 
-/* The file's bytes become the image. 0 if they are not as many. */
+/* The file's bytes become the image. 0 if they are neither one of this version nor an older one. */
 static int read_image(const char *name, uint8_t *image) {
+    static uint8_t bytes[NOLPIGAT_IMAGE_SIZE + 1];
     FILE *file = fopen(name, "rb");
-    int whole;
+    size_t length;
     if (!file)
         return 0;
-    whole = fread(image, NOLPIGAT_IMAGE_SIZE, 1, file) == 1 && fgetc(file) == EOF;
+    length = fread(bytes, 1, sizeof bytes, file);
     fclose(file);
-    return whole;
+    if (length == NOLPIGAT_IMAGE_SIZE) {
+        memcpy(image, bytes, length);
+        return 1;
+    }
+    return nolpigat_kind(nolpigat_convert(bytes, length, image, NOLPIGAT_IMAGE_SIZE)) == NOLPIGAT_KIND_WRITTEN;
 }
 
 int main(int argc, char **argv) {
@@ -22,7 +28,8 @@ int main(int argc, char **argv) {
     unsigned long number = 0;
 
     if (argc > 2 || (argc == 2 && !read_image(argv[1], image))) {
-        fprintf(stderr, "usage: listing [IMAGE]; an image has %d bytes\n", NOLPIGAT_IMAGE_SIZE);
+        fprintf(stderr, "usage: listing [IMAGE]; an image has %d bytes, an older one %d\n", NOLPIGAT_IMAGE_SIZE,
+                NOLPIGAT_OLDER_IMAGE_SIZE);
         return 2;
     }
     /* The last read may give one to four bytes, which the store refuses with 15. */

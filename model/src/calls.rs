@@ -18,6 +18,8 @@ pub enum Answer {
     Protected,
     Unprotected,
     Load(u16),
+    /// How many bytes of a lent buffer were written.
+    Written(u16),
     Refused(u8),
 }
 
@@ -127,7 +129,7 @@ pub fn perform(image: &mut [u8], call: &Call) -> Answer {
 
 /// Runs one call by the rules of the edition.
 pub fn perform_by(edition: Edition, image: &mut [u8], call: &Call) -> Answer {
-    if image.len() != LENGTH {
+    if image.len() != edition.length() {
         return Answer::Refused(1);
     }
     if let Call::Start { mask } = *call {

@@ -1,9 +1,10 @@
-//! The clauses of the control form by name, and control parts that break one of them alone.
+//! The clauses of the control form by name, and forms that break one of them alone.
 
-use crate::control::{bit, count, has};
-use crate::image::CONTROL;
+use crate::control::{bit, count, has, kept, rail_mark, table_mark, Form, FORM};
+use crate::image::{CONTROL, MOST_ACTIVE};
 use crate::images::whole_control;
 use crate::random::Random;
+use crate::sites::unpack_pairs;
 use std::ops::Range;
 use Clause::*;
 
@@ -14,7 +15,12 @@ pub enum Clause {
     FirstByteZeros,
     UnusedMask,
     MarkBeyondCount,
-    SeventhByteZeros,
+    TableMarkBeyondCount,
+    BothMarks,
+    PairOfEqualCards,
+    PairNotOfMembers,
+    KeptWithoutTable,
+    KeptBeyondCount,
     OpenTransactionZeros,
     ClosedTransaction,
     LastBytes,
@@ -32,15 +38,15 @@ pub enum Clause {
     StoppedAndOpen,
 }
 
-pub const CLAUSES: [Clause; 21] = [
-    CountZero, CountOverFour, FirstByteZeros, UnusedMask, MarkBeyondCount, SeventhByteZeros, OpenTransactionZeros,
-    ClosedTransaction, LastBytes, WorkingAndFailed, FewMembers, MemberUnknown, ThirdLacksMember, ThirdIsFourth,
-    ThirdHasSeveralMore, ThirdHasWorkingMore, NewestMemberIdle, TwoFailed, FewWorking, HomeNotWorking,
-    StoppedAndOpen,
+pub const CLAUSES: [Clause; 26] = [
+    CountZero, CountOverFour, FirstByteZeros, UnusedMask, MarkBeyondCount, TableMarkBeyondCount, BothMarks,
+    PairOfEqualCards, PairNotOfMembers, KeptWithoutTable, KeptBeyondCount, OpenTransactionZeros, ClosedTransaction,
+    LastBytes, WorkingAndFailed, FewMembers, MemberUnknown, ThirdLacksMember, ThirdIsFourth, ThirdHasSeveralMore,
+    ThirdHasWorkingMore, NewestMemberIdle, TwoFailed, FewWorking, HomeNotWorking, StoppedAndOpen,
 ];
 
-/// The clauses that a control part breaks. Clauses on placements speak of those that there are.
-pub fn broken(bytes: &[u8]) -> Vec<Clause> {
+/// The clauses that the bytes break. Clauses on placements speak of those that there are.
+pub fn broken(bytes: &Form) -> Vec<Clause> {
     let number = (bytes[0] >> 4 & 7) as usize;
     let (active, unused) = bytes[1..5].split_at(number.min(4));
     let mut found = Vec::new();
@@ -49,8 +55,6 @@ pub fn broken(bytes: &[u8]) -> Vec<Clause> {
     add(CountOverFour, number > 4);
     add(FirstByteZeros, bytes[0] & 0x0F != 0);
     add(UnusedMask, unused.iter().any(|mask| *mask != 0));
-    add(MarkBeyondCount, (active.len()..4).any(|place| has(bytes[7], place)));
-    add(SeventhByteZeros, bytes[7] & 0x0F != 0);
     let transactions = &bytes[8..23];
     add(OpenTransactionZeros, transactions.iter().any(|byte| byte & 0x80 != 0 && byte & 0x0F != 0));
     add(ClosedTransaction, transactions.iter().any(|byte| byte & 0x80 == 0 && *byte != 0));
@@ -59,10 +63,37 @@ pub fn broken(bytes: &[u8]) -> Vec<Clause> {
     add(WorkingAndFailed, working & failed != 0);
     add(FewMembers, active.iter().any(|mask| count(*mask) < 2));
     add(MemberUnknown, active.iter().any(|mask| mask & !(working | failed) != 0));
+    found.extend(faults_of_tables(bytes, active));
     if number == 4 {
         found.extend(fault_of_third(active[2], active[3], failed));
     }
     found.extend(faults_of_state(bytes[0] & 0x80 != 0, active, working, failed, transactions));
+    found
+}
+
+/// What is wrong with the marks, and with what is kept for placements.
+fn faults_of_tables(bytes: &Form, active: &[u8]) -> Vec<Clause> {
+    let mut faults = Vec::new();
+    for place in 0..MOST_ACTIVE {
+        let (rails, table) = (bytes[7] & rail_mark(place) != 0, bytes[7] & table_mark(place) != 0);
+        let keeps = kept(bytes, place).iter().any(|byte| *byte != 0);
+        let Some(mask) = active.get(place) else {
+            let beyond = [(MarkBeyondCount, rails), (TableMarkBeyondCount, table), (KeptBeyondCount, keeps)];
+            faults.extend(beyond);
+            continue;
+        };
+        let pairs = unpack_pairs(kept(bytes, place));
+        let outside = |pair: &[u8; 2]| pair.iter().any(|card| !has(*mask, (*card).into()));
+        faults.extend([
+            (BothMarks, rails && table),
+            (KeptWithoutTable, !table && keeps),
+            (PairOfEqualCards, table && pairs.iter().any(|pair| pair[0] == pair[1])),
+            (PairNotOfMembers, table && pairs.iter().any(outside)),
+        ]);
+    }
+    let mut found: Vec<Clause> = faults.into_iter().filter(|(_, holds)| *holds).map(|(clause, _)| clause).collect();
+    found.sort();
+    found.dedup();
     found
 }
 
@@ -99,15 +130,16 @@ fn bytes_of(clause: Clause) -> Range<usize> {
     match clause {
         CountZero | CountOverFour | FirstByteZeros => 0..1,
         UnusedMask => 1..5,
-        MarkBeyondCount | SeventhByteZeros => 7..8,
+        MarkBeyondCount | TableMarkBeyondCount | BothMarks => 7..8,
+        PairOfEqualCards | PairNotOfMembers | KeptWithoutTable | KeptBeyondCount => CONTROL..FORM,
         OpenTransactionZeros | ClosedTransaction | HomeNotWorking | StoppedAndOpen => 8..23,
         LastBytes => 23..CONTROL,
         _ => 1..7,
     }
 }
 
-/// A control part that breaks this clause and no other.
-pub fn broken_control(random: &mut Random, clause: Clause) -> [u8; CONTROL] {
+/// The bytes of a form that breaks this clause and no other.
+pub fn broken_control(random: &mut Random, clause: Clause) -> Form {
     loop {
         let number = 1 + random.below(4);
         let stopped = random.chance(500);
@@ -119,6 +151,7 @@ pub fn broken_control(random: &mut Random, clause: Clause) -> [u8; CONTROL] {
         if clause == CountZero {
             bytes[1..5].fill(0);
             bytes[7] = 0;
+            bytes[CONTROL..].fill(0);
         }
         if broken(&bytes) == [clause] {
             return bytes;

@@ -1,8 +1,8 @@
-//! The control part: bytes 0 to 31, and its form.
+//! The control part: bytes 0 to 31, what is kept for placements behind the tables, and their form.
 
 use crate::edition::Edition;
-use crate::image::{CARDS, CONTROL};
-use crate::sites::{members, Placement};
+use crate::image::{CARDS, CONTROL, KEPT, LENGTH, MOST_ACTIVE, OLDER_LENGTH, PAIRS_BYTES};
+use crate::sites::{members, pack_pairs, unpack_pairs, Choice, Placement};
 
 pub const TRANSACTIONS: usize = 15;
 
@@ -10,6 +10,33 @@ pub const TRANSACTIONS: usize = 15;
 pub type Homes = [Option<u8>; TRANSACTIONS + 1];
 
 pub const NO_HOMES: Homes = [None; TRANSACTIONS + 1];
+
+pub const FORM: usize = CONTROL + LENGTH - OLDER_LENGTH;
+
+/// The bytes that the control form speaks of: the control part, and then what is kept behind the tables.
+pub type Form = [u8; FORM];
+
+/// Those of an image; an older one keeps nothing behind its tables.
+pub fn form_of(image: &[u8]) -> Form {
+    let mut form = [0; FORM];
+    form[..CONTROL].copy_from_slice(&image[..CONTROL]);
+    if image.len() == LENGTH {
+        form[CONTROL..].copy_from_slice(&image[KEPT]);
+    }
+    form
+}
+
+pub fn put_form(image: &mut [u8], form: &Form) {
+    image[..CONTROL].copy_from_slice(&form[..CONTROL]);
+    if image.len() == LENGTH {
+        image[KEPT].copy_from_slice(&form[CONTROL..]);
+    }
+}
+
+/// What is kept for the placement at this place, oldest first.
+pub fn kept(form: &Form, place: usize) -> &[u8] {
+    &form[CONTROL + place * PAIRS_BYTES..][..PAIRS_BYTES]
+}
 
 #[derive(Clone, Debug, PartialEq, Eq)]
 pub struct Control {
@@ -34,9 +61,40 @@ pub fn count(mask: u8) -> usize {
     (0..CARDS).filter(|card| has(mask, *card)).count()
 }
 
-/// The mark of the active placement at this place, oldest first.
-fn mark_bit(place: usize) -> u8 {
+/// The mark of a placement by rails at this place, oldest first.
+pub fn rail_mark(place: usize) -> u8 {
     0x80 >> place
+}
+
+/// The mark of a placement by table at this place, oldest first.
+pub fn table_mark(place: usize) -> u8 {
+    0x08 >> place
+}
+
+/// The active placements; None where a mark or what is kept is not as it is to be.
+fn read_placements(form: &Form, number: usize) -> Option<Vec<Placement>> {
+    let mut placements = Vec::new();
+    for place in 0..MOST_ACTIVE {
+        let (mask, kept) = (form[1 + place], kept(form, place));
+        let marks = (form[7] & rail_mark(place) != 0, form[7] & table_mark(place) != 0);
+        let choice = match marks {
+            (true, true) => return None,
+            (false, true) => Choice::Table(unpack_pairs(kept)),
+            _ if kept.iter().any(|byte| *byte != 0) => return None,
+            (true, false) => Choice::Rails,
+            (false, false) => Choice::Chained,
+        };
+        if let Choice::Table(pairs) = choice {
+            let good = |pair: &[u8; 2]| pair[0] != pair[1] && pair.iter().all(|card| has(mask, *card as usize));
+            if !pairs.iter().all(good) {
+                return None;
+            }
+        }
+        if place < number {
+            placements.push(Placement { mask, choice });
+        }
+    }
+    Some(placements)
 }
 
 /// None when a field is not zero that is to be.
@@ -64,11 +122,15 @@ impl Control {
     }
 
     /// By today's form; None when it is broken.
-    pub fn read(bytes: &[u8]) -> Option<Control> {
-        Control::read_by(Edition::Today, bytes)
+    pub fn read(image: &[u8]) -> Option<Control> {
+        Control::read_by(Edition::Today, image)
     }
 
-    pub fn read_by(edition: Edition, bytes: &[u8]) -> Option<Control> {
+    pub fn read_by(edition: Edition, image: &[u8]) -> Option<Control> {
+        Control::of_form(edition, &form_of(image))
+    }
+
+    pub fn of_form(edition: Edition, bytes: &Form) -> Option<Control> {
         let number = (bytes[0] >> 4 & 7) as usize;
         if !(1..=4).contains(&number) {
             return None;
@@ -82,10 +144,9 @@ impl Control {
         if bytes[1 + number..5].iter().any(|b| *b != 0) {
             return None;
         }
-        let placement = |place: usize| Placement { mask: bytes[1 + place], marked: bytes[7] & mark_bit(place) != 0 };
         let control = Control {
             stopped: bytes[0] & 0x80 != 0,
-            placements: (0..number).map(placement).collect(),
+            placements: read_placements(bytes, number)?,
             working: bytes[5],
             failed: bytes[6],
             homes: read_homes(bytes)?,
@@ -136,13 +197,22 @@ impl Control {
         !members(self.working).into_iter().any(|card| self.stops_without(card))
     }
 
-    pub fn write(&self, bytes: &mut [u8]) {
-        bytes[..CONTROL].fill(0);
+    pub fn write(&self, image: &mut [u8]) {
+        put_form(image, &self.form());
+    }
+
+    pub fn form(&self) -> Form {
+        let mut bytes = [0; FORM];
         bytes[0] = (self.stopped as u8) << 7 | (self.placements.len() as u8) << 4;
         for (place, placement) in self.placements.iter().enumerate() {
             bytes[1 + place] = placement.mask;
-            if placement.marked {
-                bytes[7] |= mark_bit(place);
+            match placement.choice {
+                Choice::Chained => {}
+                Choice::Rails => bytes[7] |= rail_mark(place),
+                Choice::Table(pairs) => {
+                    bytes[7] |= table_mark(place);
+                    bytes[CONTROL + place * PAIRS_BYTES..][..PAIRS_BYTES].copy_from_slice(&pack_pairs(&pairs));
+                }
             }
         }
         bytes[5] = self.working;
@@ -152,6 +222,7 @@ impl Control {
                 bytes[7 + transaction] = 0x80 | home << 4;
             }
         }
+        bytes
     }
 
     /// The card no longer works and is marked failed.

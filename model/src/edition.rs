@@ -1,6 +1,7 @@
 //! Which rules are in force. Those of earlier deliveries are here to make older images by their own calls.
 
 use crate::control::Control;
+use crate::image::{LENGTH, OLDER_LENGTH};
 use crate::sites::Placement;
 
 /// The value that feeder drives read as a broken wire.
@@ -16,43 +17,50 @@ pub enum Edition {
     /// fifteen calls.
     Rails,
     /// As `Rails`, with A.5: 65,535 is outside the range of a value to store.
+    BelowWire,
+    /// As `BelowWire`, with A.6: the image is longer, and a placement can have its sites from a plant's table.
     Today,
 }
 
 impl Edition {
     /// The earlier editions by name.
-    pub const NAMES: [(&'static str, Edition); 2] = [("base", Edition::Base), ("rails", Edition::Rails)];
+    pub const NAMES: [(&'static str, Edition); 3] =
+        [("base", Edition::Base), ("rails", Edition::Rails), ("below-wire", Edition::BelowWire)];
 
     pub fn named(name: &str) -> Option<Edition> {
         Edition::NAMES.iter().find(|(known, _)| *known == name).map(|(_, edition)| *edition)
     }
 
+    /// The length of an image.
+    pub fn length(self) -> usize {
+        if self == Edition::Today { LENGTH } else { OLDER_LENGTH }
+    }
+
     /// The placement that start, place and fail write.
     pub fn placement(self, mask: u8) -> Placement {
-        Placement { mask, marked: self != Edition::Base }
+        if self == Edition::Base { Placement::chained(mask) } else { Placement::by_rails(mask) }
     }
 
     /// The bits that byte 7 can have with this many active placements.
     pub fn marks(self, active: usize) -> u8 {
+        let rails = !(0xFF >> active);
         match self {
             Edition::Base => 0,
-            Edition::Rails | Edition::Today => !(0xFF >> active),
+            Edition::Rails | Edition::BelowWire => rails,
+            Edition::Today => rails | rails >> 4,
         }
     }
 
     /// Place refuses the mask of this newest placement.
     pub fn refuses_again(self, newest: Placement) -> bool {
-        match self {
-            Edition::Base => true,
-            Edition::Rails | Edition::Today => newest.marked,
-        }
+        self == Edition::Base || newest.is_by_rails()
     }
 
     /// State says protected of this running store.
     pub fn protected(self, control: &Control) -> bool {
         match self {
             Edition::Base => control.placements.len() == 1,
-            Edition::Rails | Edition::Today => control.protected(),
+            Edition::Rails | Edition::BelowWire | Edition::Today => control.protected(),
         }
     }
 
@@ -60,7 +68,7 @@ impl Edition {
     pub fn stores(self, value: u16) -> bool {
         match self {
             Edition::Base | Edition::Rails => true,
-            Edition::Today => value != BROKEN_WIRE,
+            Edition::BelowWire | Edition::Today => value != BROKEN_WIRE,
         }
     }
 }

@@ -2,7 +2,9 @@
 
 use std::ops::Range;
 
-pub const LENGTH: usize = 21_024;
+pub const LENGTH: usize = 21_216;
+/// The length by the editions before tables of plants: nothing lies behind the card tables.
+pub const OLDER_LENGTH: usize = 21_024;
 pub const CONTROL: usize = 32;
 pub const CARDS: usize = 8;
 pub const BLOCKS: usize = 64;
@@ -11,6 +13,14 @@ pub const RECORDS: usize = BLOCKS * PLACES;
 pub const SLOT_BYTES: usize = 5;
 pub const BLOCK_BYTES: usize = 1 + PLACES * SLOT_BYTES;
 pub const TABLE_BYTES: usize = BLOCKS * BLOCK_BYTES;
+/// Where all card tables lie.
+pub const TABLES: Range<usize> = CONTROL..OLDER_LENGTH;
+/// The most placements that are active.
+pub const MOST_ACTIVE: usize = 4;
+/// What is kept for a placement by table: 6 bits a block.
+pub const PAIRS_BYTES: usize = BLOCKS * 6 / 8;
+/// What is kept for all placements, behind the card tables.
+pub const KEPT: Range<usize> = OLDER_LENGTH..LENGTH;
 
 /// Where a card's table lies.
 pub fn table_at(card: usize) -> Range<usize> {

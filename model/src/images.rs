@@ -1,11 +1,11 @@
 //! Random images and calls, also such as no list of calls reaches.
 
 use crate::calls::{Call, Numbers};
-use crate::control::{bit, Control, NO_HOMES};
-use crate::edition::BROKEN_WIRE;
+use crate::control::{bit, form_of, put_form, Control, Form, FORM, NO_HOMES};
+use crate::edition::{Edition, BROKEN_WIRE};
 use crate::image::*;
 use crate::random::Random;
-use crate::sites::{members, sites, Placement};
+use crate::sites::{members, sites, Choice, Pairs, Placement};
 
 /// An image of the right length; its control form is often whole.
 pub fn random_image(random: &mut Random) -> Vec<u8> {
@@ -40,6 +40,28 @@ fn random_masks(random: &mut Random, number: usize, stopped: bool, working: u8, 
     masks
 }
 
+/// Any of the three kinds; a table needs two members.
+fn random_choice(random: &mut Random, mask: u8) -> Choice {
+    match random.below(3) {
+        0 => Choice::Chained,
+        1 if members(mask).len() > 1 => Choice::Table(random_pairs(random, mask)),
+        _ => Choice::Rails,
+    }
+}
+
+/// Any two different members for each block; now and then few of the members.
+pub fn random_pairs(random: &mut Random, mask: u8) -> Pairs {
+    let mut cards = members(mask);
+    random.shuffle(&mut cards);
+    if random.chance(300) {
+        cards.truncate(2 + random.below(cards.len() - 1));
+    }
+    std::array::from_fn(|_| {
+        random.shuffle(&mut cards);
+        [cards[0] as u8, cards[1] as u8]
+    })
+}
+
 /// A control part whose form is often whole.
 fn random_parts(random: &mut Random, number: usize, stopped: bool) -> Control {
     let mut failed = 0;
@@ -48,8 +70,8 @@ fn random_parts(random: &mut Random, number: usize, stopped: bool) -> Control {
     }
     let working = (random.byte() | random.byte() | random.byte()) & !failed;
     let masks = random_masks(random, number, stopped, working, failed);
-    // Both kinds occur, in any order, as no list of calls leaves them.
-    let placements = masks.into_iter().map(|mask| Placement { mask, marked: random.chance(500) }).collect();
+    // All kinds occur, in any order, as no list of calls leaves them.
+    let placements = masks.into_iter().map(|mask| Placement { mask, choice: random_choice(random, mask) }).collect();
     let mut homes = NO_HOMES;
     for home in &mut homes[1..] {
         if !stopped && working != 0 && random.chance(300) {
@@ -59,13 +81,12 @@ fn random_parts(random: &mut Random, number: usize, stopped: bool) -> Control {
     Control { stopped, placements, working, failed, homes }
 }
 
-/// The bytes of a control part whose form is whole, with this many active placements.
-pub fn whole_control(random: &mut Random, number: usize, stopped: bool) -> [u8; CONTROL] {
+/// The bytes of a form that is whole, with this many active placements.
+pub fn whole_control(random: &mut Random, number: usize, stopped: bool) -> Form {
     loop {
-        let mut bytes = [0; CONTROL];
-        random_parts(random, number, stopped).write(&mut bytes);
-        if Control::read(&bytes).is_some() {
-            return bytes;
+        let form = random_parts(random, number, stopped).form();
+        if Control::of_form(Edition::Today, &form).is_some() {
+            return form;
         }
     }
 }
@@ -75,7 +96,9 @@ fn random_control(random: &mut Random, image: &mut [u8]) {
     let stopped = random.chance(50);
     random_parts(random, number, stopped).write(image);
     if random.chance(30) {
-        image[random.below(CONTROL)] ^= 1 << random.below(8);
+        let mut form = form_of(image);
+        form[random.below(FORM)] ^= 1 << random.below(8);
+        put_form(image, &form);
     }
 }
 
@@ -113,7 +136,7 @@ fn random_slot(random: &mut Random, slot: &mut Slot, locked: usize) {
 
 /// Tables of any bytes, with few held blocks and few locks.
 pub fn random_tables(random: &mut Random, image: &mut [u8]) {
-    random.fill(&mut image[CONTROL..]);
+    random.fill(&mut image[TABLES]);
     let dense = random.one_of(&[20, 200, 500, 1000]);
     let locked = random.one_of(&[0, 20, 300]);
     for card in 0..CARDS {

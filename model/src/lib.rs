@@ -6,6 +6,7 @@ pub mod calls;
 pub mod clauses;
 pub mod commands;
 pub mod control;
+pub mod converter;
 pub mod edition;
 pub mod image;
 pub mod images;
@@ -22,6 +23,9 @@ pub mod rail_situations;
 pub mod random;
 pub mod sites;
 pub mod situations;
+pub mod table;
+pub mod table_situations;
+pub mod tables;
 pub mod tally;
 
 pub use calls::{perform, Answer, Call};

@@ -20,6 +20,7 @@ impl fmt::Display for Answer {
             Answer::Protected => write!(f, "protected"),
             Answer::Unprotected => write!(f, "unprotected"),
             Answer::Load(load) => write!(f, "load {load}"),
+            Answer::Written(bytes) => write!(f, "written {bytes}"),
             Answer::Refused(number) => write!(f, "refused {number}"),
         }
     }

@@ -1,12 +1,13 @@
-//! Lists of calls for demand 3, of every kind by turns. Some go on from an older image.
+//! Lists of calls for demand 3, of every kind by turns, with placings by table. Some go on from an older image.
 
-use crate::calls::Call;
+use crate::calls::{Answer, Call};
 use crate::commands::{read_command, COMMAND_BYTES};
 use crate::control::count;
 use crate::edition::Edition;
 use crate::kinds::{Kind, Maker, KINDS};
 use crate::plain::{Expected, Plain};
 use crate::random::Random;
+use crate::tables::random_table;
 use std::ops::RangeInclusive;
 
 const CALLS_IN_A_LIST: usize = 4_000;
@@ -18,10 +19,16 @@ const CALLS_AIMED_AT_REFUSALS: usize = 500;
 const CALLS_FROM_AN_OLDER_IMAGE: usize = 200;
 
 /// Lists from older images after each from a zero image: about a third of the calls.
-const OLDER_LISTS: usize = 9;
+const OLDER_LISTS: usize = 10;
 
 /// The editions whose calls leave an older image, one after the other.
-pub const HISTORIES: [&[Edition]; 3] = [&[Edition::Base], &[Edition::Rails], &[Edition::Base, Edition::Rails]];
+pub const HISTORIES: [&[Edition]; 5] = [
+    &[Edition::Base],
+    &[Edition::Rails],
+    &[Edition::BelowWire],
+    &[Edition::Base, Edition::Rails],
+    &[Edition::Base, Edition::Rails, Edition::BelowWire],
+];
 
 /// Earlier calls that make an older image, so that records are in use.
 const EARLIER_CALLS: usize = 200;
@@ -31,6 +38,26 @@ const FURTHER_EARLIER_CALLS: usize = 20;
 
 /// Earlier calls until as many placements are active as are wished.
 const MOST_EARLIER_CALLS: usize = 2_000;
+
+/// Of a thousand steps, so many are a placing by table.
+const BY_TABLE: usize = 8;
+
+/// In a list from an older image, which has fewer steps.
+const BY_TABLE_AFTER_OLDER: usize = 40;
+
+/// Before the first start and after a stop, which lists seldom are.
+const BY_TABLE_NOT_RUNNING: usize = 150;
+
+/// Of a thousand tables, so many have a fault.
+const FAULTY_TABLES: usize = 400;
+
+/// What a list asks of the store.
+#[derive(Clone, Debug, PartialEq, Eq)]
+pub enum Step {
+    Command([u8; COMMAND_BYTES]),
+    /// The bytes of the lines of a placing by table.
+    Table(Vec<u8>),
+}
 
 /// A maker of calls, and the plain list that they feed.
 pub struct List {
@@ -42,13 +69,18 @@ pub struct List {
     pub plain: Option<Plain>,
     /// The editions whose calls left the image that the list begins with; none left one of zeros.
     pub history: &'static [Edition],
+    /// That image before it was converted.
+    pub older: Option<Vec<u8>>,
     pub calls: usize,
+    /// Numbers of its own, so that the commands between do not depend on the tables.
+    random: Random,
 }
 
 impl List {
     fn new(edition: Edition, name: &'static str, kind: Kind, seed: u64) -> List {
         let calls = if kind == Kind::Refusals { CALLS_AIMED_AT_REFUSALS } else { CALLS_IN_A_LIST };
-        List { edition, name, maker: Maker::by(edition, kind, seed), plain: None, history: &[], calls }
+        let (maker, random) = (Maker::by(edition, kind, seed), Random::new(!seed));
+        List { edition, name, maker, plain: None, history: &[], older: None, calls, random }
     }
 
     /// Goes on from what calls of earlier editions left after a start, not stopped, most often with this many active.
@@ -65,8 +97,9 @@ impl List {
                 list.make_earlier_call();
             }
         }
+        let older = Some(list.image().to_vec());
         list.go_on_by(Edition::Today);
-        List { history, calls: CALLS_FROM_AN_OLDER_IMAGE, ..list }
+        List { history, older, calls: CALLS_FROM_AN_OLDER_IMAGE, ..list }
     }
 
     /// So many at least, until the store runs, most often with so many active.
@@ -81,7 +114,7 @@ impl List {
     }
 
     fn make_earlier_call(&mut self) {
-        let bytes = self.next_command();
+        let bytes = self.maker.next_command();
         if let Some(call) = read_command(&bytes) {
             self.expect(&call);
         }
@@ -104,8 +137,24 @@ impl List {
         self.maker.image()
     }
 
-    pub fn next_command(&mut self) -> [u8; COMMAND_BYTES] {
-        self.maker.next_command()
+    pub fn next_step(&mut self) -> Step {
+        let by_table = match (&self.plain, self.from_older()) {
+            (None, _) => BY_TABLE_NOT_RUNNING,
+            (_, true) => BY_TABLE_AFTER_OLDER,
+            (_, false) => BY_TABLE,
+        };
+        if !self.random.chance(by_table) {
+            return Step::Command(self.maker.next_command());
+        }
+        let working = self.plain.as_ref().map_or(0xFF, |plain| plain.working);
+        let lines = random_table(&mut self.random, working, FAULTY_TABLES);
+        self.maker.place_by_table(&lines);
+        Step::Table(lines)
+    }
+
+    /// What demand 3 says of the answer to a placing by table. None before an accepted start and after a stop.
+    pub fn expect_table(&mut self, lines: &[u8]) -> Option<Answer> {
+        self.plain.as_mut().map(|plain| plain.place_by_table(lines))
     }
 
     /// What demand 3 says of the answer to the call. None before an accepted start and after a stop.

@@ -1,6 +1,6 @@
 //! Random images in the middle of a reorganisation, also such as no list of calls reaches, for the move list.
 
-use crate::control::{bit, count, has, Control};
+use crate::control::{bit, count, has, put_form, Control};
 use crate::image::*;
 use crate::images::whole_control;
 use crate::move_list::site_mask;
@@ -22,8 +22,8 @@ enum Locks {
 /// A running store with this many active placements, and any bytes where the call does not look.
 pub fn reorganising_image(random: &mut Random, number: usize) -> Vec<u8> {
     let mut image = vec![0; LENGTH];
-    image[..CONTROL].copy_from_slice(&whole_control(random, number, false));
-    random.fill(&mut image[CONTROL..]);
+    put_form(&mut image, &whole_control(random, number, false));
+    random.fill(&mut image[TABLES]);
     let control = Control::read(&image).expect("the form is whole");
     let settled = if random.chance(200) { 1000 } else { 300 };
     let nowhere = if random.chance(20) { 1000 } else { random.one_of(&[0, 100, 900]) };

@@ -3,7 +3,7 @@
 use crate::control::{has, Control};
 use crate::image::*;
 use crate::move_list::{holding, ListAnswer, Move};
-use crate::sites::sites;
+use crate::sites::{sites, Placement};
 
 /// From here on a list is long.
 const MANY: usize = 32;
@@ -13,8 +13,9 @@ pub const MOVE_LISTS: &[&str] = &[
     "listed 0, no blocks", "listed 0, blocks in place", "listed 0, locked where it need not move",
     "listed 0, held by a card that does not work", "listed 0 with 1 active", "listed 0 with 2 active",
     "listed 0 with 3 active", "listed 0 with 4 active", "listed, many", "listed, a stray sends",
-    "listed, a site sends", "listed, two strays of one block", "listed, newest marked 0", "listed, newest marked 1",
-    "listed, active of both marks", "listed, locked where it need not move", "listed, a locked site beside strays",
+    "listed, a site sends", "listed, two strays of one block", "listed, newest by the old choice",
+    "listed, newest by rails", "listed, newest by table", "listed, by rails over a table",
+    "listed, active of all kinds", "listed, locked where it need not move", "listed, a locked site beside strays",
     "listed, held by a card that does not work", "listed with 1 active", "listed with 2 active",
     "listed with 3 active", "listed with 4 active", "none by a stray", "none by a site", "none with 1 active",
     "none with 2 active", "none with 3 active", "none with 4 active",
@@ -25,8 +26,9 @@ pub const MOVE_LISTS: &[&str] = &[
 pub const MOVE_LISTS_REACHED: &[&str] = &[
     "listed 0, no blocks", "listed 0, blocks in place", "listed 0, locked where it need not move",
     "listed 0 with 1 active", "listed 0 with 2 active", "listed 0 with 3 active", "listed, a stray sends",
-    "listed, a site sends", "listed, two strays of one block", "listed, newest marked 0", "listed, newest marked 1",
-    "listed, active of both marks", "listed, locked where it need not move", "listed with 2 active",
+    "listed, a site sends", "listed, two strays of one block", "listed, newest by the old choice",
+    "listed, newest by rails", "listed, newest by table", "listed, by rails over a table",
+    "listed, active of all kinds", "listed, locked where it need not move", "listed with 2 active",
     "listed with 3 active", "listed with 4 active", "none by a stray", "none by a site", "none with 2 active",
     "none with 3 active", "none with 4 active",
 ];
@@ -87,15 +89,19 @@ fn of_nothing_to_move(image: &[u8], control: &Control) -> Vec<&'static str> {
 }
 
 fn of_moves(control: &Control, moves: &[Move]) -> Vec<&'static str> {
-    let marked = control.placements.iter().filter(|placement| placement.marked).count();
+    let newest = control.newest();
+    let kinds = [Placement::is_chained, Placement::is_by_rails, Placement::is_by_table];
+    let active = kinds.map(|kind| control.placements.iter().any(kind));
     met(&[
         (", many", moves.len() >= MANY),
         (", a stray sends", moves.iter().any(|from| !is_site(control, from))),
         (", a site sends", moves.iter().any(|from| is_site(control, from))),
         (", two strays of one block", moves.windows(2).any(|pair| pair[0].block == pair[1].block)),
-        (", newest marked 0", !control.newest().marked),
-        (", newest marked 1", control.newest().marked),
-        (", active of both marks", marked > 0 && marked < control.placements.len()),
+        (", newest by the old choice", newest.is_chained()),
+        (", newest by rails", newest.is_by_rails()),
+        (", newest by table", newest.is_by_table()),
+        (", by rails over a table", newest.is_by_rails() && active[2]),
+        (", active of all kinds", active == [true; 3]),
     ])
 }
 

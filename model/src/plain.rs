@@ -2,9 +2,11 @@
 
 use crate::calls::{perform_by, Answer, Call};
 use crate::control::{bit, count, has, Homes, NO_HOMES};
+use crate::converter::converted;
 use crate::edition::Edition;
-use crate::image::{CARDS, LENGTH, RECORDS};
+use crate::image::{CARDS, RECORDS};
 use crate::sites::Placement;
+use crate::table::{pairs_of, place_by_table, read_lines};
 
 #[derive(Clone, Copy)]
 struct Record {
@@ -47,7 +49,7 @@ fn lowest(conditions: &[(u8, bool)]) -> Option<u8> {
 impl Plain {
     /// The list after an accepted start.
     pub fn start(edition: Edition, mask: u8) -> Plain {
-        let mut rules = vec![0; LENGTH];
+        let mut rules = vec![0; edition.length()];
         perform_by(edition, &mut rules, &Call::Start { mask });
         Plain {
             edition,
@@ -62,7 +64,23 @@ impl Plain {
 
     /// The calls from here on follow these rules; what is there stays.
     pub fn go_on_by(&mut self, edition: Edition) {
+        if edition.length() != self.edition.length() {
+            self.rules = converted(&self.rules);
+        }
         self.edition = edition;
+    }
+
+    /// Steps the list by a placing with the lines in these bytes; its answer follows from the list's own fields.
+    pub fn place_by_table(&mut self, bytes: &[u8]) -> Answer {
+        place_by_table(&mut self.rules, bytes);
+        let pairs = read_lines(bytes).ok_or(3).and_then(|lines| pairs_of(&lines, self.working, self.active.len()));
+        match pairs {
+            Err(number) => Answer::Refused(number),
+            Ok(pairs) => {
+                self.active.push(Placement::by_table(pairs));
+                Answer::Ok
+            }
+        }
     }
 
     fn newest(&self) -> Placement {

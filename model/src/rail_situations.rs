@@ -46,7 +46,7 @@ pub fn rail_situations(control: &Control, call: &Call, answer: &Answer) -> Vec<S
 }
 
 /// The name of a call that found or wrote something.
-fn name(call: &Call, answer: &Answer) -> Option<&'static str> {
+pub(crate) fn name(call: &Call, answer: &Answer) -> Option<&'static str> {
     match (call, answer) {
         (_, Answer::Refused(_)) => None,
         (Call::Get { .. }, Answer::Value(_)) => Some("get"),
@@ -62,12 +62,12 @@ fn name(call: &Call, answer: &Answer) -> Option<&'static str> {
 }
 
 fn has_old(control: &Control) -> bool {
-    control.placements.iter().any(|placement| !placement.marked)
+    control.placements.iter().any(Placement::is_chained)
 }
 
 /// By rails and by the old choice the block's sites differ.
 fn differs(mask: u8, block: usize) -> bool {
-    sites(Placement { mask, marked: true }, block) != sites(Placement { mask, marked: false }, block)
+    sites(Placement::by_rails(mask), block) != sites(Placement::chained(mask), block)
 }
 
 fn on_one_rail(mask: u8) -> bool {
@@ -84,20 +84,20 @@ fn of_block(control: &Control, call: &Call, answer: &Answer) -> Vec<String> {
     let Some(name) = name(call, answer) else { return Vec::new() };
     let any = |test: &dyn Fn(&Placement) -> bool| control.placements.iter().any(test);
     let mut found = Vec::new();
-    if any(&|placement| placement.marked && differs(placement.mask, block)) {
+    if any(&|placement| placement.is_by_rails() && differs(placement.mask, block)) {
         found.extend([ANY_BY_RAILS.to_string(), format!("{name}, {ANY_BY_RAILS}")]);
     }
-    if any(&|placement| placement.marked && on_one_rail(placement.mask)) {
+    if any(&|placement| placement.is_by_rails() && on_one_rail(placement.mask)) {
         found.push(format!("{name}, on one rail"));
     }
-    if any(&|placement| !placement.marked && differs(placement.mask, block)) {
+    if any(&|placement| placement.is_chained() && differs(placement.mask, block)) {
         found.push(format!("{name}, a site by the old choice alone"));
     }
     found
 }
 
 fn of_kinds(control: &Control, call: &Call, answer: &Answer) -> Vec<String> {
-    let both = has_old(control) && control.placements.iter().any(|placement| placement.marked);
+    let both = has_old(control) && control.placements.iter().any(Placement::is_by_rails);
     let Some(name) = name(call, answer).filter(|_| both) else { return Vec::new() };
     let mut found = vec![format!("{name} with both kinds active")];
     if control.placements.len() == 4 {
@@ -108,7 +108,7 @@ fn of_kinds(control: &Control, call: &Call, answer: &Answer) -> Vec<String> {
 
 fn of_place(newest: Placement, mask: u8, answer: &Answer) -> Vec<String> {
     match answer {
-        _ if mask != newest.mask => Vec::new(),
+        _ if mask != newest.mask || newest.is_by_table() => Vec::new(),
         Answer::Ok => vec!["place of an old newest mask again".into()],
         Answer::Refused(9) => vec!["place refused, a marked newest mask again".into()],
         _ => Vec::new(),
@@ -117,7 +117,8 @@ fn of_place(newest: Placement, mask: u8, answer: &Answer) -> Vec<String> {
 
 fn of_settle(control: &Control, retired: u8) -> Vec<String> {
     let place = retired + 1;
-    match (control.newest().marked, has_old(control)) {
+    match (control.newest().is_by_rails(), has_old(control)) {
+        _ if control.newest().is_by_table() => Vec::new(),
         (true, false) if retired == 0 => Vec::new(),
         (true, false) => vec![format!("settle moves a mark from place {place}")],
         (true, true) => vec![format!("settle moves a mark over an old one from place {place}")],
@@ -127,10 +128,10 @@ fn of_settle(control: &Control, retired: u8) -> Vec<String> {
 }
 
 fn of_fail(control: &Control) -> Vec<String> {
-    if !has_old(control) {
+    if !has_old(control) || control.newest().is_by_table() {
         return Vec::new();
     }
-    let over = if control.newest().marked { "a marked newest and an old one" } else { "an old newest" };
+    let over = if control.newest().is_by_rails() { "a marked newest and an old one" } else { "an old newest" };
     let mut found = vec![format!("fail places over {over}")];
     if control.placements.len() == 3 {
         found.push("fail places the fourth over an old one".into());

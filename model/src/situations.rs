@@ -8,6 +8,7 @@ use crate::image::*;
 use crate::protection_situations::protection_situations;
 use crate::rail_situations::rail_situations;
 use crate::sites::{holders, members, sites};
+use crate::table_situations::table_situations;
 
 /// The situations that are easily got wrong.
 pub const SITUATIONS: &[&str] = &[
@@ -52,6 +53,7 @@ pub fn situations(before: &[u8], call: &Call, answer: &Answer) -> Vec<String> {
         _ => of_cards(before, &control, call, answer),
     });
     found.extend(rail_situations(&control, call, answer));
+    found.extend(table_situations(&control, call, answer));
     found.extend(protection_situations(&control, call, answer));
     found
 }

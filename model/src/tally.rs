@@ -8,6 +8,7 @@ use crate::listing::answer;
 use crate::protection_situations::PROTECTION;
 use crate::rail_situations::{ANY_BY_RAILS, ON_RAILS, OVER_OLD};
 use crate::situations::{situations, SITUATIONS};
+use crate::table_situations::WITH_TABLES;
 use std::collections::{BTreeMap, BTreeSet};
 
 pub const ANSWERS: [&str; 11] = [
@@ -105,9 +106,10 @@ impl Tally {
     pub fn impossible(&self) -> Vec<String> {
         let possible = possible();
         let pairs = self.pairs.keys().filter(|pair| !possible.contains(*pair)).cloned();
-        // A fail in the newest of four always stops, the third of four has a failed card, and a file leaves no
-        // placement unmarked and no record with 65,535.
-        let never = ["placed with 4 active", "protected with 4 active"].iter().chain(OVER_OLD).chain(LEFT_BROKEN_WIRE);
+        // A fail in the newest of four always stops, the third of four has a failed card, and a file has every
+        // placement by rails and leaves no record with 65,535.
+        let never = ["placed with 4 active", "protected with 4 active"].iter();
+        let never = never.chain(OVER_OLD).chain(LEFT_BROKEN_WIRE).chain(WITH_TABLES);
         let situations = never.filter(|name| self.count(name) > 0).map(|name| name.to_string());
         pairs.chain(situations).collect()
     }

@@ -3,6 +3,7 @@
 mod reached;
 
 use model::calls::{perform, started};
+use model::converter::converted;
 use model::edition::{Edition, BROKEN_WIRE};
 use model::image::{read_slot, slot_at, LENGTH};
 use model::plain::{Expected, Plain};
@@ -27,7 +28,7 @@ fn assert_answers(image: &mut [u8], calls: &[(Call, Answer)]) {
     }
 }
 
-/// On cards 0, 1 and 2 record 9 has a committed 65,535, and record 17 a pending one of transaction 2.
+/// On cards 0, 1 and 2 record 9 has a committed 65,535, and record 17 a pending one of transaction 2; converted.
 fn left(edition: Edition) -> Vec<u8> {
     let calls = [
         Start { mask: 0xE0 },
@@ -38,7 +39,7 @@ fn left(edition: Edition) -> Vec<u8> {
         Begin { transaction: 2, home: 1 },
         Store { transaction: 2, record: 17, value: BROKEN_WIRE },
     ];
-    after(edition, &calls)
+    converted(&after(edition, &calls))
 }
 
 #[test]

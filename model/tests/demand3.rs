@@ -9,11 +9,13 @@ use model::commands::read_command;
 use model::control::Control;
 use model::edition::Edition;
 use model::images::disturb;
-use model::lists::{List, Lists};
+use model::lists::{List, Lists, Step};
 use model::plain::Expected;
 use model::protection_situations::{protection_situations, PROTECTION};
 use model::rail_situations::{rail_situations, OVER_OLD};
 use model::random::Random;
+use model::table::place_by_table;
+use model::table_situations::{placing_situations, table_situations, PLACINGS, WITH_TABLES};
 use std::collections::BTreeMap;
 
 #[derive(Debug, Default)]
@@ -23,6 +25,7 @@ struct Seen {
     stops: usize,
     noisy: usize,
     from_older: usize,
+    by_table: usize,
     situations: BTreeMap<String, usize>,
 }
 
@@ -33,8 +36,13 @@ impl Seen {
         let in_range = call.in_range(Edition::Today);
         if let Some(control) = Control::read(before).filter(|control| !control.stopped && in_range) {
             names.extend(rail_situations(&control, call, answer));
+            names.extend(table_situations(&control, call, answer));
             names.extend(protection_situations(&control, call, answer));
         }
+        self.add(names);
+    }
+
+    fn add(&mut self, names: Vec<String>) {
         for name in names {
             *self.situations.entry(name).or_insert(0) += 1;
         }
@@ -45,19 +53,44 @@ fn run(list: &mut List, random: &mut Random, calls: usize, seen: &mut Seen) {
     let mut image = list.image().to_vec();
     for _ in 0..calls {
         seen.calls += 1;
-        let Some(call) = read_command(&list.next_command()) else { continue };
+        let step = list.next_step();
         if Control::read(&image).is_some() {
             disturb(random, &mut image);
             seen.noisy += (image[6] != 0) as usize;
         }
-        let before = image.clone();
-        let answer = perform(&mut image, &call);
-        seen.add_situations(&before, &call, &answer);
-        if let Some(expected) = list.expect(&call) {
-            seen.compared += 1;
-            seen.stops += (expected == Expected::Stops) as usize;
-            compare(list, &call, answer, expected, &image);
+        match step {
+            Step::Command(bytes) => {
+                if let Some(call) = read_command(&bytes) {
+                    run_call(list, &mut image, &call, seen);
+                }
+            }
+            Step::Table(lines) => run_table(list, &mut image, &lines, seen),
         }
+    }
+}
+
+fn run_call(list: &mut List, image: &mut [u8], call: &Call, seen: &mut Seen) {
+    let before = image.to_vec();
+    let answer = perform(image, call);
+    seen.add_situations(&before, call, &answer);
+    if let Some(expected) = list.expect(call) {
+        seen.compared += 1;
+        seen.stops += (expected == Expected::Stops) as usize;
+        compare(list, call, answer, expected, image);
+    }
+}
+
+fn run_table(list: &mut List, image: &mut [u8], lines: &[u8], seen: &mut Seen) {
+    let control = Control::read(image);
+    let answer = place_by_table(image, lines);
+    if let Some(control) = control {
+        seen.add(placing_situations(&control, lines, &answer));
+    }
+    if let Some(expected) = list.expect_table(lines) {
+        seen.by_table += 1;
+        assert_eq!(answer, expected, "{}: {lines:?}", list.name);
+        let plain = list.plain.as_ref().expect("a placing stops nothing");
+        assert_eq!(Control::read(image).expect("the form is whole").placements, plain.active);
     }
 }
 
@@ -94,11 +127,12 @@ fn run_lists(seed: u64, calls: usize) -> Seen {
     seen
 }
 
-/// Half of the 200,000 calls at which a differential run must have met every class are in lists.
+/// Half as many calls in lists as a differential run has that must have met every class.
 #[test]
-fn every_situation_over_older_images_and_of_state() {
+fn every_situation_over_older_images_of_state_and_with_tables() {
     let seen = run_lists(1, 100_000);
     let wanted = OVER_OLD.iter().chain(PROTECTION).chain(LEFT_BROKEN_WIRE).chain(NO_BROKEN_WIRE);
+    let wanted = wanted.chain(WITH_TABLES).chain(PLACINGS);
     let missing: Vec<_> = wanted.filter(|name| !seen.situations.contains_key(**name)).collect();
     assert!(missing.is_empty(), "{missing:?}");
 }
@@ -107,5 +141,6 @@ fn every_situation_over_older_images_and_of_state() {
 fn store_equals_plain_list() {
     let seen = run_lists(1000, 450_000);
     assert!(seen.compared > 200_000 && seen.stops > 100 && seen.noisy > 50_000, "{seen:?}");
+    assert!(seen.by_table > 3_000, "{seen:?}");
     assert!(seen.from_older * 4 > seen.calls && seen.from_older * 2 < seen.calls, "{seen:?}");
 }

@@ -10,11 +10,11 @@ fn ok(image: &mut [u8], call: Call) {
 }
 
 fn old(mask: u8) -> Placement {
-    Placement { mask, marked: false }
+    Placement::chained(mask)
 }
 
 fn by_rails(mask: u8) -> Placement {
-    Placement { mask, marked: true }
+    Placement::by_rails(mask)
 }
 
 #[test]
@@ -87,7 +87,7 @@ fn marks_of_failed_cards() {
 fn what_is_not_held_is_not_read() {
     let mut image = started(0xE0);
     ok(&mut image, Call::Begin { transaction: 1, home: 0 });
-    image[CONTROL..].fill(0xFF);
+    image[TABLES].fill(0xFF);
     for card in 0..CARDS {
         for block in 0..BLOCKS {
             image[block_at(card, block).start] = 0x7F;

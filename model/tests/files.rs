@@ -5,7 +5,6 @@ mod stored;
 use model::calls::perform_by;
 use model::commands::{read_command, COMMAND_BYTES};
 use model::edition::Edition;
-use model::image::LENGTH;
 use model::kinds::KINDS;
 use model::listing::listing;
 use model::tally::Tally;
@@ -36,7 +35,7 @@ fn cut_listing() {
 /// The calls of a command file that the editions answer differently, with the other's answers. State is left out: it
 /// differs whatever the sites.
 fn different(one: Edition, other: Edition, commands: &[u8]) -> Vec<(Call, Answer)> {
-    let (mut by_one, mut by_other) = (vec![0; LENGTH], vec![0; LENGTH]);
+    let (mut by_one, mut by_other) = (vec![0; one.length()], vec![0; other.length()]);
     let calls = commands.chunks(COMMAND_BYTES).filter_map(read_command).filter(|call| *call != Call::State);
     let mut found = Vec::new();
     for call in calls {

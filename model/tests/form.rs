@@ -1,7 +1,8 @@
 //! Each clause of the control form, broken alone, gives 2 for every call but start.
 
 use model::calls::{perform, Answer, Call};
-use model::image::LENGTH;
+use model::image::{KEPT, LENGTH, OLDER_LENGTH};
+use model::sites::{pack_pairs, Pairs};
 
 const CALLS: [Call; 14] = [
     Call::Begin { transaction: 1, home: 0 },
@@ -113,10 +114,71 @@ fn marks() {
             image[0] = stopped | number << 4;
             for marks in 0..=0xFF {
                 image[7] = marks;
-                let beyond = 0xFFu8 >> number;
+                // Nothing is kept, which is a table of equal cards.
+                let beyond = 0xFFu8 >> number | 0x0F;
                 if marks & beyond == 0 { kept(image.clone()) } else { broken(image.clone()) }
             }
         }
+    }
+}
+
+/// With the pairs of each marked placement kept, tables are marked in the order of the rail marks.
+#[test]
+fn table_marks() {
+    let pairs = pack_pairs(&[[0, 1]; 64]);
+    for number in 1u8..=4 {
+        let masks = if number == 4 { [0xE0, 0xE0, 0xF0, 0xE0] } else { [0xE0; 4] };
+        let mut image = part([number << 4, 0, 0, 0, 0], 0xE0, 0x10);
+        image[1..1 + number as usize].copy_from_slice(&masks[..number as usize]);
+        for marks in 0..=0xFFu8 {
+            image[7] = marks;
+            for place in 0..4 {
+                let marked = marks & 0x08 >> place != 0;
+                image[KEPT][48 * place..48 * (place + 1)].copy_from_slice(if marked { &pairs } else { &[0; 48] });
+            }
+            let beyond = 0xFFu8 >> number & 0xF0 | 0x0F >> number;
+            let both = marks >> 4 & marks & 0x0F != 0;
+            if marks & beyond == 0 && !both { kept(image.clone()) } else { broken(image.clone()) }
+        }
+    }
+}
+
+/// A store of cards 0 to 2 whose newest placement is by table, over one by rails.
+fn with_table(pairs: &Pairs) -> Vec<u8> {
+    let mut image = part([0x20, 0xE0, 0xE0, 0, 0], 0xF0, 0);
+    image[7] = 0x84;
+    image[KEPT][48..96].copy_from_slice(&pack_pairs(pairs));
+    image
+}
+
+#[test]
+fn pairs() {
+    for block in 0..64 {
+        for first in 0..8 {
+            for second in 0..8 {
+                let mut pairs = [[2, 0]; 64];
+                pairs[block] = [first, second];
+                let image = with_table(&pairs);
+                let good = first != second && first < 3 && second < 3;
+                if good { kept(image) } else { broken(image) }
+            }
+        }
+    }
+}
+
+#[test]
+fn nothing_is_kept_without_a_table() {
+    let image = with_table(&[[1, 2]; 64]);
+    for bit in (0..48 * 8).chain(96 * 8..192 * 8) {
+        let mut image = image.clone();
+        image[KEPT][bit / 8] |= 0x80 >> (bit % 8);
+        broken(image);
+    }
+    // The same pairs at a placement that is marked by rails, or not at all.
+    for marks in [0x80, 0xC0, 0xC4, 0x88, 0x8C] {
+        let mut image = image.clone();
+        image[7] = marks;
+        broken(image);
     }
 }
 
@@ -196,7 +258,7 @@ fn stopped_and_open() {
 
 #[test]
 fn length_comes_first() {
-    for length in [0, 1, 31, 32, LENGTH - 1, LENGTH + 1] {
+    for length in [0, 1, 31, 32, OLDER_LENGTH, LENGTH - 1, LENGTH + 1] {
         let mut image = vec![0; length];
         for call in CALLS {
             assert_eq!(perform(&mut image, &call), Answer::Refused(1));

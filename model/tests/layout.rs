@@ -12,11 +12,13 @@ fn lengths() {
     assert_eq!(BLOCK_BYTES, 41);
     assert_eq!(TABLE_BYTES, 2_624);
     assert_eq!(table_at(0).start, 32);
-    assert_eq!(table_at(7).end, LENGTH);
+    assert_eq!(table_at(7).end, OLDER_LENGTH);
     assert_eq!(block_at(0, 0), 32..73);
-    assert_eq!(block_at(7, 63).end, LENGTH);
+    assert_eq!(block_at(7, 63).end, OLDER_LENGTH);
     assert_eq!(slot_at(0, 0, 0), 33..38);
-    assert_eq!(slot_at(7, 63, 7).end, LENGTH);
+    assert_eq!(slot_at(7, 63, 7).end, OLDER_LENGTH);
+    assert_eq!((LENGTH, OLDER_LENGTH, PAIRS_BYTES), (21_216, 21_024, 48));
+    assert_eq!(KEPT.len(), MOST_ACTIVE * PAIRS_BYTES);
 }
 
 #[test]
@@ -38,14 +40,25 @@ fn control_part() {
     let mut homes = [None; 16];
     homes[1] = Some(2);
     homes[15] = Some(0);
-    let placements = vec![Placement { mask: 0xF0, marked: false }, Placement { mask: 0xE0, marked: true }];
+    let mut pairs = [[0, 1]; BLOCKS];
+    pairs[1] = [2, 0];
+    let table = Placement::by_table(pairs);
+    assert_eq!(table.mask, 0xE0);
+    let placements = vec![Placement::chained(0xF0), table, Placement::by_rails(0xE0)];
     let control = Control { stopped: false, placements, working: 0xE1, failed: 0x10, homes };
-    let mut bytes = [0xFF; 32];
+    let mut bytes = vec![0; LENGTH];
+    bytes[..CONTROL].fill(0xFF);
+    bytes[KEPT].fill(0xFF);
     control.write(&mut bytes);
-    let mut wanted = [0; 32];
-    wanted[..8].copy_from_slice(&[0x20, 0xF0, 0xE0, 0, 0, 0xE1, 0x10, 0x40]);
+    let mut wanted = vec![0; LENGTH];
+    wanted[..8].copy_from_slice(&[0x30, 0xF0, 0xE0, 0xE0, 0, 0xE1, 0x10, 0x24]);
     wanted[8] = 0xA0;
     wanted[22] = 0x80;
+    // Blocks 0, 2 and 3 are 000 001, block 1 is 010 000; the second placement has the second 48 bytes.
+    for bytes in wanted[KEPT][48..96].chunks_mut(3) {
+        bytes.copy_from_slice(&[0x04, 0x10, 0x41]);
+    }
+    wanted[KEPT][48..51].copy_from_slice(&[0x05, 0x00, 0x41]);
     assert_eq!(bytes, wanted);
     assert_eq!(Control::read(&bytes), Some(control));
 }

@@ -11,16 +11,16 @@ fn begin(image: &mut [u8], transaction: u8, home: u8) {
 
 #[test]
 fn m1_sites_under_e0() {
-    for marked in [false, true] {
-        assert_eq!(sites(Placement { mask: 0xE0, marked }, 1), [1, 2]);
-        assert_eq!(sites(Placement { mask: 0xE0, marked }, 2), [2, 0]);
+    for placement in [Placement::chained, Placement::by_rails] {
+        assert_eq!(sites(placement(0xE0), 1), [1, 2]);
+        assert_eq!(sites(placement(0xE0), 2), [2, 0]);
     }
 }
 
 #[test]
 fn m2_sites_under_81() {
-    for marked in [false, true] {
-        assert_eq!(sites(Placement { mask: 0x81, marked }, 63), [7, 0]);
+    for placement in [Placement::chained, Placement::by_rails] {
+        assert_eq!(sites(placement(0x81), 63), [7, 0]);
     }
 }
 

@@ -2,6 +2,8 @@
 
 mod reached;
 
+use model::control::put_form;
+use model::converter::converted;
 use model::edition::Edition;
 use model::image::*;
 use model::images::whole_control;
@@ -80,7 +82,7 @@ fn lists_by_rails() {
     let base = stored(0xFF, 0, &[1]);
     assert_listed(&base, &[Place { mask: 0x7F }], Some(&[(1, 1)]));
     assert_listed(&base, &[Fail { card: 4 }], Some(&[(1, 1)]));
-    let mut older = after(Edition::Base, &base);
+    let mut older = converted(&after(Edition::Base, &base));
     assert_eq!(listed(&older), Some(vec![]));
     make(Edition::Today, &mut older, &[Place { mask: 0xFF }]);
     assert_eq!(listed(&older), Some(vec![(2, 1)]));
@@ -164,7 +166,7 @@ fn refusals_in_their_order() {
         refused(&image, 1);
     }
     let mut stopped = vec![0; LENGTH];
-    stopped[..CONTROL].copy_from_slice(&whole_control(&mut random, 2, true));
+    put_form(&mut stopped, &whole_control(&mut random, 2, true));
     assert_eq!(answer_in(&mut random, &stopped, 0, None), ListAnswer::Refused(4));
     assert_eq!(answer_in(&mut random, &vec![0; LENGTH], 0, None), ListAnswer::Refused(2));
 }

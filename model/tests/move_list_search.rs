@@ -1,14 +1,15 @@
 //! Change request A.3: the move list against a search through the model's own moves and settles.
 
 use model::commands::read_command;
-use model::control::Control;
+use model::control::{form_of, put_form, Control};
 use model::image::*;
 use model::images::disturb;
-use model::lists::{List, Lists};
+use model::lists::{List, Lists, Step};
 use model::move_list::{fewest_moves, move_list, running, ListAnswer, Move, MOST_MOVES};
 use model::move_list_images::reorganising_image;
 use model::move_list_situations::{move_list_situations, MOVE_LISTS, MOVE_LISTS_REACHED};
 use model::random::Random;
+use model::table::place_by_table;
 use model::{perform, Answer, Call};
 use std::collections::{BTreeSet, HashSet, VecDeque};
 
@@ -45,9 +46,9 @@ fn put(image: &mut [u8], block: usize, copies: &[u8]) {
 
 /// Whether a settle would succeed.
 fn settles(image: &mut [u8]) -> bool {
-    let control = image[..CONTROL].to_vec();
+    let form = form_of(image);
     let answer = perform(image, &Call::Settle);
-    image[..CONTROL].copy_from_slice(&control);
+    put_form(image, &form);
     matches!(answer, Answer::Retired(_))
 }
 
@@ -148,15 +149,30 @@ fn random_reorganisations() {
     seen.assert_all(MOVE_LISTS);
 }
 
+/// The step on the image, and in the plain list.
+fn take(list: &mut List, image: &mut [u8], step: &Step) {
+    match step {
+        Step::Command(bytes) => {
+            if let Some(call) = read_command(bytes) {
+                perform(image, &call);
+                list.expect(&call);
+            }
+        }
+        Step::Table(lines) => {
+            place_by_table(image, lines);
+            list.expect_table(lines);
+        }
+    }
+}
+
 fn check_reached(list: &mut List, random: &mut Random, seen: &mut Seen) {
     let mut image = list.image().to_vec();
     for at in 0..list.calls {
-        let Some(call) = read_command(&list.next_command()) else { continue };
+        let step = list.next_step();
         if Control::read(&image).is_some() {
             disturb(random, &mut image);
         }
-        perform(&mut image, &call);
-        list.expect(&call);
+        take(list, &mut image, &step);
         let Some(control) = running(&image).ok().filter(|_| list.plain.is_some() && at % 40 == 0) else { continue };
         let moves = fewest_moves(&image, &control);
         seen.add(&image, &control, &moves);

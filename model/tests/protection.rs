@@ -6,7 +6,7 @@ mod stored;
 
 use model::calls::{perform, perform_by};
 use model::commands::{read_command, COMMAND_BYTES};
-use model::control::Control;
+use model::control::{put_form, Control};
 use model::edition::Edition;
 use model::image::{CARDS, CONTROL, LENGTH};
 use model::images::{random_tables, whole_control};
@@ -159,7 +159,7 @@ fn words_of_random_stores() {
     let mut met = BTreeSet::new();
     for round in 0..4_000 {
         let mut image = vec![0; LENGTH];
-        image[..CONTROL].copy_from_slice(&whole_control(&mut random, 1 + round % 4, false));
+        put_form(&mut image, &whole_control(&mut random, 1 + round % 4, false));
         random_tables(&mut random, &mut image);
         let before = image.clone();
         let word = perform(&mut image, &State);

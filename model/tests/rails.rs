@@ -3,21 +3,25 @@
 use model::calls::{perform, perform_by, started, Answer, Call};
 use model::control::{has, Control};
 use model::edition::Edition;
-use model::image::{block_at, held, BLOCKS, CARDS, LENGTH};
+use model::converter::converted;
+use model::image::{block_at, held, BLOCKS, CARDS, LENGTH, OLDER_LENGTH};
 use model::sites::{members, rail, sites, Placement};
 
 fn old(mask: u8) -> Placement {
-    Placement { mask, marked: false }
+    Placement::chained(mask)
 }
 
 fn by_rails(mask: u8) -> Placement {
-    Placement { mask, marked: true }
+    Placement::by_rails(mask)
 }
 
-/// An image after an accepted start by the base's call.
-fn older(mask: u8) -> Vec<u8> {
-    let mut image = vec![0; LENGTH];
+/// An image after an accepted start by the base's call, and after places.
+fn older(mask: u8, placed: &[u8]) -> Vec<u8> {
+    let mut image = vec![0; OLDER_LENGTH];
     assert_eq!(perform_by(Edition::Base, &mut image, &Call::Start { mask }), Answer::Ok);
+    for mask in placed {
+        assert_eq!(perform_by(Edition::Base, &mut image, &Call::Place { mask: *mask }), Answer::Ok);
+    }
     image
 }
 
@@ -116,7 +120,7 @@ fn start_place_and_fail_write_marks() {
 
 #[test]
 fn base_writes_no_marks() {
-    let mut image = older(0xFF);
+    let mut image = older(0xFF, &[]);
     for call in [Call::Place { mask: 0xFE }, Call::Place { mask: 0xFF }] {
         assert_eq!(perform_by(Edition::Base, &mut image, &call), Answer::Ok);
         assert_eq!(perform_by(Edition::Base, &mut image.clone(), &call), Answer::Refused(9));
@@ -124,21 +128,20 @@ fn base_writes_no_marks() {
     assert_eq!(perform_by(Edition::Base, &mut image, &Call::Fail { card: 7 }), Answer::Placed(0xFE));
     assert_eq!(image[..8], [0x40, 0xFF, 0xFE, 0xFF, 0xFE, 0xFE, 0x01, 0]);
     // It knows no marks either, and the same image is whole today.
-    assert_eq!(perform_by(Edition::Base, &mut started(0xFF), &Call::State), Answer::Refused(2));
-    assert_eq!(perform(&mut image, &Call::State), Answer::Unprotected);
+    let mut marked = vec![0; OLDER_LENGTH];
+    assert_eq!(perform_by(Edition::Rails, &mut marked, &Call::Start { mask: 0xFF }), Answer::Ok);
+    assert_eq!(perform_by(Edition::Base, &mut marked, &Call::State), Answer::Refused(2));
+    assert_eq!(perform(&mut converted(&image), &Call::State), Answer::Unprotected);
 }
 
 #[test]
 fn place_of_the_newest_mask() {
-    let mut image = older(0xFF);
+    let mut image = converted(&older(0xFF, &[]));
     ok(&mut image, Call::Place { mask: 0xFF });
     assert_eq!(image[..8], [0x20, 0xFF, 0xFF, 0, 0, 0xFF, 0, 0x40]);
     assert_eq!(perform(&mut image, &Call::Place { mask: 0xFF }), Answer::Refused(9));
     // 9 comes before 10, and 10 stays where 9 does not apply.
-    let mut image = older(0xFF);
-    for mask in [0xFE, 0xFF] {
-        assert_eq!(perform_by(Edition::Base, &mut image, &Call::Place { mask }), Answer::Ok);
-    }
+    let mut image = converted(&older(0xFF, &[0xFE, 0xFF]));
     assert_eq!(perform(&mut image, &Call::Place { mask: 0xFF }), Answer::Refused(10));
     image[7] = 0x20;
     assert_eq!(perform(&mut image, &Call::Place { mask: 0xFF }), Answer::Refused(9));
@@ -146,7 +149,7 @@ fn place_of_the_newest_mask() {
 
 #[test]
 fn an_older_store_moves_to_two_rails() {
-    let mut image = older(0xFF);
+    let mut image = converted(&older(0xFF, &[]));
     fill(&mut image);
     assert_eq!(image[7], 0);
     assert_lies(&image, old(0xFF));
@@ -185,16 +188,12 @@ fn settle_moves_the_mark_of_the_newest() {
 
 #[test]
 fn fail_adds_a_marked_placement_after_old_ones() {
-    let mut image = older(0xFF);
-    assert_eq!(perform(&mut image.clone(), &Call::Fail { card: 3 }), Answer::Placed(0xEF));
-    for mask in [0xFE, 0xFF] {
-        assert_eq!(perform_by(Edition::Base, &mut image, &Call::Place { mask }), Answer::Ok);
-    }
+    assert_eq!(perform(&mut converted(&older(0xFF, &[])), &Call::Fail { card: 3 }), Answer::Placed(0xEF));
+    let mut image = converted(&older(0xFF, &[0xFE, 0xFF]));
     assert_eq!(perform(&mut image, &Call::Fail { card: 3 }), Answer::Placed(0xEF));
     assert_eq!(image[..8], [0x40, 0xFF, 0xFE, 0xFF, 0xEF, 0xEF, 0x10, 0x10]);
     // A card outside the newest adds none, and a stop keeps the marks.
-    let mut image = older(0xFE);
-    assert_eq!(perform_by(Edition::Base, &mut image, &Call::Place { mask: 0xE0 }), Answer::Ok);
+    let mut image = converted(&older(0xFE, &[0xE0]));
     assert_eq!(perform(&mut image, &Call::Fail { card: 6 }), Answer::Unplaced);
     assert_eq!(image[7], 0);
     assert_eq!(perform(&mut image, &Call::Fail { card: 5 }), Answer::Stopped);
@@ -203,7 +202,7 @@ fn fail_adds_a_marked_placement_after_old_ones() {
 
 #[test]
 fn both_kinds_are_searched_and_stored() {
-    let mut image = older(0xCC);
+    let mut image = converted(&older(0xCC, &[]));
     fill(&mut image);
     ok(&mut image, Call::Place { mask: 0xCC });
     // Block 0 is on 0 and 1 by the old choice, and on 0 and 4 by rails.

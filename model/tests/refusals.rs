@@ -74,7 +74,7 @@ fn applies(number: u8, image: &[u8], control: &Control, call: &Call) -> bool {
         (8, Call::Begin { home, .. }) => !has(control.newest().mask, home as usize),
         (8, Call::Fail { card } | Call::Move { card, .. } | Call::Load { card }) => !works(card),
         (9, Call::Place { mask }) => {
-            let again = Placement { mask, marked: true } == control.newest();
+            let again = Placement::by_rails(mask) == control.newest();
             count(mask) < 2 || mask & control.working != mask || again
         }
         (10, Call::Place { .. }) => control.placements.len() > 2,

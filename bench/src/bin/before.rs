@@ -1,5 +1,7 @@
 //! before: a Markdown table of each call's time and instructions by the archive of an earlier commit ("before") and by
-//! the present archive ("after"). The model takes its turn too, so that "after" is timed as bench times Rattle.
+//! the present archive ("after"). The model takes its turn too, so that "after" is timed as bench times Rattle. An
+//! archive from before tables has images of its own length, and in a state with a table those of the same store
+//! without it.
 //! before count CASE SIDE COPIES: the calls of one case on so many copies, for callgrind.
 
 use bench::answers::compared;
@@ -13,19 +15,28 @@ const TIMED: [Side; 3] = [BEFORE, RATTLE, MODEL];
 /// In the order of the table's columns.
 const COUNTED: [Side; 2] = [BEFORE, RATTLE];
 
+/// Without a figure of the earlier archive, which lacks the call, that of this one alone.
 fn cells([before, after]: [f64; 2]) -> String {
+    if before.is_nan() {
+        return format!("- | {after:.0} | -");
+    }
     format!("{before:.0} | {after:.0} | {:.2}", after / before)
 }
 
 fn row(at: usize, case: &Case, answers: &str, [before, after, _]: [f64; 3]) {
-    let instructions = counting::instructions(at, COUNTED, case.shares());
+    let instructions = match case.image_of(BEFORE) {
+        Some(_) => counting::instructions(at, COUNTED, case.shares()),
+        None => counting::instructions(at, [RATTLE], case.shares()).map(|[after]| [f64::NAN, after]),
+    };
     let counted = instructions.map_or("- | - | -".to_string(), cells);
     println!("| {} | {} | {answers} | {} | {counted} |", case.state, case.call, cells([before, after]));
 }
 
 /// By both archives, which answer as the model does.
 fn answers(case: &Case) -> String {
-    compared(BEFORE, case);
+    if case.image_of(BEFORE).is_some() {
+        compared(BEFORE, case);
+    }
     compared(RATTLE, case)
 }
 

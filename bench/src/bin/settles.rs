@@ -28,6 +28,14 @@ struct State {
     image: Vec<u8>,
 }
 
+impl State {
+    /// In the length that the side has.
+    fn image_of(&self, side: Side) -> Vec<u8> {
+        let length = side.older_length.map_or(self.image.len(), |length| length());
+        self.image[..length].to_vec()
+    }
+}
+
 /// No settle changes these images: there is one placement, or a block has not moved.
 fn states() -> Vec<State> {
     let half_of_eight = place_and_move(&filled(0xFF), [0x7E, 0x3C], BLOCKS / 2);
@@ -46,9 +54,9 @@ fn settle(side: Side, image: &mut [u8], lent: &mut Lent) -> u32 {
 /// The answer of every side, which leaves the image as found. So all settles of a round do the same.
 fn answer(state: &State) -> Answer {
     let [before, after, model] = SIDES.map(|side| {
-        let mut image = state.image.clone();
+        let mut image = state.image_of(side);
         let answer = Answer::from(settle(side, &mut image, &mut Lent::default()));
-        assert!(image == state.image, "{}, {}: the image is changed", state.name, side.name);
+        assert!(image == state.image_of(side), "{}, {}: the image is changed", state.name, side.name);
         answer
     });
     assert_eq!(before, model, "{}: before, model", state.name);
@@ -66,12 +74,12 @@ fn settles(side: Side, image: &mut [u8], lent: &mut Lent, number: usize) {
 
 /// One round: microseconds of each side's settles. The first of them are too few to need a warm-up.
 fn pass(state: &State) -> Vec<[f64; 3]> {
-    let (mut image, mut lent) = (state.image.clone(), Lent::default());
+    let (mut images, mut lent) = (SIDES.map(|side| state.image_of(side)), Lent::default());
     let mut round = [0.0; 3];
     for _ in 0..TIMED / TURN {
-        for (time, side) in round.iter_mut().zip(SIDES) {
+        for ((time, side), image) in round.iter_mut().zip(SIDES).zip(&mut images) {
             let start = Instant::now();
-            settles(side, &mut image, &mut lent, TURN);
+            settles(side, image, &mut lent, TURN);
             *time += start.elapsed().as_nanos() as f64 / 1000.0;
         }
     }
@@ -104,7 +112,7 @@ fn table() {
 fn count(at: usize, side: &str, copies: usize) -> Option<()> {
     let (all, side) = (states(), named(&SIDES, side)?);
     let mut lent = Lent::default();
-    counting::run_on(&all.get(at)?.image, copies, |copies| {
+    counting::run_on(&all.get(at)?.image_of(side), copies, |copies| {
         copies.iter_mut().for_each(|image| settles(side, image, &mut lent, COUNTED))
     });
     Some(())

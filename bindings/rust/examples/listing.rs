@@ -1,23 +1,31 @@
 //! listing [IMAGE]: runs the commands on standard input and prints their listing. They go on from the image in
-//! the file, or begin with zeros.
+//! the file, or begin with zeros. An image that versions before 2.0 left is converted first.
 
-use nolpigat::{command, COMMAND_SIZE, IMAGE_SIZE};
+use nolpigat::{command, convert, COMMAND_SIZE, IMAGE_SIZE, OLDER_IMAGE_SIZE};
 use std::io::{self, BufWriter, Read, Write};
 use std::process::exit;
 
-/// The bytes of the file that the words name, or zeros. None if they are not as many as an image has.
+/// The image in the file that the words name, or zeros. None if it is neither one of this version nor an older one.
 fn image(words: &[String]) -> io::Result<Option<Vec<u8>>> {
     Ok(match words {
         [] => Some(vec![0; IMAGE_SIZE]),
-        [file] => Some(std::fs::read(file)?).filter(|image| image.len() == IMAGE_SIZE),
+        [file] => of_this_version(std::fs::read(file)?),
         _ => None,
     })
+}
+
+fn of_this_version(bytes: Vec<u8>) -> Option<Vec<u8>> {
+    if bytes.len() == IMAGE_SIZE {
+        return Some(bytes);
+    }
+    let mut image = vec![0; IMAGE_SIZE];
+    convert(&bytes, &mut image).ok().map(|_| image)
 }
 
 fn main() -> io::Result<()> {
     let words: Vec<String> = std::env::args().skip(1).collect();
     let Some(mut image) = image(&words)? else {
-        eprintln!("usage: listing [IMAGE]; an image has {IMAGE_SIZE} bytes");
+        eprintln!("usage: listing [IMAGE]; an image has {IMAGE_SIZE} bytes, an older one {OLDER_IMAGE_SIZE}");
         exit(2);
     };
     let mut commands = Vec::new();

@@ -36,6 +36,8 @@ pub enum Answer {
     None,
     /// Kind 13: the number that was asked for.
     Number(u16),
+    /// Kind 14: the bytes that were written.
+    Written(u16),
     /// Kind 15: refused, and the image is left as found.
     Refused(Refusal),
     /// A code that is no answer's. The archive of this version gives none such.
@@ -60,6 +62,7 @@ impl From<u32> for Answer {
             (11, moves) => Answer::Listed(moves),
             (12, 0) => Answer::None,
             (13, number) => Answer::Number(number),
+            (14, bytes) => Answer::Written(bytes),
             (15, _) => Answer::Refused(Refusal::of(code)),
             _ => Answer::Unknown(code),
         }
@@ -105,6 +108,7 @@ impl fmt::Display for Answer {
             Answer::Listed(moves) => write!(f, "listed {moves}"),
             Answer::None => f.write_str("none"),
             Answer::Number(number) => write!(f, "number {number}"),
+            Answer::Written(bytes) => write!(f, "written {bytes}"),
             Answer::Refused(refusal) => write!(f, "refused {}", refusal.number()),
             Answer::Unknown(code) => write!(f, "unknown {code}"),
         }

@@ -103,10 +103,11 @@ pub fn withdraw(image: &mut [u8], card: Card) -> Result<(), Refusal> {
     done(ask!(nolpigat_withdraw(image.as_mut_ptr(), image.len(), card.0)))
 }
 
-/// The mask becomes the newest placement.
+/// The mask becomes the newest placement, with sites on two supply rails. The newest mask again is taken where that
+/// placement is by a table or older than the choice by rails.
 ///
 /// Refused: [`Placement`](Refusal::Placement) if the mask has under two members or one that does not work, or is the
-/// newest again and that one is on two rails; [`Active`](Refusal::Active) if three or more placements are active.
+/// newest again and that one is by rails; [`Active`](Refusal::Active) if three or more placements are active.
 pub fn place(image: &mut [u8], mask: Mask) -> Result<(), Refusal> {
     done(ask!(nolpigat_place(image.as_mut_ptr(), image.len(), mask.0)))
 }
@@ -126,7 +127,7 @@ pub enum Failed {
 /// The card no longer works and is marked failed; its table is not read again before a [`fit`]. If some active
 /// placement now has two failed or fewer than two working members, every open transaction is rolled back and the
 /// store stops. Otherwise transactions begun there are rolled back, and if the card was in the newest placement, one
-/// without it is added.
+/// without it is added, with sites on two supply rails, also after a table.
 ///
 /// Refused: [`Card`](Refusal::Card) if the card does not work.
 pub fn fail(image: &mut [u8], card: Card) -> Result<Failed, Refusal> {

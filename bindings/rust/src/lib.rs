@@ -23,8 +23,10 @@
 //! [`Transaction`] does the same and rolls back what is not committed.
 //!
 //! Cards 0 to 3 hang on one supply rail and 4 to 7 on the other. A block's two cards are on both rails if the placement
-//! has cards on both. The placements in an image that was written before this rule keep their sites; a [`place`] of
-//! the same mask puts them on two rails.
+//! has cards on both. The placements in an image that was written before this rule keep their sites, and those of
+//! [`place_by_table`] have the cards of a plant's table; a [`place`] of the same mask puts either on two rails.
+//!
+//! An image that versions before 2.0 left is shorter; [`convert`] makes one of this length from it.
 //!
 //! Cards are 0 to 7, blocks 0 to 63, records 0 to 511, transactions 1 to 15, values to store 0 to 65,534; record r lies
 //! in block r / 8. A mask is a set of cards in a byte, card 0 its highest bit. No call panics: what cannot be done is
@@ -43,8 +45,10 @@ mod commands;
 #[allow(missing_docs)]
 pub mod ffi;
 mod namings;
+mod older;
 mod queries;
 mod refusal;
+mod tables;
 mod transaction;
 
 pub use answer::Answer;
@@ -54,20 +58,28 @@ pub use calls::{
 };
 pub use commands::{Command, Operation};
 pub use namings::{Block, Card, Mask, Rec, Tran};
+pub use older::convert;
 pub use queries::{
     failed, free_transaction, holders, home, placement, placement_count, source, stopped, working, MOST_PLACEMENTS,
 };
 pub use refusal::Refusal;
+pub use tables::{place_by_table, Line};
 pub use transaction::Transaction;
 
 /// The length of an image in bytes.
-pub const IMAGE_SIZE: usize = 21_024;
+pub const IMAGE_SIZE: usize = 21_216;
+
+/// The length of an image that versions before 2.0 left, in bytes.
+pub const OLDER_IMAGE_SIZE: usize = 21_024;
 
 /// The length of a command in bytes.
 pub const COMMAND_SIZE: usize = 5;
 
 /// A list with room for so many moves is never too short.
 pub const MOST_MOVES: usize = 512;
+
+/// The most lines of a table: one for each block.
+pub const MOST_LINES: usize = 64;
 
 /// What a function makes of its code: what `take` gives for the answers that it has, else the refusal.
 fn taken<T>(code: u32, take: impl FnOnce(Answer) -> Option<T>) -> Result<T, Refusal> {

@@ -4,13 +4,15 @@ use core::error::Error;
 use core::fmt;
 
 /// Why a call was refused. The image is left as found. If several reasons apply, the one with the lowest number is
-/// given, except that [`Malformed`](Refusal::Malformed) comes first. Later versions may add some.
+/// given, except that [`Malformed`](Refusal::Malformed) comes first, and that [`Gap`](Refusal::Gap) and
+/// [`Overlap`](Refusal::Overlap) come before [`Active`](Refusal::Active). Later versions may add some.
 #[derive(Clone, Copy, Debug, PartialEq, Eq, Hash)]
 #[non_exhaustive]
 pub enum Refusal {
-    /// 1: the image has another length than [`IMAGE_SIZE`](crate::IMAGE_SIZE).
+    /// 1: the image has another length than [`IMAGE_SIZE`](crate::IMAGE_SIZE); of a conversion, or the older one than
+    /// [`OLDER_IMAGE_SIZE`](crate::OLDER_IMAGE_SIZE).
     Length,
-    /// 2: the control part is broken; also before the first start.
+    /// 2: the control form is broken; also before the first start.
     ControlForm,
     /// 3: a number is outside its range.
     Range,
@@ -24,7 +26,7 @@ pub enum Refusal {
     Locked,
     /// 8: the call's condition on the card is unmet.
     Card,
-    /// 9: the mask cannot be a placement.
+    /// 9: these cards cannot be a placement.
     Placement,
     /// 10: place with three or more placements active.
     Active,
@@ -40,13 +42,17 @@ pub enum Refusal {
     Malformed,
     /// 16: the list is too short for the moves.
     List,
+    /// 17: a block is in no line of the table.
+    Gap,
+    /// 18: a block is in two lines of the table.
+    Overlap,
     /// The code of an answer that this wrapper has no name for at this call; whether the image is as found is not
     /// known. The archive of this version gives none such.
     Unknown(u32),
 }
 
 /// The refusals by their numbers, from 1 on.
-const BY_NUMBER: [Refusal; 16] = [
+const BY_NUMBER: [Refusal; 18] = [
     Refusal::Length,
     Refusal::ControlForm,
     Refusal::Range,
@@ -63,6 +69,8 @@ const BY_NUMBER: [Refusal; 16] = [
     Refusal::Home,
     Refusal::Malformed,
     Refusal::List,
+    Refusal::Gap,
+    Refusal::Overlap,
 ];
 
 /// The kind of a refusal's code.
@@ -75,7 +83,7 @@ impl Refusal {
         named.copied().unwrap_or(Refusal::Unknown(code))
     }
 
-    /// The number of the refusal in the rules, 1 to 16. Of an unknown code, the number in it if it is a refusal's,
+    /// The number of the refusal in the rules, 1 to 18. Of an unknown code, the number in it if it is a refusal's,
     /// else 0.
     pub fn number(self) -> u16 {
         match self {
@@ -90,7 +98,7 @@ impl Refusal {
 impl fmt::Display for Refusal {
     fn fmt(&self, f: &mut fmt::Formatter) -> fmt::Result {
         f.write_str(match self {
-            Refusal::Length => "the image has another length than 21,024 bytes",
+            Refusal::Length => "an image has another length than the call takes",
             Refusal::ControlForm => "the control part is broken or the store was never started",
             Refusal::Range => "a number is outside its range",
             Refusal::Stopped => "the store has stopped",
@@ -98,7 +106,7 @@ impl fmt::Display for Refusal {
             Refusal::AlreadyOpen => "the transaction is open already",
             Refusal::Locked => "the record is locked by another transaction",
             Refusal::Card => "the card is not in the state that the call needs",
-            Refusal::Placement => "the mask cannot be a placement",
+            Refusal::Placement => "these cards cannot be a placement",
             Refusal::Active => "three or more placements are active",
             Refusal::NotHeld => "the card does not hold the block",
             Refusal::CopyLocked => "the card's copy of the block has a locked record",
@@ -106,6 +114,8 @@ impl fmt::Display for Refusal {
             Refusal::Home => "the card is the home of an open transaction",
             Refusal::Malformed => "the command is malformed",
             Refusal::List => "the list is too short for the moves",
+            Refusal::Gap => "a block is in no line of the table",
+            Refusal::Overlap => "a block is in two lines of the table",
             Refusal::Unknown(_) => "the refusal is unknown to this version",
         })
     }

@@ -31,8 +31,11 @@ fn every_kind() {
         (0xC_0000, Answer::None),
         (0xD_00E0, Answer::Number(0xE0)),
         (0xF_0001, Answer::Refused(Refusal::Length)),
+        (0xE_52E0, Answer::Written(21_216)),
         (0xF_0010, Answer::Refused(Refusal::List)),
-        (0xF_0011, Answer::Refused(Refusal::Unknown(0xF_0011))),
+        (0xF_0011, Answer::Refused(Refusal::Gap)),
+        (0xF_0012, Answer::Refused(Refusal::Overlap)),
+        (0xF_0013, Answer::Refused(Refusal::Unknown(0xF_0013))),
     ];
     for (code, answer) in expected {
         assert_eq!(Answer::from(code), answer);
@@ -57,7 +60,7 @@ fn texts_of_the_header() {
             codes += 1;
         }
     }
-    assert_eq!((codes, refusals), (34, 18));
+    assert_eq!((codes, refusals), (35, 20));
 }
 
 #[test]
@@ -65,7 +68,7 @@ fn no_answers_code() {
     // A number where the kind has none, a number too wide, the kinds that are none's.
     let with_number = [0x0_0001, 0x2_0001, 0x4_FFFF, 0x5_0001, 0x8_0001, 0x9_0001, 0xC_0001];
     let too_wide = [0x3_0100, 0x6_0100, 0x7_0100];
-    let kinds = [0xE_0000, 0x10_0000, u32::MAX];
+    let kinds = [0x10_0000, u32::MAX];
     for code in with_number.into_iter().chain(too_wide).chain(kinds) {
         assert_eq!(Answer::from(code), Answer::Unknown(code));
     }
@@ -73,7 +76,7 @@ fn no_answers_code() {
 
 #[test]
 fn number_of_an_unknown_code() {
-    assert_eq!(Refusal::Unknown(0xF_0011).number(), 17);
+    assert_eq!(Refusal::Unknown(0xF_0013).number(), 19);
     assert_eq!(Refusal::Unknown(0x1_0011).number(), 0);
 }
 

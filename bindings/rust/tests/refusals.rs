@@ -14,7 +14,7 @@ fn performed(image: &mut [u8], bytes: &[u8]) -> Result<(), Refusal> {
 }
 
 /// Each call, with numbers in their ranges, start first.
-const CALLS: [Call; 17] = [
+const CALLS: [Call; 18] = [
     |image| start(image, Mask(0xE0)),
     |image| begin(image, Tran(2), Card(1)),
     |image| get(image, Tran(1), Rec(9)).map(drop),
@@ -32,6 +32,7 @@ const CALLS: [Call; 17] = [
     |image| load(image, Card(1)).map(drop),
     |image| performed(image, &[0x11, 0, 0, 0, 0]),
     |image| move_list(image, &mut []).map(drop),
+    |image| place_by_table(image, &[]),
 ];
 
 /// The queries of the control part.
@@ -85,7 +86,7 @@ fn assert_refused(image: &[u8], call: Call, refusal: Refusal) {
 
 #[test]
 fn wrong_lengths() {
-    for length in [0, 1, IMAGE_SIZE - 1, IMAGE_SIZE + 1] {
+    for length in [0, 1, OLDER_IMAGE_SIZE, IMAGE_SIZE - 1, IMAGE_SIZE + 1] {
         let mut image = opened();
         image.resize(length, 0);
         for call in all() {

@@ -100,5 +100,5 @@ fn refusal_as_an_error() {
         Transaction::begin(&mut [], Tran(1), Card(0))?;
         Ok(())
     }
-    assert_eq!(fails().expect_err("no image").to_string(), "the image has another length than 21,024 bytes");
+    assert_eq!(fails().expect_err("no image").to_string(), "an image has another length than the call takes");
 }

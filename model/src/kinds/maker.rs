@@ -6,9 +6,11 @@ use super::{Kind, KINDS};
 use crate::calls::{perform_by, Answer, Call};
 use crate::commands::{read_command, write_command, COMMAND_BYTES};
 use crate::control::Control;
+use crate::converter::convert;
 use crate::edition::{Edition, BROKEN_WIRE};
-use crate::image::{CONTROL, LENGTH, RECORDS};
+use crate::image::{RECORDS, TABLES};
 use crate::random::Random;
+use crate::table::place_by_table;
 use std::collections::VecDeque;
 
 pub struct Maker {
@@ -50,7 +52,7 @@ impl Maker {
         if kind == Kind::Edges {
             records.extend([0, 7, 8, 503, 504, 511]);
         }
-        let image = vec![0; LENGTH];
+        let image = vec![0; edition.length()];
         let (plan, before) = (VecDeque::new(), Vec::new());
         let mut maker = Maker { edition, kind, profile, random, image, records, plan, steady: false, before };
         if kind == Kind::Refusals {
@@ -61,8 +63,23 @@ impl Maker {
 
     /// The commands from here on are for a store that follows these rules; what is there stays.
     pub fn go_on_by(&mut self, edition: Edition) {
+        if edition.length() != self.edition.length() {
+            // A store that was never started is not converted, and the longer image stays zero too.
+            let mut image = vec![0; edition.length()];
+            convert(&self.image, &mut image);
+            self.image = image;
+        }
         self.edition = edition;
         if let Some(control) = self.running() {
+            self.plan_going_on(&control);
+        }
+    }
+
+    /// A placing by table, which no command file has, on the store kept beside. Where it is taken, the commands after
+    /// it most often use it.
+    pub fn place_by_table(&mut self, lines: &[u8]) {
+        let answer = place_by_table(&mut self.image, lines);
+        if let (Answer::Ok, Some(control)) = (answer, self.running()) {
             self.plan_going_on(&control);
         }
     }
@@ -169,7 +186,7 @@ impl Maker {
     }
 
     fn refill_plan(&mut self, control: &Control) {
-        let empty = self.image[CONTROL..].iter().all(|byte| *byte == 0);
+        let empty = self.image[TABLES].iter().all(|byte| *byte == 0);
         if empty && self.plan.is_empty() && self.random.chance(600) {
             self.plan_batch(control, true);
         }

@@ -2,12 +2,11 @@
 
 use model::calls::perform_by;
 use model::edition::Edition;
-use model::image::LENGTH;
 use model::{Answer, Call};
 
 /// An image after these calls, none of them refused.
 pub fn after(edition: Edition, calls: &[Call]) -> Vec<u8> {
-    let mut image = vec![0; LENGTH];
+    let mut image = vec![0; edition.length()];
     make(edition, &mut image, calls);
     image
 }
