@@ -127,7 +127,8 @@ module _ (before : Image) (long : length before ≡ olderSize) where
   move-answers : answersBy belowWire (commit 2 ∷ fit 2 ∷ place (byte 0x2C) ∷ move 1 1 ∷ move 4 2 ∷ move 0 2 ∷ settle ∷ begin 3 2 ∷ get 3 9 ∷ get 3 17 ∷ []) (left .rules)
       ≡ (0 ∷ []) ∷ (0 ∷ []) ∷ (0 ∷ []) ∷ (6 ∷ 1 ∷ []) ∷ (6 ∷ 2 ∷ []) ∷ (6 ∷ 0 ∷ []) ∷ (7 ∷ 1 ∷ []) ∷ (0 ∷ []) ∷ (1 ∷ brokenWire ∷ []) ∷ (1 ∷ brokenWire ∷ []) ∷ []
   unfolding rulesAfter answersBy answerOf nextState apply plan refusal act look trail holders settled settledBy lockHolders layBlock endHeld clearCard moveWrites anyLocked hasCard
-      withCard withoutCard isWithin memberAt membersAfter acrossRails railSites maskSites startRow placeRows placedRow isHeld wordAt slotOf wordOf putSlot lockSlot endedByte endSlots tabulate members size
+      withCard withoutCard isWithin memberAt membersAfter acrossRails railSites maskSites startRow placeRows placedRow isHeld wordAt slotOf wordOf
+      putSlot lockSlot endedByte endSlots tabulate members size
   move-answers = refl
 
   -- ---- the base made the first of these calls, and A.1 to A.4 the others
