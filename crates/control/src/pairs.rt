@@ -30,11 +30,8 @@ fn read_at(image: &[u8], at: usize) -> [u8; image::PAIRS_SIZE]
     ensures { λ r. ⌜ r ≡ segment (now (image .entry)) at pairsSize ⌝ }
 {
     let mut bytes = [0u8; image::PAIRS_SIZE];
-    let mut j = 0;
-    while j < image::PAIRS_SIZE {
-        bytes[j] = image[at + j];
-        j += 1;
-    }
+    let end = at + image::PAIRS_SIZE;
+    image::write_at(&mut bytes, 0, &image[at..end]);
     bytes
 }
 

@@ -16,7 +16,7 @@ use control::Control;
 use control::codec;
 use promise::Answer;
 
-// The rows from 3 on, a test each. Lines that are in range can be looked at on a stopped store too.
+// The rows from 3 on, a test each.
 fn refusal(k: Control, lines: &[u8]) -> u8
     requires { ⌜ Counted k ⌝ }
     ensures { λ r. ⌜ r ≡ refusal cabinet (place (byLines (now (lines .entry)))) (meaning k) (noBlocks cabinet) ⌝ }
@@ -24,11 +24,10 @@ fn refusal(k: Control, lines: &[u8]) -> u8
     if !table_lines::in_range(lines) {
         return 3;
     }
-    let works = table_lines::work(lines, k.working);
     if k.stopped {
         return 4;
     }
-    if !works {
+    if !table_lines::work(lines, k.working) {
         return 9;
     }
     let covered = table_lines::coverage(lines);
@@ -44,17 +43,17 @@ fn refusal(k: Control, lines: &[u8]) -> u8
     0
 }
 
-// The placement of the lines becomes the newest: its mask and its mark stand before the tables, its pairs behind them
-// and behind the pairs of the older placements.
+// The placement of the lines becomes the newest: its pairs stand behind those of the older placements, its mask and its
+// mark before the tables.
 fn add(image: &mut [u8], k: Control, lines: &[u8])
     requires { ⌜ Given k (now image) ⌝ }
     requires { ⌜ areLines (now lines) ≡ true ⌝ }
     requires { ⌜ k .count < mostActive ⌝ }
     ensures { λ _. ⌜ now (image .exit) ≡ withTable (now (lines .entry)) (now (image .entry)) ⌝ }
 {
+    control::pairs::put(image, k.count as usize, table_lines::pairs(lines));
     let mask = table_lines::named(lines);
     codec::write(image, k.add_table(mask));
-    control::pairs::put(image, k.count as usize, table_lines::pairs(lines));
 }
 
 // The placement of the lines becomes the newest.

@@ -54,7 +54,3 @@ open-given given t = ap (λ (p : Part). isOpen p t) (given .is .means)
 pub card-given : {k : Control} {g : Image} → Given k g → (c : ℕ) → cardRows (meaning k) c ≡ cardRows (controlIn g) c
 unfolding cardRows
 card-given given c = ap (λ (p : Part). cardRows p c) (given .is .means)
-
-pub tran-given : {k : Control} {g : Image} → Given k g → (t : ℕ) → tranRows (meaning k) t ≡ tranRows (controlIn g) t
-unfolding tranRows
-tran-given given t = ap (λ (p : Part). tranRows p t) (given .is .means)

@@ -121,7 +121,6 @@ fn line_works(working: u8, line: Line) -> bool
 
 // So are those of every line.
 pub fn work(lines: &[u8], working: u8) -> bool
-    requires { ⌜ areLines (now lines) ≡ true ⌝ }
     ensures { λ r. ⌜ r ≡ linesWork (byte working) (now (lines .entry)) ⌝ }
 {
     let count = line_count(lines);

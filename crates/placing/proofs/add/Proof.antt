@@ -1,22 +1,10 @@
--- The struct with the placement is written, and then its pairs: the law of both is in Written. Assumes nothing.
+-- The pairs of the placement are written, and then the struct with the placement: the law of both is in Written. Assumes nothing.
 use borrow.Author.Needs.{needs}
 use native.Mathlib.Omega.{arith}
-use Rattle.placing.proofs.Written.{long, table-written, whole-between}
+use Rattle.promise.proofs.Finish.{given-whole}
+use Rattle.placing.proofs.Written.{long-between, table-written}
 use Rattle.placing.proofs.add.Statement.{statement}
 use Rattle.placing.proofs.add.Tie as tie
-
-named-requires : tie.Need-named-requires
-named-requires c κs = search needs
-
-add-table-requires : tie.Need-add-table-requires
-add-table-requires c κs = search needs
-
--- the place where the function starts
-abbrev start-at : tie.After-add-table → tie.Start
-start-at a = a .before .before .before .before .before
-
-write-requires : tie.Need-write-requires
-write-requires c κs = (long (start-at c .pre .0), c .add-table .ensures .counted)
 
 cast-put : tie.Need-cast-put
 cast-put c = search needs
@@ -24,34 +12,50 @@ cast-put c = search needs
 pairs-requires : tie.Need-pairs-requires
 pairs-requires c κs = search needs
 
+-- the place where the function starts
+abbrev start-at : tie.After-pairs → tie.Start
+start-at p = p .before .before .before .before .before
+
 put-requires : tie.Need-put-requires
-put-requires c κs =
-    let w = c .before .before .before .before .before in
-    let s = start-at (w .before) in
-    (whole-between (s .pre .0) (s .args .lines .now) (s .pre .1 .1) _ _ (w .write .ensures), omega (arith, s .pre .1 .1))
+put-requires c κs = let s = start-at c in (given-whole (s .pre .0), omega (arith, s .pre .1 .1))
+
+named-requires : tie.Need-named-requires
+named-requires c κs = search needs
+
+add-table-requires : tie.Need-add-table-requires
+add-table-requires c κs = search needs
+
+-- the place behind the pairs
+abbrev put-at : tie.After-add-table → tie.After-put
+put-at a = a .before .before .before .before .before
+
+write-requires : tie.Need-write-requires
+write-requires c κs =
+    let u = put-at c in
+    let s = start-at (u .before) in
+    (long-between (s .pre .0) (s .args .lines .now) (s .pre .1 .1) _ _ (u .before .pairs .ensures) (u .put .ensures), c .add-table .ensures .counted)
 
 same-length : tie.Need-same-length
 same-length c = search needs
 
 returns : tie.Need-returns
 returns c =
-    let u = c .before .before in
-    let p = u .before in
-    let w = p .before .before .before .before .before in
+    let w = c .before .before in
     let a = w .before in
-    let s = start-at a in
-    table-written (s .pre .0) (s .args .lines .now) (s .pre .1 .1) _ _ _ _ _ (a .before .before .named .ensures) (a .add-table .ensures) (p .pairs .ensures)
-    (w .write .ensures) (u .put .ensures)
+    let u = put-at a in
+    let s = start-at (u .before) in
+    table-written (s .pre .0) (s .args .lines .now) (s .pre .1 .1) _ _ _ _ _ (a .before .before .named .ensures) (a .add-table .ensures)
+    (u .before .pairs .ensures) (u .put .ensures) (w .write .ensures)
 
 pub add-spec : {M : Type 1} → statement M
 add-spec =
     tie.close
     (tie.spec
-    named-requires
-    add-table-requires
-    write-requires
     cast-put
     pairs-requires
     put-requires
+    named-requires
+    add-table-requires
+    write-requires
     same-length
     returns)

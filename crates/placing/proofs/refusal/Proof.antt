@@ -12,43 +12,39 @@ use Rattle.placing.proofs.refusal.Tie as tie
 in-range-requires : tie.Need-in-range-requires
 in-range-requires c κs = search needs
 
--- the places before a later one
-abbrev from-range : tie.After-in-range → tie.Start
-from-range r = r .before .before
+-- the place where the function starts
+abbrev start-at : tie.After-in-range → tie.Start
+start-at r = r .before .before
 
 abbrev from-work : tie.After-work → tie.Start
-from-work w = from-range (w .before .before)
-
-abbrev from-coverage : tie.After-coverage → tie.After-work
-from-coverage v = v .before .before .before
+from-work w = start-at (w .before .before .before)
 
 returns : tie.Need-returns
 returns c =
-    let r = c .before in
-    let s = from-range r in
-    says-3 (s .args .k) (s .pre) (s .args .lines .now) (sym (r .in-range .ensures) ∙ not-true _ (c .if1 .taken))
+    let s = start-at (c .before) in
+    says-3 (s .args .k) (s .pre) (s .args .lines .now) (sym (c .before .in-range .ensures) ∙ not-true _ (c .if1 .taken))
 
 -- the tests that were passed
-in-range-at : (e : tie.Else1) → areLines (from-range (e .before) .args .lines .now) ≡ true
+in-range-at : (e : tie.Else1) → areLines (start-at (e .before) .args .lines .now) ≡ true
 in-range-at e = sym (e .before .in-range .ensures) ∙ not-false _ (e .if1 .left)
-
-work-requires : tie.Need-work-requires
-work-requires c κs = in-range-at c
 
 returns-2 : tie.Need-returns-2
 returns-2 c =
-    let w = c .before in
-    let s = from-work w in
-    says-4 (s .args .k) (s .pre) (s .args .lines .now) (in-range-at (w .before)) (c .if2 .taken)
+    let e = c .before in
+    let s = start-at (e .before) in
+    says-4 (s .args .k) (s .pre) (s .args .lines .now) (in-range-at e) (c .if2 .taken)
+
+work-requires : tie.Need-work-requires
+work-requires c κs = search needs
 
 returns-3 : tie.Need-returns-3
 returns-3 c =
-    let w = c .before .before in
+    let w = c .before in
     let s = from-work w in
-    says-9 (s .args .k) (s .pre) (s .args .lines .now) (in-range-at (w .before)) (c .before .if2 .left) (sym (w .work .ensures) ∙ not-true _ (c .if3 .taken))
+    says-9 (s .args .k) (s .pre) (s .args .lines .now) (in-range-at (w .before .before)) (w .before .if2 .left) (sym (w .work .ensures) ∙ not-true _ (c .if3 .taken))
 
-work-at : (e : tie.Else3) → let s = from-work (e .before .before) in works (s .args .k) (s .pre) (s .args .lines .now) ≡ true
-work-at e = sym (e .before .before .work .ensures) ∙ not-false _ (e .if3 .left)
+work-at : (e : tie.Else3) → let s = from-work (e .before) in works (s .args .k) (s .pre) (s .args .lines .now) ≡ true
+work-at e = sym (e .before .work .ensures) ∙ not-false _ (e .if3 .left)
 
 coverage-requires : tie.Need-coverage-requires
 coverage-requires c κs = in-range-at (c .before .before .before)
@@ -56,41 +52,41 @@ coverage-requires c κs = in-range-at (c .before .before .before)
 returns-4 : tie.Need-returns-4
 returns-4 c =
     let v = c .before in
-    let w = from-coverage v in
+    let w = v .before .before in
     let s = from-work w in
-    says-17 (s .args .k) (s .pre) (s .args .lines .now) (in-range-at (w .before)) (v .before .before .if2 .left) (work-at (v .before))
+    says-17 (s .args .k) (s .pre) (s .args .lines .now) (in-range-at (w .before .before)) (w .before .if2 .left) (work-at (v .before))
     (sym (v .coverage .ensures .0) ∙ c .if4 .taken)
 
-gap-at : (e : tie.Else4) → hasGap (from-work (from-coverage (e .before)) .args .lines .now) ≡ false
+gap-at : (e : tie.Else4) → hasGap (from-work (e .before .before .before) .args .lines .now) ≡ false
 gap-at e = sym (e .before .coverage .ensures .0) ∙ e .if4 .left
 
 returns-5 : tie.Need-returns-5
 returns-5 c =
     let v = c .before .before in
-    let w = from-coverage v in
+    let w = v .before .before in
     let s = from-work w in
-    says-18 (s .args .k) (s .pre) (s .args .lines .now) (in-range-at (w .before)) (v .before .before .if2 .left) (work-at (v .before)) (gap-at (c .before))
+    says-18 (s .args .k) (s .pre) (s .args .lines .now) (in-range-at (w .before .before)) (w .before .if2 .left) (work-at (v .before)) (gap-at (c .before))
     (sym (v .coverage .ensures .1) ∙ c .if5 .taken)
 
-overlap-at : (e : tie.Else5) → hasOverlap (from-work (from-coverage (e .before .before)) .args .lines .now) ≡ false
+overlap-at : (e : tie.Else5) → hasOverlap (from-work (e .before .before .before .before) .args .lines .now) ≡ false
 overlap-at e = sym (e .before .before .coverage .ensures .1) ∙ e .if5 .left
 
 returns-6 : tie.Need-returns-6
 returns-6 c =
     let e = c .before .before in
     let v = e .before .before in
-    let w = from-coverage v in
+    let w = v .before .before in
     let s = from-work w in
-    says-10 (s .args .k) (s .pre) (s .args .lines .now) (in-range-at (w .before)) (v .before .before .if2 .left) (work-at (v .before)) (gap-at (e .before))
+    says-10 (s .args .k) (s .pre) (s .args .lines .now) (in-range-at (w .before .before)) (w .before .if2 .left) (work-at (v .before)) (gap-at (e .before))
     (overlap-at e) (omega (arith, c .if6 .taken))
 
 returns-7 : tie.Need-returns-7
 returns-7 c =
     let e = c .before .before in
     let v = e .before .before in
-    let w = from-coverage v in
+    let w = v .before .before in
     let s = from-work w in
-    says-0 (s .args .k) (s .pre) (s .args .lines .now) (in-range-at (w .before)) (v .before .before .if2 .left) (work-at (v .before)) (gap-at (e .before))
+    says-0 (s .args .k) (s .pre) (s .args .lines .now) (in-range-at (w .before .before)) (w .before .if2 .left) (work-at (v .before)) (gap-at (e .before))
     (overlap-at e) (omega (arith, c .if6 .left))
 
 pub refusal-spec : {M : Type 1} → statement M
@@ -99,8 +95,8 @@ refusal-spec =
     (tie.spec
     in-range-requires
     returns
-    work-requires
     returns-2
+    work-requires
     returns-3
     coverage-requires
     returns-4
