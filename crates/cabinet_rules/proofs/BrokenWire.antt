@@ -20,9 +20,9 @@ use Rattle.method.specs.Rules.{move, moveWrites, place, refusal, refused, rollb
 use Rattle.method.specs.Rules.{start, state, stopping, store, trail, withdraw, unlessRefused}
 use Rattle.method.specs.Slots.{isNone, readBy}
 use Rattle.control_form.specs.ControlForm.{formRowsOf}
-use Rattle.cabinet_rules.specs.BrokenWire.{BrokenWireRefused, ElseAsBefore}
+use Rattle.cabinet_rules.specs.BrokenWire.{BrokenWireRefused, ElseAsBefore, RefusesBrokenWire}
 use Rattle.cabinet_rules.specs.Cabinet.{placeRows, rulesOf, tranOk}
-use Rattle.cabinet_rules.specs.Delivery.{PartOf, brokenWire, storable}
+use Rattle.cabinet_rules.specs.Delivery.{Delivery, PartOf, brokenWire, current, storable}
 use Rattle.cabinet_rules.specs.Places.{placedRow}
 use Rattle.cabinet_rules.specs.Retired.{anyValue, belowWire, twoRails}
 use Rattle.cabinet_rules.specs.Images.{Image, after, answerBy, controlBy, nextBy, planBy, refusalBy, stateBy}
@@ -116,16 +116,21 @@ never : (b : Bool) → not (b && false) ≡ true
 never true = refl
 never false = refl
 
-wire-rows : (t r : ℕ) (g : Image) → refusalBy belowWire (store t r brokenWire) g ≡ formRowsOf (imageSizeOf (belowWire .memory .layout)) false (formBy belowWire g) g 3
-unfolding refusalBy refusal
-wire-rows t r g = rw (never (tranOk t && ltb r recordCount))
+module _ (D : Delivery) (off : D .valueInRange brokenWire ≡ false) where
+  wire-rows : (t r : ℕ) (g : Image) → refusalBy D (store t r brokenWire) g ≡ formRowsOf (imageSizeOf (D .memory .layout)) false (formBy D g) g 3
+  unfolding refusalBy refusal
+  wire-rows t r g = rw (off, never (tranOk t && ltb r recordCount))
 
-always-refused : (a b : Bool) (x : Answer since) (g y : Image)
-    → (orRefused since (row 1 a (row 2 b 3)) x ≡ refused (row 1 a (row 2 b 3))) × (unlessRefused (row 1 a (row 2 b 3)) g y ≡ g)
-always-refused true b x g y = (refl, refl)
-always-refused false true x g y = (refl, refl)
-always-refused false false x g y = (refl, refl)
+  always-refused : (a b : Bool) (x : Answer (rulesOf D)) (g y : Image)
+      → (orRefused (rulesOf D) (row 1 a (row 2 b 3)) x ≡ refused (row 1 a (row 2 b 3))) × (unlessRefused (row 1 a (row 2 b 3)) g y ≡ g)
+  always-refused true b x g y = (refl, refl)
+  always-refused false true x g y = (refl, refl)
+  always-refused false false x g y = (refl, refl)
+
+  refuses-wire : RefusesBrokenWire D
+  unfolding RefusesBrokenWire answerBy nextBy
+  refuses-wire t r g = rw (wire-rows t r g) (always-refused (not (eqb (length g) (imageSizeOf (D .memory .layout)))) (not (formBy D g)) _ g _)
 
 pub broken-wire-refused : BrokenWireRefused
-unfolding BrokenWireRefused answerBy nextBy
-broken-wire-refused t r g = rw (wire-rows t r g) (always-refused (not (eqb (length g) (imageSizeOf (belowWire .memory .layout)))) (not (formBy belowWire g)) _ g _)
+unfolding BrokenWireRefused
+broken-wire-refused = (refuses-wire belowWire refl, refuses-wire current refl)
