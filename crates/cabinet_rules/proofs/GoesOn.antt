@@ -68,6 +68,8 @@ module _ (E D : Delivery) (S : Succession E D) where
     numbered = Parameters.numbered (rulesOf D);
     noStamp = Parameters.noStamp (rulesOf D);
     stampOf = Parameters.stampOf (rulesOf D);
+    sameStamp = Parameters.sameStamp (rulesOf D);
+    marksWhileStopped = Parameters.marksWhileStopped (rulesOf D);
     StartArgument = Parameters.StartArgument (rulesOf D);
     PlaceArgument = Parameters.PlaceArgument (rulesOf D);
     copies = Parameters.copies (rulesOf D);

@@ -40,6 +40,8 @@ module _ (D : Delivery) where
     Stamp = D .memory .Stamp;
     noStamp = D .memory .noStamp;
     stampOf = D .memory .stampOf;
+    sameStamp = D .memory .sameStamp;
+    marksWhileStopped = D .marksWhileStopped;
     StartArgument = Byte;
     PlaceArgument = D .PlaceArgument;
     cards = cardCount;

@@ -1,7 +1,7 @@
 -- What the deliveries of this cabinet differ in, and the one in force. Assumes nothing.
 use Prim.Native.Nat.{ℕ}
 use lib.Dec.{ltb}
-use mathlib.Core.Bool.{Bool}
+use mathlib.Core.Bool.{Bool, false, true}
 use mathlib.Core.List.{List}
 use Rattle.image.specs.Layout.{Layout, layout as currentLayout}
 use Rattle.mask.specs.Masks.{Byte}
@@ -25,6 +25,7 @@ pub record Memory (Placement Serial : Type 0) : Type 1 where
   pub stampOf : ControlPart Byte Placement Setting Serial → Stamp
   pub stampBytes : Stamp → ℕ → ℕ
   pub stampIn : (ℕ → ℕ) → Stamp
+  pub sameStamp : Stamp → Stamp → Bool
 
 pub record Delivery : Type 1 where
   pub Placement : Type 0
@@ -45,6 +46,8 @@ pub record Delivery : Type 1 where
   pub places : Placement → PlaceArgument → Placement
   pub placeInRange : PlaceArgument → Bool
   pub placeRefusal : ControlPart Byte Placement Setting Serial → PlaceArgument → ℕ
+  -- whether a stopped store still marks cards that fail; else it refuses fail 4
+  pub marksWhileStopped : Bool
   -- the values that store takes; others are refused 3
   pub valueInRange : ℕ → Bool
   pub memory : Memory Placement Serial
@@ -75,6 +78,7 @@ tableMemory = record {
   stampOf = λ k. tt;
   stampBytes = λ m j. 0;
   stampIn = λ g. tt;
+  sameStamp = λ m n. true;
 }
 
 -- Sites are by the placement's own choice. Start and fail place by rails; place does so with a mask, and by table with
@@ -94,6 +98,7 @@ byTables = record {
   places = λ newest a. placementOf a;
   placeInRange = argumentInRange;
   placeRefusal = argumentRows;
+  marksWhileStopped = false;
   valueInRange = storable;
   memory = tableMemory;
 }

@@ -58,6 +58,7 @@ module _ {A S B T : Type 0} (M : Memory B T) (R : Retirement A S B T) where
     stampOf = λ k. tt;
     stampBytes = λ m j. 0;
     stampIn = λ g. tt;
+    sameStamp = λ m n. true;
   }
 
 -- ---- before A.6
@@ -96,6 +97,7 @@ railed values = record {
   places = λ newest m. record { mask = m; byRails = true };
   placeInRange = λ m. true;
   placeRefusal = placeRows againMarked;
+  marksWhileStopped = false;
   valueInRange = values;
   memory = railMemory;
 }
@@ -139,6 +141,7 @@ base = record {
   places = λ newest m. m;
   placeInRange = λ m. true;
   placeRefusal = placeRows (λ newest m. eqb (m .0) (newest .0));
+  marksWhileStopped = false;
   valueInRange = anyValue;
   memory = retired railMemory beforeMarks;
 }

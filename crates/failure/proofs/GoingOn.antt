@@ -15,7 +15,7 @@ use Rattle.mask.specs.Placements.{Placement, fromMask, pairless}
 use Rattle.slot.specs.Blocks.{inSet}
 use Rattle.method.specs.Changes.{marked}
 use Rattle.method.specs.ControlPart.{active, added, begunAt, closed}
-use Rattle.method.specs.Rules.{act, dropHeld, fail, placed, stampAll, stamping, stopping, unplaced, writing}
+use Rattle.method.specs.Rules.{dropHeld, fail, placed, stampAll, stamping, stopping, unplaced, writing}
 use Rattle.control.specs.ControlBytes.{Part, frontPart}
 use Rattle.control.proofs.Front.{added-front}
 use Rattle.control.specs.Meaning.{Is, meaning, newestMask, placementIn, putControl}
@@ -33,7 +33,7 @@ use Rattle.promise.proofs.Laid.{KeepsTail, more-tail, no-ends, same-tail, whole
 use Rattle.tables.specs.Tables.{endWrites, setOf}
 use Rattle.failure.specs.Failing.{Failing}
 use Rattle.failure.proofs.Room.{room-for}
-use Rattle.failure.proofs.Stopping.{dropped}
+use Rattle.failure.proofs.Stopping.{dropped, in-run}
 
 older-count : (k : Struct) → length (meaning k .older) ≡ k .count - 1
 unfolding meaning
@@ -77,8 +77,7 @@ module _ {m x : Struct} {g out : Image} {c : ℕ} (f : Failing m g c) (s : stopp
   -- ---- the card was not in the newest placement
   unplaced-plan : hasCard newest c ≡ false
       → planOn (fail c) g ≡ writing cabinet unplaced closedPart (dropHeld cabinet (begunAt (controlIn g) c) c (viewOf g))
-  unfolding act
-  unplaced-plan h = rw (s, h)
+  unplaced-plan h = in-run f (rw (s, h))
 
   pub unplaced-done : {n : ℕ} {b : Bool} → n ≡ newestMask m → b ≡ hasCard (byte n) c → b ≡ false
       → (behind : Image) → behind ≡ putControl out (meaning x) → Done (fail c) g Unplaced behind
@@ -94,8 +93,7 @@ module _ {m x : Struct} {g out : Image} {c : ℕ} (f : Failing m g c) (s : stopp
   placed-plan : hasCard newest c ≡ true
       → planOn (fail c) g ≡ stamping cabinet (writing cabinet (placed (withoutCard newest c)) addedPart (dropHeld cabinet (begunAt (controlIn g) c) c (viewOf g)))
       (stampAll cabinet addedPart)
-  unfolding act
-  placed-plan h = rw (s, h)
+  placed-plan h = in-run f (rw (s, h))
 
   pub placed-done : {n mask : ℕ} {b : Bool} {y : Struct} → n ≡ newestMask m → b ≡ hasCard (byte n) c → b ≡ true → byte mask ≡ withoutCard (byte n) c
       → Is y (added (meaning x) (fromMask (byte mask)) tt) → (behind : Image) → behind ≡ putControl out (meaning y) → Done (fail c) g (Placed mask) behind

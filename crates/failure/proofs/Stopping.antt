@@ -1,11 +1,11 @@
 -- The store stops: what the rollback of all open transactions and the halt leave is the image of the rules' plan. Assumes nothing.
 use Prim.Native.Nat.{ℕ}
-use mathlib.Core.Bool.{Bool, false, true}
+use mathlib.Core.Bool.{Bool, cond, false, true}
 use mathlib.Core.Path.{_∙_, _≡_, ap, refl}
 use Rattle.slot.specs.Blocks.{inSet}
 use Rattle.method.specs.Changes.{marked}
 use Rattle.method.specs.ControlPart.{halted, isOpen}
-use Rattle.method.specs.Rules.{act, dropHeld, fail, stopping, stops, writing}
+use Rattle.method.specs.Rules.{Plan, act, dropHeld, fail, failPlan, stopPlan, stopping, stops, unwritten, writing}
 use Rattle.control.specs.ControlBytes.{Part, frontPart}
 use Rattle.control.specs.Meaning.{Is, meaning, putControl}
 use Rattle.control.specs.declared.Control.{Control as Struct}
@@ -36,10 +36,17 @@ module _ {m : Struct} {g : Image} {c : ℕ} (f : Failing m g c) where
   pub dropped : (h : ℕ → Bool) → laid (endWrites (meaning m .working) false (inSet (setOf h)) g) g ≡ laid (dropHeld cabinet h c (viewOf g)) g
   dropped h = ap (λ (p : Part). laid (endWrites (p .working) false (inSet (setOf h)) g) g) (f .is .means) ∙ drops-set g h c
 
+  -- a running store does what follows the test of the stopped bit
+  pub in-run : {p : Plan cabinet} → cond (stopping cabinet (controlIn g) c) (stopPlan cabinet (controlIn g) (viewOf g) c) (failPlan cabinet (controlIn g) (viewOf g) c) ≡ p
+      → planOn (fail c) g ≡ p
+  unfolding act
+  in-run e = ap (λ (b : Bool). cond b (unwritten cabinet stops lessCard)
+      (cond (stopping cabinet (controlIn g) c) (stopPlan cabinet (controlIn g) (viewOf g) c) (failPlan cabinet (controlIn g) (viewOf g) c))) (f .running) ∙ e
+
   stop-plan : stopping cabinet (controlIn g) c ≡ true
       → planOn (fail c) g ≡ writing cabinet stops (halted lessCard) (dropHeld cabinet (isOpen (controlIn g)) c (viewOf g))
   unfolding act
-  stop-plan s = rw s
+  stop-plan s = in-run (ap (λ (b : Bool). cond b (stopPlan cabinet (controlIn g) (viewOf g) c) (failPlan cabinet (controlIn g) (viewOf g) c)) s)
 
   stopped-is : stoppedOn (meaning m) g ≡ putControl (laid (dropHeld cabinet (isOpen (controlIn g)) c (viewOf g)) g) (frontPart (halted lessCard))
   unfolding stoppedOn

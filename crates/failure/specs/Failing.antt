@@ -16,9 +16,11 @@ use Rattle.promise.specs.Given.{rowsOn}
 use Rattle.promise.specs.Laid.{laid}
 use Rattle.tables.specs.Tables.{endWrites, setOf}
 
--- The fail of card c is accepted, and the struct is the image's control part with the card marked failed, but for pairs.
+-- The fail of card c is accepted in a running store, and the struct is the image's control part with the card marked failed,
+-- but for pairs.
 pub record Failing (m : Control) (g : Image) (c : ℕ) : Type 0 where
   pub formed : formRefusal g ≡ 0
+  pub running : controlIn g .stopped ≡ false
   pub accepted : 0 ≡ rowsOn (fail c) g
   pub is : Is m (frontPart (marked cabinet (controlIn g) c))
 

@@ -18,7 +18,7 @@ use Rattle.method.specs.ControlPart.{active, begunAt, closed, halted, is
 use Rattle.method.specs.ControlPart.{withCards}
 use Rattle.method.specs.OneRecordList.{isLast, isStop, observe}
 use Rattle.method.specs.Parameters.{Parameters}
-use Rattle.method.specs.Rules.{Call, Plan, View, absent, act, begin, commit, delete, dropHeld, fail, failPlan}
+use Rattle.method.specs.Rules.{Call, Plan, View, absent, act, begin, commit, delete, dropHeld, fail, failPlan, stopPlan}
 use Rattle.method.specs.Rules.{fit, get, guarded, inActive, load, lockHolders, move, ok, place, plan, refusal}
 use Rattle.method.specs.Rules.{rollback, seenSlot, settle, start, state, stopping, stops, store, unwritten}
 use Rattle.method.specs.Rules.{withdraw, writing}
@@ -299,14 +299,15 @@ module _ (P : Parameters) (L : Laws P) where
         let r = row-3 (ltb c cards) e in
         full-withdraw k f g c (row-clear (anyBelow transactions (begunAt k c)) 13 (row-clear (not (has (k .working) c) || inActive P k c) 7 (row-clear (k .stopped) 3 (r .1) .1) .1) .0)
     act-full (place a) e s = full-place k f g a (row-clear (k .stopped) 3 (row-3 (placeInRange a) e .1) .1)
-    act-full (fail c) e s = either (stopping P k c) s
+    act-full (fail c) e s = either (k .stopped) (stopping P k c) s
       where
-        either : (b : Bool) → isStop P ((cond {A = Plan P} b (writing P stops (halted (marked P k c)) (dropHeld P (isOpen k) c v))
-            (failPlan P k v c)) .answer) ≡ false
-            → ControlInv ((cond {A = Plan P} b (writing P stops (halted (marked P k c)) (dropHeld P (isOpen k) c v))
-            (failPlan P k v c)) .after)
-        either true z = tf true refl z
-        either false z = full-fail k f g c (row-3 (ltb c cards) e .0) (has (mask (k .newest)) c) refl
+        planned : Bool → Bool → Plan P
+        planned s b = cond s (unwritten P stops (marked P k c)) (cond b (stopPlan P k v c) (failPlan P k v c))
+
+        either : (s b : Bool) → isStop P (planned s b .answer) ≡ false → ControlInv (planned s b .after)
+        either true b z = tf true refl z
+        either false true z = tf true refl z
+        either false false z = full-fail k f g c (row-3 (ltb c cards) e .0) (has (mask (k .newest)) c) refl
     act-full (move c b) e s = g
     act-full settle e s = full-settle k f g
     act-full state e s = g

@@ -18,7 +18,7 @@ use Rattle.method.specs.ControlPart.{halted, isOpen}
 use Rattle.method.specs.OneRecordList.{isLast, observe}
 use Rattle.method.specs.Parameters.{Parameters}
 use Rattle.method.specs.Rules.{Call, Plan, View, absent, act, begin, clearCard, clearStamp, commit, delete, dropHeld, endHeld}
-use Rattle.method.specs.Rules.{fail, failPlan, fit, get, guarded, holders, layBlock, load, lockHolders, move, moveWrites, newestSites}
+use Rattle.method.specs.Rules.{fail, failPlan, stopPlan, fit, get, guarded, holders, layBlock, load, lockHolders, move, moveWrites, newestSites}
 use Rattle.method.specs.Rules.{ok, place, placed, plan, refusal, rollback, seenSlot, settle, settled, stampAll, stamped, start, state, stopping}
 use Rattle.method.specs.Rules.{stops, store, storeWrites, trail, unplaced, unwritten, updated, visible, withdraw, writing}
 use Rattle.method.specs.Slots.{blank, isNone, readBy}
@@ -29,7 +29,7 @@ use Rattle.method.proofs.ControlForms.{form-started}
 use Rattle.method.proofs.Invariant.{Form, Invariant, held-seen, newest-in}
 use Rattle.method.proofs.Laws.{Laws}
 use Rattle.method.proofs.Refusals.{row-3, row-clear}
-use Rattle.method.proofs.Stopped.{Rests, rests-halted}
+use Rattle.method.proofs.Stopped.{Rests, rests-halted, rests-marked}
 
 module _ (P : Parameters) (L : Laws P) where
   open Parameters P using (Block, Stamp, StartArgument, blockOf, blocks, cards, copies, empty, has, held, mask, noStamp, placeInRange)
@@ -92,13 +92,16 @@ module _ (P : Parameters) (L : Laws P) where
     runs-next (fit c) v e = kept-any (fit c) e refl
     runs-next (withdraw c) v e = kept-any (withdraw c) e refl
     runs-next (place a) v e = kept-any (place a) e refl
-    runs-next (fail c) v e = either (stopping P k c) (kept-any (fail c) e)
+    runs-next (fail c) v e = either (k .stopped) (f .base .running) (stopping P k c) (kept-any (fail c) e)
       where
-        either : (b : Bool) → (isLast P (observe P (fail c) (cond {A = Plan P} b (writing P stops (halted (marked P k c)) (dropHeld P (isOpen k) c nothing)) (failPlan P k nothing c) .answer)) ≡ false
-            → Legal (cond {A = Plan P} b (writing P stops (halted (marked P k c)) (dropHeld P (isOpen k) c nothing)) (failPlan P k nothing c) .after))
-            → Legal (cond {A = Plan P} b (writing P stops (halted (marked P k c)) (dropHeld P (isOpen k) c v)) (failPlan P k v c) .after)
-        either true h = is-resting (rests-halted P L k c (row-3 (ltb c cards) e .0) f u)
-        either false h = h (quiet (has (mask (k .newest)) c))
+        planned : Bool → Bool → View P → Plan P
+        planned s b v = cond s (unwritten P stops (marked P k c)) (cond b (stopPlan P k v c) (failPlan P k v c))
+
+        either : (s : Bool) → s ≡ false → (b : Bool)
+            → (isLast P (observe P (fail c) (planned s b nothing .answer)) ≡ false → Legal (planned s b nothing .after)) → Legal (planned s b v .after)
+        either true z b h = tf true refl z
+        either false z true h = is-resting (rests-halted P L k c (row-3 (ltb c cards) e .0) f u)
+        either false z false h = h (quiet (has (mask (k .newest)) c))
           where
             quiet : (b : Bool) → isLast P (observe P (fail c) (cond b (placed (mask (without (k .newest) c))) unplaced)) ≡ false
             quiet true = refl
@@ -108,7 +111,7 @@ module _ (P : Parameters) (L : Laws P) where
     runs-next state v e = is-running f u
     runs-next (load c) v e = is-running f u
 
-  -- ---- a stopped store takes no call but a start
+  -- ---- a stopped store takes a start, and a fail that marks
   module _ (k : Control P) (s : Rests P L k) where
     past-4 : k .stopped ≡ false → ⊥
     past-4 e = tf (k .stopped) (s .stays) e
@@ -125,7 +128,11 @@ module _ (P : Parameters) (L : Laws P) where
     rests-next (fit c) v e = absurd (past-4 (row-clear (k .stopped) 3 (row-3 (ltb c cards) e .1) .0))
     rests-next (withdraw c) v e = absurd (past-4 (row-clear (k .stopped) 3 (row-3 (ltb c cards) e .1) .0))
     rests-next (place a) v e = absurd (past-4 (row-clear (k .stopped) 3 (row-3 (placeInRange a) e .1) .0))
-    rests-next (fail c) v e = absurd (past-4 (row-clear (k .stopped) 3 (row-3 (ltb c cards) e .1) .0))
+    rests-next (fail c) v e = either (k .stopped) (s .stays)
+      where
+        either : (t : Bool) → t ≡ true → Legal ((cond {A = Plan P} t (unwritten P stops (marked P k c)) (cond (stopping P k c) (stopPlan P k v c) (failPlan P k v c))) .after)
+        either true z = is-resting (rests-marked P L k c (row-3 (ltb c cards) e .0) s)
+        either false z = tf false z refl
     rests-next (move c b) v e = absurd (past-4 (row-clear (k .stopped) 3 (row-3 (ltb c cards && ltb b (blocks (k .setting))) e .1) .0))
     rests-next settle v e = absurd (past-4 (row-clear (k .stopped) 3 e .0))
     rests-next state v e = absurd (past-4 (row-clear (k .stopped) 3 e .0))
@@ -218,11 +225,12 @@ module _ (P : Parameters) (L : Laws P) where
     write-outside (fit c) e = clear-outside c
     write-outside (withdraw c) e = clear-outside c
     write-outside (place a) e = refl
-    write-outside (fail c) e = either (stopping P k c)
+    write-outside (fail c) e = either (k .stopped) (stopping P k c)
       where
-        either : (d : Bool) → updated ((cond {A = Plan P} d (writing P stops (halted (marked P k c)) (dropHeld P (isOpen k) c v)) (failPlan P k v c)) .write x b) empty ≡ empty
-        either true = rw not-held
-        either false = rw not-held
+        either : (s d : Bool) → updated ((cond {A = Plan P} s (unwritten P stops (marked P k c)) (cond d (stopPlan P k v c) (failPlan P k v c))) .write x b) empty ≡ empty
+        either true d = refl
+        either false true = rw not-held
+        either false false = rw not-held
     write-outside (move c m) e = move-outside c m (and-r (ltb c cards) (ltb m (blocks (k .setting))) (row-3 (ltb c cards && ltb m (blocks (k .setting))) e .0))
     write-outside settle e = refl
     write-outside state e = refl
@@ -258,16 +266,17 @@ module _ (P : Parameters) (L : Laws P) where
   stamp-written Q k v (fit c) z q x = written-if Q (eqb x c) noStamp z
   stamp-written Q k v (withdraw c) z q x = written-if Q (eqb x c) noStamp z
   stamp-written Q k v (place a) z q x = written-if Q (has (k .working) x) _ q
-  stamp-written Q k v (fail c) z q x = either (stopping P k c) q
+  stamp-written Q k v (fail c) z q x = either (k .stopped) (stopping P k c) q
     where
       both : (d : Bool) → Q (stampOf (replaced P k c)) → Written Q (cond d (cond (has (replaced P k c .working) x) (some (stampOf (replaced P k c))) none) none)
       both true h = written-if Q (has (replaced P k c .working) x) (stampOf (replaced P k c)) h
       both false h = tt
 
-      either : (d : Bool) → Q (stampOf ((cond {A = Plan P} d (writing P stops (halted (marked P k c)) (dropHeld P (isOpen k) c v)) (failPlan P k v c)) .after))
-          → Written Q ((cond {A = Plan P} d (writing P stops (halted (marked P k c)) (dropHeld P (isOpen k) c v)) (failPlan P k v c)) .stamps x)
-      either true h = tt
-      either false h = both (has (mask (k .newest)) c) h
+      either : (s d : Bool) → Q (stampOf ((cond {A = Plan P} s (unwritten P stops (marked P k c)) (cond d (stopPlan P k v c) (failPlan P k v c))) .after))
+          → Written Q ((cond {A = Plan P} s (unwritten P stops (marked P k c)) (cond d (stopPlan P k v c) (failPlan P k v c))) .stamps x)
+      either true d h = tt
+      either false true h = tt
+      either false false h = both (has (mask (k .newest)) c) h
   stamp-written Q k v (move c b) z q x = tt
   stamp-written Q k v settle z q x = tt
   stamp-written Q k v state z q x = tt
@@ -302,15 +311,16 @@ module _ (P : Parameters) (L : Laws P) where
     stamp-outside (fit c) = clear-stamp c
     stamp-outside (withdraw c) = clear-stamp c
     stamp-outside (place a) = rw (not-in (k .working))
-    stamp-outside (fail c) = either (stopping P k c)
+    stamp-outside (fail c) = either (k .stopped) (stopping P k c)
       where
         both : (d : Bool) → updated (cond {A = Option Stamp} d none none) noStamp ≡ noStamp
         both true = refl
         both false = refl
 
-        either : (d : Bool) → updated ((cond {A = Plan P} d (writing P stops (halted (marked P k c)) (dropHeld P (isOpen k) c v)) (failPlan P k v c)) .stamps x) noStamp ≡ noStamp
-        either true = refl
-        either false = rw (not-in (replaced P k c .working)) (both (has (mask (k .newest)) c))
+        either : (s d : Bool) → updated ((cond {A = Plan P} s (unwritten P stops (marked P k c)) (cond d (stopPlan P k v c) (failPlan P k v c))) .stamps x) noStamp ≡ noStamp
+        either true d = refl
+        either false true = refl
+        either false false = rw (not-in (replaced P k c .working)) (both (has (mask (k .newest)) c))
     stamp-outside (move c b) = refl
     stamp-outside settle = refl
     stamp-outside state = refl

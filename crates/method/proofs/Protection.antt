@@ -7,14 +7,14 @@ use mathlib.Core.Bool.{Bool, _&&_, cond, false, not, true}
 use mathlib.Core.Logic.{_⊎_, inl, inr}
 use mathlib.Core.Path.{_∙_, _≡_, ap, fun-ext, refl, sym}
 use Rattle.lists.specs.Tests.{allBelow}
-use Rattle.lists.proofs.Bools.{and-when, split}
+use Rattle.lists.proofs.Bools.{and-when, split, tf}
 use Rattle.method.specs.Changes.{Control, marked}
 use Rattle.method.specs.ControlPart.{halted, isOpen}
 use Rattle.method.specs.OneRecordList.{plainAfter, rulesAfter, stateAfter, callsOf, disturb, isStop, zeroed}
 use Rattle.method.specs.Parameters.{Parameters}
 use Rattle.method.specs.PlainList.{PlainList, plainProtected, plainStart, stopsNow}
 use Rattle.method.specs.Protection.{ProtectedByFails, ProtectedByFields, ProtectedByPlainList, noFailStops, protection}
-use Rattle.method.specs.Rules.{State, View, act, answerOf, dropHeld, fail, failPlan, guarded, isProtected, look}
+use Rattle.method.specs.Rules.{State, View, act, answerOf, fail, failPlan, guarded, isProtected, look, stopPlan, unwritten}
 use Rattle.method.specs.Rules.{nextState, placed, plan, refusal, row, start, state, stopping, stops, unplaced, writing}
 use Rattle.method.proofs.Laws.{Laws}
 use Rattle.method.proofs.Reached.{Reached, ready-reached}
@@ -60,14 +60,13 @@ module _ (P : Parameters) (L : Laws P) where
         goes-on true = refl
         goes-on false = refl
 
-        stop : (t : Bool) → isStop P (cond t
-            (writing P stops (halted (marked P k c)) (dropHeld P (isOpen k) c v))
-            (failPlan P k v c) .answer) ≡ t
-        stop true = refl
-        stop false = goes-on (has (mask (k .newest)) c)
+        stop : (s t : Bool) → s ≡ false → isStop P (cond s (unwritten P stops (marked P k c)) (cond t (stopPlan P k v c) (failPlan P k v c)) .answer) ≡ t
+        stop true t z = tf true refl z
+        stop false true z = refl
+        stop false false z = goes-on (has (mask (k .newest)) c)
 
         go : (has (k .working) c ≡ true) ⊎ (has (k .working) c ≡ false) → said (refusal P (fail c) k v) ≡ (has (k .working) c && stopping P k c)
-        go (inl on) = ap said (taken on) ∙ rw on (stop (stopping P k c))
+        go (inl on) = ap said (taken on) ∙ rw on (stop (k .stopped) (stopping P k c) run)
         go (inr off) = ap said (not-taken off .1) ∙ rw off
 
     state-word : plan P state k v .answer ≡ protection P (isProtected P k)

@@ -12,7 +12,7 @@ use Rattle.method.specs.ControlPart.{begunAt, closed, halted, isOpen, wi
 use Rattle.method.specs.OneRecordList.{Noise, disturb}
 use Rattle.method.specs.Parameters.{Parameters}
 use Rattle.method.specs.Rules.{Call, Plan, State, View, absent, act, apply, begin, clearCard, commit, delete}
-use Rattle.method.specs.Rules.{dropHeld, fail, failPlan, fit, get, guarded, load, lockHolders, look, move, ok}
+use Rattle.method.specs.Rules.{dropHeld, fail, failPlan, stopPlan, fit, get, guarded, load, lockHolders, look, move, ok}
 use Rattle.method.specs.Rules.{place, plan, refusal, refused, rollback, seenSlot, settle, start, state, stopping}
 use Rattle.method.specs.Rules.{stops, store, unwritten, updated, visible, withdraw, writing}
 use Rattle.method.specs.Slots.{isNone, readBy}
@@ -95,11 +95,11 @@ module _ (P : Parameters) (L : Laws P) where
     act-sight (fit x) r = fit-sight x (not-not-is (ltb x cards) (row-clear (not (ltb x cards)) 2 r .0))
     act-sight (withdraw x) r = lost-sight (act P (withdraw x) k v) x refl refl
     act-sight (place a) r = kept-sight (act P (place a) k v) refl refl
-    act-sight (fail x) r = either (stopping P k x)
-        (writing P stops (halted (marked P k x)) (dropHeld P (isOpen k) x v))
-        (failPlan P k v x)
-        (lost-sight (writing P stops (halted (marked P k x)) (dropHeld P (isOpen k) x v)) x refl refl)
-        (lost-sight (failPlan P k v x) x (replaced-working x (has (mask (k .newest)) x)) (replaced-setting x (has (mask (k .newest)) x)))
+    act-sight (fail x) r = either (k .stopped) (unwritten P stops (marked P k x)) (cond (stopping P k x) (stopPlan P k v x) (failPlan P k v x))
+        (lost-sight (unwritten P stops (marked P k x)) x refl refl)
+        (either (stopping P k x) (stopPlan P k v x) (failPlan P k v x)
+        (lost-sight (stopPlan P k v x) x refl refl)
+        (lost-sight (failPlan P k v x) x (replaced-working x (has (mask (k .newest)) x)) (replaced-setting x (has (mask (k .newest)) x))))
     act-sight (move x b) r = kept-sight (act P (move x b) k v) refl refl
     act-sight settle r = kept-sight (act P settle k v) refl refl
     act-sight state r = kept-sight (act P state k v) refl refl

@@ -32,7 +32,7 @@ module _ (P : Parameters) (L : Laws P) where
 
   -- one card more fails
   module _ (k : Control P) (c : ℕ) (c-ok : ltb c cards ≡ true) where
-    apart-still : ((x : ℕ) → has (k .working) x ≡ true → has (k .failed) x ≡ false) → (x : ℕ) → has (remove (k .working) c) x ≡ true → has (insert (k .failed) c) x ≡ false
+    pub apart-still : ((x : ℕ) → has (k .working) x ≡ true → has (k .failed) x ≡ false) → (x : ℕ) → has (remove (k .working) c) x ≡ true → has (insert (k .failed) c) x ≡ false
     apart-still apart x h =
         let e : (has (k .working) x && not (eqb x c)) ≡ true = rw (has-remove (k .working) c x) at h in
         rw (has-insert (k .failed) c x c-ok, not-is (eqb x c) (and-r (has (k .working) x) (not (eqb x c)) e)) (apart x (and-l (has (k .working) x) (not (eqb x c)) e))

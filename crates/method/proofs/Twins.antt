@@ -5,9 +5,10 @@ use lib.Dec.{eqb, ltb}
 use mathlib.Core.Bool.{Bool, _&&_, cond, false, not, true}
 use mathlib.Core.List.{List, [], _∷_}
 use mathlib.Core.Logic.{_⊎_, inl, inr}
+use mathlib.Core.Option.{none}
 use mathlib.Core.Path.{_∙_, _≡_, ap, ap₂, refl, subst, sym}
 use native.Mathlib.Omega.{arith}
-use Rattle.lists.proofs.Bools.{and-l, and-r, not-is, split, tf}
+use Rattle.lists.proofs.Bools.{and-l, and-r, not-is, not-not-is, split, tf}
 use Rattle.method.specs.Changes.{Control, marked}
 use Rattle.method.specs.ControlPart.{halted, isOpen}
 use Rattle.method.specs.Growth.{Growth, grown, grownPlain, grownState}
@@ -15,16 +16,18 @@ use Rattle.method.specs.OneRecordList.{Noise, disturb, isLast, isStop, o
 use Rattle.method.specs.Parameters.{Parameters}
 use Rattle.method.specs.PlainList.{PlainList, plainNext, plainStart}
 use Rattle.method.specs.Rules.{Call, Plan, State, View, act, answerOf, apply, begin, commit, delete, dropHeld, fail, failPlan, fit, get}
-use Rattle.method.specs.Rules.{guarded, isStart, laterRows, load, look, move, nextState, ok, outOfRange, place, placed, plan, refusal, rollback, row}
-use Rattle.method.specs.Rules.{settle, start, state, stopping, stops, store, unplaced, updated, visible, withdraw, writing}
+use Rattle.method.specs.Rules.{guarded, laterRows, load, look, move, nextState, ok, outOfRange, place, placed, plan, refusal, rollback, row}
+use Rattle.method.specs.Rules.{settle, start, state, stopping, stopPlan, stops, store, unplaced, unwritten, updated, visible, withdraw, writing}
 use Rattle.method.specs.Slots.{Slot, ended}
 use Rattle.method.specs.Twins.{Twins, TwinsAgree}
 use Rattle.method.proofs.Growth.{GrowthLaws, beside-grown, ready-grown}
 use Rattle.method.proofs.Invariant.{Invariant, works-b}
 use Rattle.method.proofs.Keeping.{next-seen, next-works, nextView}
 use Rattle.method.proofs.Laws.{Laws}
+use Rattle.method.proofs.Refusals.{row-clear}
 use Rattle.method.proofs.Legal.{Legal, is-resting, is-running, legal-next}
 use Rattle.method.proofs.Run.{Ready, RulesStep, accepted-start, next-start, ready-noise, ready-start, ready-step}
+use Rattle.method.proofs.Stopped.{apart-still}
 use Rattle.method.proofs.Sight.{Seen-before, look-disturb, look-next, plan-sight}
 
 module _ (P : Parameters) (L : Laws P) where
@@ -115,28 +118,32 @@ module _ (P : Parameters) (L : Laws P) where
     halt = halted (marked P (s .control) x)
 
     abbrev halting : Plan P
-    halting = writing P stops halt (dropHeld P (isOpen (s .control)) x (look P s))
+    halting = stopPlan P (s .control) (look P s) x
 
     gone : (c b : ℕ) → visible P halt c b ≡ true → eqb c x ≡ false
     gone c b e =
         let w : has (remove (s .control .working) x) c ≡ true = and-l (has (remove (s .control .working) x) c) (ltb b (blocks (s .control .setting))) e in
         not-is (eqb c x) (and-r (has (s .control .working) c) (not (eqb c x)) (sym (has-remove (s .control .working) x c) ∙ w))
 
-    halting-plan : isStop P (plan P (fail x) (s .control) (look P s) .answer) ≡ true → plan P (fail x) (s .control) (look P s) ≡ halting
+    halting-plan : s .control .stopped ≡ false → isStop P (plan P (fail x) (s .control) (look P s) .answer) ≡ true → plan P (fail x) (s .control) (look P s) ≡ halting
     unfolding plan act
-    halting-plan = go (refusal P (fail x) (s .control) (look P s))
+    halting-plan run = go (refusal P (fail x) (s .control) (look P s))
       where
         other : (b : Bool) → isStop P (cond b (placed (mask (without (s .control .newest) x))) unplaced) ≡ false
         other true = refl
         other false = refl
 
-        either : (b : Bool) → isStop P (cond b halting (failPlan P (s .control) (look P s) x) .answer) ≡ true → cond b halting (failPlan P (s .control) (look P s) x) ≡ halting
-        either true e = refl
-        either false e = tf (isStop P (failPlan P (s .control) (look P s) x .answer)) e (other (has (mask (s .control .newest)) x))
+        planned : Bool → Bool → Plan P
+        planned t b = cond t (unwritten P stops (marked P (s .control) x)) (cond b halting (failPlan P (s .control) (look P s) x))
+
+        either : (t b : Bool) → t ≡ false → isStop P (planned t b .answer) ≡ true → planned t b ≡ halting
+        either true b z e = tf true refl z
+        either false true z e = refl
+        either false false z e = tf (isStop P (failPlan P (s .control) (look P s) x .answer)) e (other (has (mask (s .control .newest)) x))
 
         go : (n : ℕ) → isStop P (guarded P n (s .control) (act P (fail x) (s .control) (look P s)) .answer) ≡ true
             → guarded P n (s .control) (act P (fail x) (s .control) (look P s)) ≡ halting
-        go zero e = either (stopping P (s .control) x) e
+        go zero e = either (s .control .stopped) (stopping P (s .control) x) run e
         go (suc n) e = tf false e refl
 
     legal-plan : Legal P L (plan P (fail x) (s .control) (look P s) .after)
@@ -147,10 +154,10 @@ module _ (P : Parameters) (L : Laws P) where
         go zero e = legal-next P L (s .control) good (fail x) (look P s) e
         go (suc n) e = good
 
-    stopped-by : isStop P (answerOf P (fail x) s) ≡ true → Stopped (nextState P (fail x) s)
+    stopped-by : s .control .stopped ≡ false → isStop P (answerOf P (fail x) s) ≡ true → Stopped (nextState P (fail x) s)
     unfolding answerOf nextState apply
-    stopped-by e =
-        let p : plan P (fail x) (s .control) (look P s) ≡ halting = halting-plan e in
+    stopped-by run e =
+        let p : plan P (fail x) (s .control) (look P s) ≡ halting = halting-plan run e in
         subst (λ (y : Plan P). Stopped (apply P y s)) (sym p) (record {
           stays = refl;
           apart = legal-apart halt (subst (λ (y : Plan P). Legal P L (y .after)) p legal-plan);
@@ -160,33 +167,50 @@ module _ (P : Parameters) (L : Laws P) where
 
   -- ---- a call
   -- none but a fail stops the store
-  stop-call : (c : Call P) (s : State P) → Legal P L (s .control) → Agreeing (look P s) → isLast P (observe P c (answerOf P c s)) ≡ true → Stopped (nextState P c s)
-  stop-call (fail x) s good alike e = stopped-by s good alike x e
-  stop-call (start a) s good alike e = tf false e refl
-  stop-call (begin t h) s good alike e = tf false e refl
-  stop-call (get t r) s good alike e = tf false e refl
-  stop-call (store t r n) s good alike e = tf false e refl
-  stop-call (delete t r) s good alike e = tf false e refl
-  stop-call (commit t) s good alike e = tf false e refl
-  stop-call (rollback t) s good alike e = tf false e refl
-  stop-call (fit c) s good alike e = tf false e refl
-  stop-call (withdraw c) s good alike e = tf false e refl
-  stop-call (place a) s good alike e = tf false e refl
-  stop-call (move c b) s good alike e = tf false e refl
-  stop-call settle s good alike e = tf false e refl
-  stop-call state s good alike e = tf false e refl
-  stop-call (load c) s good alike e = tf false e refl
+  stop-call : (c : Call P) (s : State P) → Legal P L (s .control) → s .control .stopped ≡ false → Agreeing (look P s) → isLast P (observe P c (answerOf P c s)) ≡ true → Stopped (nextState P c s)
+  stop-call (fail x) s good run alike e = stopped-by s good alike x run e
+  stop-call (start a) s good run alike e = tf false e refl
+  stop-call (begin t h) s good run alike e = tf false e refl
+  stop-call (get t r) s good run alike e = tf false e refl
+  stop-call (store t r n) s good run alike e = tf false e refl
+  stop-call (delete t r) s good run alike e = tf false e refl
+  stop-call (commit t) s good run alike e = tf false e refl
+  stop-call (rollback t) s good run alike e = tf false e refl
+  stop-call (fit c) s good run alike e = tf false e refl
+  stop-call (withdraw c) s good run alike e = tf false e refl
+  stop-call (place a) s good run alike e = tf false e refl
+  stop-call (move c b) s good run alike e = tf false e refl
+  stop-call settle s good run alike e = tf false e refl
+  stop-call state s good run alike e = tf false e refl
+  stop-call (load c) s good run alike e = tf false e refl
 
-  -- a stopped store refuses every call but start
-  not-taken : (c : Call P) (k : Control P) (v : View P) → isStart c ≡ false → k .stopped ≡ true → refusal P c k v ≡ 0 → ⊥
-  unfolding refusal
-  not-taken c k v h t e = go (outOfRange P c k) (isStart c) (k .stopped) h t e
-    where
-      go : (b starts stopped : Bool) → starts ≡ false → stopped ≡ true → row 3 b (row 4 (not starts && stopped) (laterRows P c k v)) ≡ 0 → ⊥
-      go true starts stopped h t e = absurd (omega arith)
-      go false false true h t e = absurd (omega arith)
-      go false false false h t e = tf false t refl
-      go false true stopped h t e = tf true refl h
+  -- a stopped store refuses every call but start and fail
+  not-taken : (b stopped : Bool) (rest : ℕ) → stopped ≡ true → row 3 b (row 4 stopped rest) ≡ 0 → ⊥
+  not-taken true stopped rest t e = absurd (omega arith)
+  not-taken false true rest t e = absurd (omega arith)
+  not-taken false false rest t e = tf false t refl
+
+  -- a fail marks a card: what the others hold is seen as before
+  mark-agreeing : (k : Control P) (v : View P) → Agreeing v → Agreeing (nextView P L k (λ c b. none) v)
+  mark-agreeing k v a c d r h j =
+      let x = next-seen P L k (λ c b. none) v c (blockOf r) (next-works P L k (λ c b. none) v c (blockOf r) h) in
+      let y = next-seen P L k (λ c b. none) v d (blockOf r) (next-works P L k (λ c b. none) v d (blockOf r) j) in
+      ap (λ z. slot z (placeOf r)) x ∙ a c d r (sym (ap held x) ∙ h) (sym (ap held y) ∙ j) ∙ sym (ap (λ z. slot z (placeOf r)) y)
+
+  marked-rests : (c : ℕ) (s : State P) → Stopped s → refusal P (fail c) (s .control) (look P s) ≡ 0 → Stopped (nextState P (fail c) s)
+  unfolding nextState apply
+  marked-rests c s t e =
+      let p : plan P (fail c) (s .control) (look P s) ≡ unwritten P stops (marked P (s .control) c) = unfold plan act in
+          (ap (λ (n : ℕ). guarded P n (s .control) (act P (fail c) (s .control) (look P s))) e
+          ∙ ap (λ (b : Bool). cond b (unwritten P stops (marked P (s .control) c))
+          (cond (stopping P (s .control) c) (stopPlan P (s .control) (look P s) c) (failPlan P (s .control) (look P s) c))) (t .stays)) in
+      let ok : ltb c (Parameters.cards P) ≡ true = not-not-is (ltb c (Parameters.cards P)) (unfold refusal in (row-clear (not (ltb c (Parameters.cards P))) 2 e .0)) in
+      subst (λ (y : Plan P). Stopped (apply P y s)) (sym p) (record {
+        stays = t .stays;
+        apart = apart-still P L (s .control) c ok (t .apart);
+        alike = subst Agreeing (sym (look-next P L (unwritten P stops (marked P (s .control) c)) s (subst (Seen-before P L (s .control)) p (plan-sight P L (s .control) (look P s) (fail c)))))
+            (mark-agreeing (marked P (s .control) c) (look P s) (t .alike));
+      })
 
   refused-same : (c : Call P) (s : State P) (n : ℕ) → refusal P c (s .control) (look P s) ≡ suc n → nextState P c s ≡ s
   unfolding nextState apply plan
@@ -195,22 +219,23 @@ module _ (P : Parameters) (L : Laws P) where
   started : (a : StartArgument) (s : State P) → startRefusal a ≡ 0 → Agreed (nextState P (start a) s)
   started a s e = subst Agreed (sym (next-start P L a s e)) (in-run (zeroed P a) (plainStart P a) (ready-start P L a e))
 
-  taken : (c : Call P) (s : State P) → s .control .stopped ≡ true → refusal P c (s .control) (look P s) ≡ 0 → Agreed (nextState P c s)
-  taken (start a) s t e = started a s (unfold refusal in e)
-  taken (begin u h) s t e = absurd (not-taken (begin u h) (s .control) (look P s) refl t e)
-  taken (get u r) s t e = absurd (not-taken (get u r) (s .control) (look P s) refl t e)
-  taken (store u r n) s t e = absurd (not-taken (store u r n) (s .control) (look P s) refl t e)
-  taken (delete u r) s t e = absurd (not-taken (delete u r) (s .control) (look P s) refl t e)
-  taken (commit u) s t e = absurd (not-taken (commit u) (s .control) (look P s) refl t e)
-  taken (rollback u) s t e = absurd (not-taken (rollback u) (s .control) (look P s) refl t e)
-  taken (fit c) s t e = absurd (not-taken (fit c) (s .control) (look P s) refl t e)
-  taken (withdraw c) s t e = absurd (not-taken (withdraw c) (s .control) (look P s) refl t e)
-  taken (place a) s t e = absurd (not-taken (place a) (s .control) (look P s) refl t e)
-  taken (fail c) s t e = absurd (not-taken (fail c) (s .control) (look P s) refl t e)
-  taken (move c b) s t e = absurd (not-taken (move c b) (s .control) (look P s) refl t e)
-  taken settle s t e = absurd (not-taken settle (s .control) (look P s) refl t e)
-  taken state s t e = absurd (not-taken state (s .control) (look P s) refl t e)
-  taken (load c) s t e = absurd (not-taken (load c) (s .control) (look P s) refl t e)
+  taken : (c : Call P) (s : State P) → Stopped s → refusal P c (s .control) (look P s) ≡ 0 → Agreed (nextState P c s)
+  unfolding refusal
+  taken (start a) s t e = started a s e
+  taken (begin u h) s t e = absurd (not-taken (outOfRange P (begin u h) (s .control)) (s .control .stopped) (laterRows P (begin u h) (s .control) (look P s)) (t .stays) e)
+  taken (get u r) s t e = absurd (not-taken (outOfRange P (get u r) (s .control)) (s .control .stopped) (laterRows P (get u r) (s .control) (look P s)) (t .stays) e)
+  taken (store u r n) s t e = absurd (not-taken (outOfRange P (store u r n) (s .control)) (s .control .stopped) (laterRows P (store u r n) (s .control) (look P s)) (t .stays) e)
+  taken (delete u r) s t e = absurd (not-taken (outOfRange P (delete u r) (s .control)) (s .control .stopped) (laterRows P (delete u r) (s .control) (look P s)) (t .stays) e)
+  taken (commit u) s t e = absurd (not-taken (outOfRange P (commit u) (s .control)) (s .control .stopped) (laterRows P (commit u) (s .control) (look P s)) (t .stays) e)
+  taken (rollback u) s t e = absurd (not-taken (outOfRange P (rollback u) (s .control)) (s .control .stopped) (laterRows P (rollback u) (s .control) (look P s)) (t .stays) e)
+  taken (fit c) s t e = absurd (not-taken (outOfRange P (fit c) (s .control)) (s .control .stopped) (laterRows P (fit c) (s .control) (look P s)) (t .stays) e)
+  taken (withdraw c) s t e = absurd (not-taken (outOfRange P (withdraw c) (s .control)) (s .control .stopped) (laterRows P (withdraw c) (s .control) (look P s)) (t .stays) e)
+  taken (place a) s t e = absurd (not-taken (outOfRange P (place a) (s .control)) (s .control .stopped) (laterRows P (place a) (s .control) (look P s)) (t .stays) e)
+  taken (fail c) s t e = at-rest (marked-rests c s t (unfold refusal in e))
+  taken (move c b) s t e = absurd (not-taken (outOfRange P (move c b) (s .control)) (s .control .stopped) (laterRows P (move c b) (s .control) (look P s)) (t .stays) e)
+  taken settle s t e = absurd (not-taken (outOfRange P settle (s .control)) (s .control .stopped) (laterRows P settle (s .control) (look P s)) (t .stays) e)
+  taken state s t e = absurd (not-taken (outOfRange P state (s .control)) (s .control .stopped) (laterRows P state (s .control) (look P s)) (t .stays) e)
+  taken (load c) s t e = absurd (not-taken (outOfRange P (load c) (s .control)) (s .control .stopped) (laterRows P (load c) (s .control) (look P s)) (t .stays) e)
 
   pub agreed-next : (c : Call P) (s : State P) → Agreed s → Agreed (nextState P c s)
   agreed-next c s (in-run z q r) = go (split (isLast P (plainObserve P c q)))
@@ -222,12 +247,12 @@ module _ (P : Parameters) (L : Laws P) where
       good = subst (Legal P L) (sym (r .store-beside .same-control)) (is-running (r .inv .form) (r .full))
 
       go : (isLast P (plainObserve P c q) ≡ true) ⊎ (isLast P (plainObserve P c q) ≡ false) → Agreed (nextState P c s)
-      go (inl e) = at-rest (stop-call c s good (agreed-look s (in-run z q r)) (ap (isLast P) (h .shows) ∙ e))
+      go (inl e) = at-rest (stop-call c s good (ap (λ (k : Control P). k .stopped) (r .store-beside .same-control) ∙ r .inv .form .base .running) (agreed-look s (in-run z q r)) (ap (isLast P) (h .shows) ∙ e))
       go (inr e) = in-run (nextState P c z) (plainNext P (settleAccepted P z) c q) (h .goes-on e)
   agreed-next c s (at-rest t) = go (refusal P c (s .control) (look P s)) refl
     where
       go : (n : ℕ) → refusal P c (s .control) (look P s) ≡ n → Agreed (nextState P c s)
-      go zero e = taken c s (t .stays) e
+      go zero e = taken c s t e
       go (suc n) e = subst Agreed (sym (refused-same c s n e)) (at-rest t)
 
   -- ---- a list of calls

@@ -45,6 +45,9 @@ pub record Growth (P : Parameters) : Type 1 where
   pub numbered : ControlPart (Parameters.Mask P) Placement Setting Serial → Type 0
   pub noStamp : Stamp
   pub stampOf : ControlPart (Parameters.Mask P) Placement Setting Serial → Stamp
+  pub sameStamp : Stamp → Stamp → Bool
+  -- whether a stopped store still marks cards that fail
+  pub marksWhileStopped : Bool
   -- what a placement, a setting and a serial from before the paper are now
   pub older : Parameters.Placement P → Placement
   pub olderSetting : Parameters.Setting P → Setting
@@ -66,6 +69,8 @@ grown P G = record {
   numbered = G .numbered;
   noStamp = G .noStamp;
   stampOf = G .stampOf;
+  sameStamp = G .sameStamp;
+  marksWhileStopped = G .marksWhileStopped;
   StartArgument = G .StartArgument;
   PlaceArgument = G .PlaceArgument;
   cards = Parameters.cards P;

@@ -61,6 +61,9 @@ pub record Parameters : Type 1 where
   -- ---- stamps: what a card keeps of the placements; none, and the one that a new placement writes to every working card
   pub noStamp : Stamp
   pub stampOf : ControlPart Mask Placement Setting Serial → Stamp
+  pub sameStamp : Stamp → Stamp → Bool
+  -- whether a stopped store still marks cards that fail (request A.7); else it refuses fail as it does other calls
+  pub marksWhileStopped : Bool
   -- ---- blocks
   pub empty : Block
   pub fresh : Block

@@ -94,7 +94,7 @@ module _ (P : Parameters) where
   open Parameters P using (Mask, Placement, Setting, Serial, Block, Stamp, StartArgument, PlaceArgument, cards, transactions, slots)
   open Parameters P using (copies, blocks, tranInRange, recInRange, valueInRange, blockOf, placeOf, has, insert, remove)
   open Parameters P using (mask, sites, without, startRefusal, places, placeInRange, placeRefusal, empty, fresh, held)
-  open Parameters P using (slot, lockSlot, endSlots, noStamp, stampOf)
+  open Parameters P using (slot, lockSlot, endSlots, noStamp, stampOf, marksWhileStopped)
 
   abbrev pub Call : Type 0
   Call = CallOf StartArgument PlaceArgument
@@ -216,9 +216,26 @@ module _ (P : Parameters) where
   laterRows state k v = 0
   laterRows (load c) k v = row 8 (not (has (k .working) c)) 0
 
-  -- A stopped store refuses every call but start with 4.
+  -- Row 4: a stopped store refuses every call but start, and but fail where it still marks cards.
+  abbrev pub isHalted : Call → Control P → Bool
+  isHalted (start a) k = false
+  isHalted (begin t h) k = k .stopped
+  isHalted (get t r) k = k .stopped
+  isHalted (store t r n) k = k .stopped
+  isHalted (delete t r) k = k .stopped
+  isHalted (commit t) k = k .stopped
+  isHalted (rollback t) k = k .stopped
+  isHalted (fit c) k = k .stopped
+  isHalted (withdraw c) k = k .stopped
+  isHalted (place a) k = k .stopped
+  isHalted (fail c) k = k .stopped && not marksWhileStopped
+  isHalted (move c b) k = k .stopped
+  isHalted settle k = k .stopped
+  isHalted state k = k .stopped
+  isHalted (load c) k = k .stopped
+
   unfoldable pub refusal : Call → Control P → View → ℕ
-  refusal c k v = row 3 (outOfRange c k) (row 4 (not (isStart c) && k .stopped) (laterRows c k v))
+  refusal c k v = row 3 (outOfRange c k) (row 4 (isHalted c k) (laterRows c k v))
 
   -- ---- what an accepted call answers and leaves
   -- The answer, the control part after it, and for each card and block what is written there, if anything.
@@ -301,6 +318,10 @@ module _ (P : Parameters) where
       stamping (writing (failAnswer k c) (replaced P k c) (dropHeld (begunAt k c) c v))
       (λ x. cond (has (mask (k .newest)) c) (stampAll (replaced P k c) x) none)
 
+  -- fail, the store stops: all open transactions are rolled back on the cards that still work.
+  abbrev pub stopPlan : Control P → View → ℕ → Plan
+  stopPlan k v c = writing stops (halted (marked P k c)) (dropHeld (isOpen k) c v)
+
   -- load: how many records are committed present in the card's held blocks.
   abbrev pub committedIn : Block → ℕ
   committedIn x = cond (held x) (countBelow slots (λ i. isSome ((slot x i) .committed))) 0
@@ -320,9 +341,7 @@ module _ (P : Parameters) where
   act (withdraw c) k v = stamping (writing ok (withCards k (remove (k .working) c) (k .failed)) (clearCard c)) (clearStamp c)
   act (place a) k v =
       stamping (unwritten ok (addedBy P k (places (k .newest) a))) (stampAll (addedBy P k (places (k .newest) a)))
-  act (fail c) k v = cond (stopping k c)
-      (writing stops (halted (marked P k c)) (dropHeld (isOpen k) c v))
-      (failPlan k v c)
+  act (fail c) k v = cond (k .stopped) (unwritten stops (marked P k c)) (cond (stopping k c) (stopPlan k v c) (failPlan k v c))
   act (move c b) k v = writing (copied (countNot (λ x. held (v x b)) (newestSites k b))) k (moveWrites k v c b)
   act settle k v = unwritten (retired (length (k .older))) (onlyNewest k)
   act state k v = unwritten (cond (isProtected k) protected unprotected) k

@@ -20,8 +20,8 @@ use Rattle.method.specs.OneRecordList.{Observation, failing, isStop, pla
 use Rattle.method.specs.Parameters.{Parameters}
 use Rattle.method.specs.PlainList.{endRecords, plainAct, plainNext, plainRefusal, stopsNow}
 use Rattle.method.specs.Rules.{unlessRefused}
-use Rattle.method.specs.Rules.{View, act, dropHeld, fail, failPlan, guarded, lost, placed, plan, refusal}
-use Rattle.method.specs.Rules.{refused, row, stopping, stops, unplaced, updated, visible, writing}
+use Rattle.method.specs.Rules.{View, act, dropHeld, fail, failPlan, stopPlan, guarded, lost, placed, plan, refusal}
+use Rattle.method.specs.Rules.{refused, row, stopping, stops, unplaced, unwritten, updated, visible}
 use Rattle.method.specs.Slots.{Slot, ended}
 use Rattle.method.proofs.Calls.Agreement.{Agrees, Good, idle-still, plainOf}
 use Rattle.method.proofs.ControlForms.{base-home, form-added}
@@ -32,7 +32,7 @@ use Rattle.method.proofs.Slots.{ended-blank}
 use Rattle.method.proofs.StopRule.{enough-work, stop-same}
 
 module _ (P : Parameters) (L : Laws P) where
-  open Parameters P using (Placement, cards, copies, blocks, has, insert, remove, mask, without, held)
+  open Parameters P using (Placement, cards, copies, blocks, has, insert, remove, mask, without, held, marksWhileStopped)
   open Laws L using (has-card, has-insert, has-remove, has-without, usable-without, held-end, slot-end)
 
   module _ (k : Control P) (v : View P) (records : ℕ → Slot) (i : Invariant P k v records) where
@@ -139,7 +139,7 @@ module _ (P : Parameters) (L : Laws P) where
     unfolding refusal
     refusal-off c off = go (split (ltb c cards))
       where
-        go : (ltb c cards ≡ true) ⊎ (ltb c cards ≡ false) → (n : ℕ) × (row 3 (not (ltb c cards)) (row 4 (k .stopped) (row 8 (not (has (k .working) c)) 0)) ≡ suc n)
+        go : (ltb c cards ≡ true) ⊎ (ltb c cards ≡ false) → (n : ℕ) × (row 3 (not (ltb c cards)) (row 4 (k .stopped && not marksWhileStopped) (row 8 (not (has (k .working) c)) 0)) ≡ suc n)
         go (inl e) = (7, rw (e, off, i .form .base .running))
         go (inr e) = (2, rw e)
 
@@ -151,13 +151,12 @@ module _ (P : Parameters) (L : Laws P) where
         Goal n = Good P L v (fail c) (guarded P n k (act P (fail c) k v)) (failing (has (k .working) c && stopsNow P k c))
             (unlessRefused (row 8 (not (has (k .working) c)) 0) (plainOf P k records) (plainAct P (fail c) (plainOf P k records)))
 
-        branch : has (k .working) c ≡ true → (b : Bool) → stopping P k c ≡ b
-            → Good P L v (fail c) (cond b
-            (writing P stops (halted (marked P k c)) (dropHeld P (isOpen k) c v))
-            (failPlan P k v c))
+        branch : has (k .working) c ≡ true → (s : Bool) → s ≡ false → (b : Bool) → stopping P k c ≡ b
+            → Good P L v (fail c) (cond s (unwritten P stops (marked P k c)) (cond b (stopPlan P k v c) (failPlan P k v c)))
             (failing b) (endRecords P (plainOf P k records) false (begunAt k c) (replaced P k c))
-        branch on true e = record { sight = refl; goes = λ z. tf true refl z }
-        branch on false e = record {
+        branch on true z b e = tf true refl z
+        branch on false z true e = record { sight = refl; goes = λ z. tf true refl z }
+        branch on false z false e = record {
           sight = quiet-fail (has (mask (k .newest)) c);
           goes = λ z.
               (refl, unfold k1 in (fail-inv c (lt-ltb c cards (has-card (k .working) c on)) on e (has (mask (k .newest)) c) refl));
@@ -168,5 +167,5 @@ module _ (P : Parameters) (L : Laws P) where
             quiet-fail false = refl
 
         go : (has (k .working) c ≡ true) ⊎ (has (k .working) c ≡ false) → Goal (refusal P (fail c) k v)
-        go (inl on) = subst Goal (sym (refusal-on c on)) (rw (on, stop-same P L k c (lt-ltb c cards (has-card (k .working) c on))) (branch on (stopping P k c) refl))
+        go (inl on) = subst Goal (sym (refusal-on c on)) (rw (on, stop-same P L k c (lt-ltb c cards (has-card (k .working) c on))) (branch on (k .stopped) (i .form .base .running) (stopping P k c) refl))
         go (inr off) = subst Goal (sym (refusal-off c off .1)) (rw off (idle-still P L k v records i (fail c) (refused (suc (refusal-off c off .0))) (failing false) refl))
