@@ -1,6 +1,6 @@
 /* The replicated record store for callers in C99 and C++: link with libnolpigat.a (x86-64).
  *
- * The store lies in an image of 21,216 bytes that the caller lends with each call. It keeps 512
+ * The store lies in an image of 21,248 bytes that the caller lends with each call. It keeps 512
  * records of 16 bits, each on two of up to eight cards. docs/RULES.md has the rules; for every image
  * length and contents, answer and image after a call are proved to be those of the rules.
  *
@@ -9,11 +9,12 @@
  * - let the bytes of a command, of a list and of a table's lines lie outside the image, and the two
  *   images of a conversion apart from each other;
  * - while a call that changes an image runs, make no other call on that image.
- * Every length and contents are allowed: another length than 21,216 is refused with 1, a broken
+ * Every length and contents are allowed: another length than 21,248 is refused with 1, a broken
  * control form with 2. An image of zeros is refused with 2 until its first start. A refused call
  * leaves the image as found. A call that is cut short may leave an image with half of its changes:
  * work on a copy where that can happen (docs/RECIPES.md, copy and switch). Images of 21,024 bytes,
- * which versions before 2.0 left, are lengthened by nolpigat_convert.
+ * which versions 1.x left, are lengthened by nolpigat_convert_21024, and images of 21,216 bytes, which
+ * versions 2.x left and that converter makes, by nolpigat_convert_21216.
  *
  * No call keeps a pointer, and there is no state but the image, so every function is re-entrant.
  * Calls on different images may run at the same time, and so may calls with a const image on one
@@ -27,8 +28,8 @@
  * An answer is kind * 65536 + number; ok is 0. The number is 0 where the kind has none. If several
  * refusals apply, the lowest is returned, except that a command's form (15) comes first, and the gaps
  * and overlaps of a table (17, 18) before 10. Refusals 1, 2 and 4 come from every call up to move_list
- * but start, which gives only 1 and 9; each call names its others. The functions behind move_list name
- * all their refusals.
+ * but start, which gives only 1 and 9, and fail and return_card, which do not give 4; each call names
+ * its others. The functions behind move_list name all their refusals.
  */
 #ifndef NOLPIGAT_H
 #define NOLPIGAT_H
@@ -37,15 +38,16 @@
 #include <stdint.h>
 
 /* The version of this header and of the archive it describes. */
-#define NOLPIGAT_VERSION_MAJOR 2
+#define NOLPIGAT_VERSION_MAJOR 3
 #define NOLPIGAT_VERSION_MINOR 0
 #define NOLPIGAT_VERSION_PATCH 0
-#define NOLPIGAT_VERSION "2.0.0"
+#define NOLPIGAT_VERSION "3.0.0"
 
-/* The lengths of an image, of one that versions before 2.0 left, of a command, of an entry of a move
+/* The lengths of an image, of those that versions 2.x and 1.x left, of a command, of an entry of a move
  * list and of a line of a table, in bytes. */
-#define NOLPIGAT_IMAGE_SIZE 21216
-#define NOLPIGAT_OLDER_IMAGE_SIZE 21024
+#define NOLPIGAT_IMAGE_SIZE 21248
+#define NOLPIGAT_VERSION_2_IMAGE_SIZE 21216
+#define NOLPIGAT_VERSION_1_IMAGE_SIZE 21024
 #define NOLPIGAT_COMMAND_SIZE 5
 #define NOLPIGAT_MOVE_SIZE 2
 #define NOLPIGAT_LINE_SIZE 4
@@ -103,7 +105,7 @@ enum {
     NOLPIGAT_REFUSAL_LENGTH = 1,        /* an image has not its length */
     NOLPIGAT_REFUSAL_CONTROL_FORM = 2,  /* control form broken; also before the first start */
     NOLPIGAT_REFUSAL_RANGE = 3,         /* a number is outside its range */
-    NOLPIGAT_REFUSAL_STOPPED = 4,       /* stopped: every call but start */
+    NOLPIGAT_REFUSAL_STOPPED = 4,       /* stopped: every call but start, fail and return_card */
     NOLPIGAT_REFUSAL_NOT_OPEN = 5,      /* transaction not open */
     NOLPIGAT_REFUSAL_ALREADY_OPEN = 6,  /* begin of an open transaction */
     NOLPIGAT_REFUSAL_LOCKED = 7,        /* some holder's slot is locked by another number */
@@ -117,7 +119,9 @@ enum {
     NOLPIGAT_REFUSAL_MALFORMED = 15,    /* command malformed */
     NOLPIGAT_REFUSAL_LIST = 16,         /* move_list: the list is shorter than needed */
     NOLPIGAT_REFUSAL_GAP = 17,          /* place_by_table: a block is in no line */
-    NOLPIGAT_REFUSAL_OVERLAP = 18       /* place_by_table: a block is in two lines */
+    NOLPIGAT_REFUSAL_OVERLAP = 18,      /* place_by_table: a block is in two lines */
+    NOLPIGAT_REFUSAL_STALE = 19,        /* return_card: the card is not current */
+    NOLPIGAT_REFUSAL_SERIALS = 20       /* place, place_by_table: no serials are left */
 };
 
 /* Operations of commands, each with the fields that it has. */
@@ -175,6 +179,8 @@ static inline const char *nolpigat_refusal_text(uint32_t number) {
     case NOLPIGAT_REFUSAL_LIST: return "the list is too short for the moves";
     case NOLPIGAT_REFUSAL_GAP: return "a block is in no line of the table";
     case NOLPIGAT_REFUSAL_OVERLAP: return "a block is in two lines of the table";
+    case NOLPIGAT_REFUSAL_STALE: return "the card's table is stale";
+    case NOLPIGAT_REFUSAL_SERIALS: return "no serials are left: too many placements since the start";
     default: return "the refusal is unknown to this version";
     }
 }
@@ -226,7 +232,7 @@ static inline uint32_t nolpigat_number_range(uint32_t kind) {
 }
 
 /* The answer in the words of the listing, as "value 1234", "placed E0", "refused 7", "listed 3",
- * "none", "number 2" or "written 21216"; "unknown" and the code where it is no answer's. The text is
+ * "none", "number 2" or "written 21248"; "unknown" and the code where it is no answer's. The text is
  * put into a buffer of size bytes. It is always ended by 0, and cut where it has no room; with size 0
  * the buffer is not touched. Returns the length of the whole text without its 0: it is cut if that is
  * not below size, which does not happen with NOLPIGAT_ANSWER_TEXT_SIZE. */
@@ -259,8 +265,8 @@ static inline size_t nolpigat_answer_text(uint32_t answer, char *buffer, size_t 
 extern "C" {
 #endif
 
-/* start: all zero, then the mask's cards work and are the one placement. Older contents are not
- * examined.
+/* start: all zero, then the mask's cards work and are the one placement, with serial 1, whose stamp they
+ * get. Older contents are not examined.
  * mask: two members at least.
  * Answer: ok. Refused: 1; 9 under two members. */
 NOLPIGAT_MUST_CHECK
@@ -308,13 +314,13 @@ uint32_t nolpigat_commit(uint8_t *image, size_t length, uint8_t transaction);
 NOLPIGAT_MUST_CHECK
 uint32_t nolpigat_rollback(uint8_t *image, size_t length, uint8_t transaction);
 
-/* fit: the card's table is zeroed, a failed mark is cleared and it works.
+/* fit: the card's table is zeroed, its stamp too, a failed mark is cleared and it works.
  * card: 0 to 7, not working, in no active placement.
  * Answer: ok. Refused: 3; 8 the card works or is in an active placement. */
 NOLPIGAT_MUST_CHECK
 uint32_t nolpigat_fit(uint8_t *image, size_t length, uint8_t card);
 
-/* withdraw: the card's table is zeroed; it no longer works.
+/* withdraw: the card's table is zeroed, its stamp too; it no longer works.
  * card: 0 to 7, working, in no active placement, no open transaction's home.
  * Answer: ok. Refused: 3; 8 it does not work or is in an active placement; 14 it is a home. */
 NOLPIGAT_MUST_CHECK
@@ -323,17 +329,20 @@ uint32_t nolpigat_withdraw(uint8_t *image, size_t length, uint8_t card);
 /* place: the mask becomes the newest placement, with sites on two supply rails.
  * mask: two members at least, all working, not the newest mask again; the newest mask again is taken
  * where that placement is by a table, or older than the choice of sites on two supply rails.
- * Answer: ok. Refused: 9 the mask is not such; 10 three or more placements are active. */
+ * Answer: ok. Refused: 9 the mask is not such; 10 three or more placements are active; 20 no serials
+ * are left, which some 16,777,000 placements since the start use up. */
 NOLPIGAT_MUST_CHECK
 uint32_t nolpigat_place(uint8_t *image, size_t length, uint8_t mask);
 
-/* fail: the card no longer works and is marked failed; its table is not read again before a fit. If
- * some active placement now has two failed or fewer than two working members, every open transaction
- * is rolled back on the working cards and the store stops. Otherwise transactions begun there are
- * rolled back, and if it was in the newest placement, one without it is added, with sites on two
- * supply rails, also after a table.
+/* fail: the card no longer works and is marked failed; its table is not read again before a fit or a
+ * return. If some active placement now has two failed or fewer than two working members, every open
+ * transaction is rolled back on the working cards and the store stops. Otherwise transactions begun
+ * there are rolled back, and if it was in the newest placement, one without it is added, with sites on
+ * two supply rails, also after a table. While the store is stopped, the card is only marked, and the
+ * answer is stopped.
  * card: 0 to 7, working.
- * Answer: placed with the mask added, unplaced if none is, or stopped. Refused: 3; 8 not working. */
+ * Answer: placed with the mask added, unplaced if none is, or stopped. Refused: 3; 8 not working. It is
+ * never refused with 4. */
 NOLPIGAT_MUST_CHECK
 uint32_t nolpigat_fail(uint8_t *image, size_t length, uint8_t card);
 
@@ -379,10 +388,22 @@ uint32_t nolpigat_command(uint8_t *image, size_t length, const uint8_t *command,
  * the lines may come in any order. The cards named may be the newest mask again.
  * Answer: ok. Refused: 3, also for bytes that are not whole lines and for too many; 9 a line's cards
  * are equal or one does not work; 17 a block is in no line, so also where there are no lines; 18 a
- * block is in two; 10 three or more placements are active. 17 and 18 come before 10. */
+ * block is in two; 10 three or more placements are active; 20 as place. 17 and 18 come before 10. */
 NOLPIGAT_MUST_CHECK
 uint32_t nolpigat_place_by_table(uint8_t *image, size_t length, const uint8_t *lines,
                                  size_t lines_length);
+
+/* return_card: a failed card goes back to a stopped store, with its table as the image now has it. It
+ * has no command. It is taken if it is current: the stamp at the end of its table has the serial and the
+ * mask of the newest placement, and that mask names the card. What was locked on it is rolled back, and
+ * it works again. The store runs again as soon as all members of the newest placement work and no active
+ * placement has two failed or fewer than two working members; nolpigat_stopped tells. Every committed
+ * record is then as it was at the stop, provided that the card's bytes are those at its failing.
+ * card: 0 to 7, failed.
+ * Answer: ok, whether the store then runs or not. Refused: 3; 8 the store runs, or the card is not
+ * failed; 19 the card is stale. It is never refused with 4. */
+NOLPIGAT_MUST_CHECK
+uint32_t nolpigat_return_card(uint8_t *image, size_t length, uint8_t card);
 
 /* move_list: the fewest moves that let settle succeed, blocks rising and then cards rising. It has no
  * command, and the image is only read.
@@ -397,15 +418,25 @@ NOLPIGAT_MUST_CHECK
 uint32_t nolpigat_move_list(const uint8_t *image, size_t image_length, uint8_t *list,
                             size_t list_length);
 
-/* convert: an image that versions before 2.0 left, of NOLPIGAT_OLDER_IMAGE_SIZE bytes, is lengthened:
- * the lent one, of NOLPIGAT_IMAGE_SIZE bytes, becomes its bytes and zeros behind them. The older image
- * is only read. A stopped store is converted too.
+/* convert_21024: an image that versions 1.x left, of NOLPIGAT_VERSION_1_IMAGE_SIZE bytes, becomes one of
+ * versions 2.x: the lent one, of NOLPIGAT_VERSION_2_IMAGE_SIZE bytes, becomes its bytes and zeros behind
+ * them. The older image is only read. A stopped store is converted too. convert_21216 goes on from there.
  * older, older_length: the older image; image, length: the lent one, of any contents, apart from it.
- * Answer: written with the number of bytes, NOLPIGAT_IMAGE_SIZE. Refused: 1 one of the two lengths is
- * not such; 2 the older image's control form is broken by the rules before 2.0, so also where it is
+ * Answer: written with the number of bytes, all of the lent image. Refused: 1 one of the two lengths is
+ * not such; 2 the older image's control form is broken by the rules of its version, so also where it is
  * zero. Then the lent image stays as it was. */
 NOLPIGAT_MUST_CHECK
-uint32_t nolpigat_convert(const uint8_t *older, size_t older_length, uint8_t *image, size_t length);
+uint32_t nolpigat_convert_21024(const uint8_t *older, size_t older_length, uint8_t *image,
+                                size_t length);
+
+/* convert_21216: an image that versions 2.x left, of NOLPIGAT_VERSION_2_IMAGE_SIZE bytes, becomes one of
+ * this version: the lent one, of NOLPIGAT_IMAGE_SIZE bytes, gets its bytes, serial 4, and the stamp of
+ * the newest placement for each working card. The older image is only read. A stopped store is converted
+ * too, and stays stopped until a start: cards that had failed before are stale.
+ * Arguments, answer and refusals are as of convert_21024, with these two lengths. */
+NOLPIGAT_MUST_CHECK
+uint32_t nolpigat_convert_21216(const uint8_t *older, size_t older_length, uint8_t *image,
+                                size_t length);
 
 /* Queries. They only read, and have no commands. Those up to free_transaction ask the control part
  * and are never refused with 4, so that a panel can ask them after a stop.
@@ -432,7 +463,7 @@ uint32_t nolpigat_placement(const uint8_t *image, size_t length, uint8_t index);
 NOLPIGAT_MUST_CHECK
 uint32_t nolpigat_working(const uint8_t *image, size_t length);
 
-/* failed: the cards that are marked failed, from their fail until a fit.
+/* failed: the cards that are marked failed, from their fail until a fit, a return or a start.
  * Answer: number with their mask, 0 if there is none. Refused: 1; 2. */
 NOLPIGAT_MUST_CHECK
 uint32_t nolpigat_failed(const uint8_t *image, size_t length);

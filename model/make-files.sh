@@ -1,7 +1,8 @@
 #!/bin/sh
 # Makes the stored command files and their listings anew, from fixed seeds:
-# tests/listings/KIND/stdin and stdout; tests/older/EDITION/earlier, the image
-# that it leaves, and stdin and stdout, which go on from there.
+# tests/listings/KIND/stdin and stdout; tests/older/EDITION/earlier, lines of a
+# table where the edition has tables, the image that they leave, and stdin and
+# stdout, which go on from there.
 set -eu
 cd "$(dirname "$0")"
 cargo build --release --offline --quiet
@@ -13,7 +14,7 @@ while read -r kind seed count; do
 done <<LIST
 mixed 101 3000
 reorganise 102 3000
-failures 103 3000
+failures 114 3000
 conflicts 104 2500
 deletes 105 2500
 edges 106 3000
@@ -37,5 +38,6 @@ done <<LIST
 base mixed 2399 400 1200
 rails mixed 1977 400 1200
 below-wire mixed 2402 400 1200
+by-tables mixed 2426 400 1200
 LIST
 target/release/count ../tests/listings/*/stdin

@@ -5,7 +5,7 @@
 set -u
 . "$(dirname "$0")/check.sh"
 program=$scratch/program
-recipes='boot charge exchange in_the_way copy_and_switch table convert'
+recipes='boot charge exchange in_the_way copy_and_switch supply table convert'
 
 # stored COMMAND..: it succeeds with every stored command file as its input.
 stored() {
@@ -94,6 +94,10 @@ tables() {
     build "$root/tests/tables.c" && "$program"
 }
 
+returns() {
+    build "$root/tests/returns.c" && "$program"
+}
+
 convert() {
     build "$root/tests/convert.c" || return 1
     for folder in "$root"/tests/older/*; do
@@ -145,8 +149,8 @@ no_state() {
 # The archive has the functions that the header declares, which are those of the wrapper, and no other name.
 defined_symbols() {
     nm -g --defined-only "$archive" | awk 'NF == 3 { print $3 }' | sort >"$scratch/defined" &&
-        sed -n 's/^uint32_t \(nolpigat_[a-z_]*\)(.*/\1/p' "$root/include/nolpigat.h" | sort >"$scratch/declared" &&
-        sed -n 's/^ *pub fn \(nolpigat_[a-z_]*\)(.*/\1/p' "$root/bindings/rust/src/ffi.rs" | sort >"$scratch/wrapped" &&
+        sed -n 's/^uint32_t \(nolpigat_[a-z0-9_]*\)(.*/\1/p' "$root/include/nolpigat.h" | sort >"$scratch/declared" &&
+        sed -n 's/^ *pub fn \(nolpigat_[a-z0-9_]*\)(.*/\1/p' "$root/bindings/rust/src/ffi.rs" | sort >"$scratch/wrapped" &&
         [ -s "$scratch/declared" ] && diff "$scratch/declared" "$scratch/defined" &&
         diff "$scratch/declared" "$scratch/wrapped"
 }
@@ -170,7 +174,7 @@ rust_format() {
     cargo fmt --check --manifest-path "$root/bindings/rust/Cargo.toml"
 }
 
-tests='header must_check first listing moves calls queries move_list tables convert texts'
+tests='header must_check first listing moves calls queries move_list tables returns convert texts'
 native gcc c99 c $tests readme stack
 native gcc c11 c header
 native g++ c++17 c++ $tests

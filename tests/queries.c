@@ -6,7 +6,7 @@
 
 #define SIZE NOLPIGAT_IMAGE_SIZE
 #define CONTROL 32
-#define TABLE 2624
+#define TABLE 2628
 #define BLOCK 41
 #define TRANSACTIONS 15
 #define CHECK(condition)                                                       \

@@ -1,8 +1,8 @@
 /* Measures the stack that calls need: performs the commands on standard input on a painted stack, each
  * through its own call and through nolpigat_command, and after each of them every function that only
- * reads, and on copies a placing by table, calls that follow a table, and a conversion. Prints the bytes
- * used. Exit 1 if they are more than NOLPIGAT_STACK_SIZE. Link it with -z now: else the dynamic linker
- * binds memset and memcpy on this stack. */
+ * reads, and on copies a placing by table, calls that follow a table, both conversions, and a stop with
+ * the return of every card. Prints the bytes used. Exit 1 if they are more than NOLPIGAT_STACK_SIZE. Link
+ * it with -z now: else the dynamic linker binds memset and memcpy on this stack. */
 #include "call.h"
 #include <stdio.h>
 #include <string.h>
@@ -15,7 +15,7 @@
 static uint8_t commands[MOST_COMMANDS][NOLPIGAT_COMMAND_SIZE];
 static size_t number;
 static uint8_t by_call[SIZE], by_command[SIZE];
-static uint8_t by_table[SIZE], converted[SIZE];
+static uint8_t copy[SIZE], older[NOLPIGAT_VERSION_2_IMAGE_SIZE], converted[SIZE];
 static uint8_t list[NOLPIGAT_MOST_MOVES * NOLPIGAT_MOVE_SIZE];
 static uint8_t lines[NOLPIGAT_MOST_LINES * NOLPIGAT_LINE_SIZE];
 static unsigned char stack[1 << 16];
@@ -48,14 +48,36 @@ static void fill_lines(uint8_t working) {
     }
 }
 
-/* The image's first bytes are those of an older one as long as no table is placed in it. */
 static void tables(const struct fields *fields) {
-    memcpy(by_table, by_call, SIZE);
+    memcpy(copy, by_call, SIZE);
     fill_lines(by_call[5]);
-    refused += nolpigat_place_by_table(by_table, SIZE, lines, sizeof lines);
-    refused += nolpigat_move_list(by_table, SIZE, list, sizeof list) + nolpigat_settle(by_table, SIZE);
-    refused += call(by_table, fields);
-    refused += nolpigat_convert(by_call, NOLPIGAT_OLDER_IMAGE_SIZE, converted, SIZE);
+    refused += nolpigat_place_by_table(copy, SIZE, lines, sizeof lines);
+    refused += nolpigat_move_list(copy, SIZE, list, sizeof list) + nolpigat_settle(copy, SIZE);
+    refused += call(copy, fields);
+}
+
+/* The image as version 2 had it: without a serial, and without the four bytes of a stamp behind each table.
+ * Its first bytes are those of version 1 as long as no table of a plant is placed. */
+static void conversions(void) {
+    const size_t table = 2624, control = 32, kept = sizeof older - control - 8 * table;
+    size_t card;
+    memcpy(older, by_call, control);
+    memset(older + 23, 0, 3);
+    for (card = 0; card < 8; card++)
+        memcpy(older + control + card * table, by_call + control + card * (table + 4), table);
+    memcpy(older + control + 8 * table, by_call + SIZE - kept, kept);
+    refused += nolpigat_convert_21216(older, sizeof older, converted, SIZE);
+    refused += nolpigat_convert_21024(older, NOLPIGAT_VERSION_1_IMAGE_SIZE, converted, sizeof older);
+}
+
+/* Every card fails, so that the store stops, and comes back. */
+static void returns(void) {
+    uint8_t card;
+    memcpy(copy, by_call, SIZE);
+    for (card = 0; card < 8; card++)
+        refused += nolpigat_fail(copy, SIZE, card);
+    for (card = 0; card < 8; card++)
+        refused += nolpigat_return_card(copy, SIZE, card);
 }
 
 /* Runs on the painted stack. Its own frame, and those of the functions of this file that make the
@@ -73,6 +95,8 @@ static void perform_all(void) {
             refused += call(by_call, &fields);
             queries(fields.transaction, fields.number);
             tables(&fields);
+            conversions();
+            returns();
         }
     }
 }

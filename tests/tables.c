@@ -6,7 +6,7 @@
 #include <string.h>
 
 #define SIZE NOLPIGAT_IMAGE_SIZE
-#define KEPT NOLPIGAT_OLDER_IMAGE_SIZE
+#define KEPT (NOLPIGAT_IMAGE_SIZE - 192)
 #define BLOCKS 64
 #define CHECK(condition)                                                       \
     do {                                                                       \

@@ -2,6 +2,8 @@
 
 use crate::cases::Case;
 use crate::sides::{Lent, Side, MODEL};
+use model::converter::shortened;
+use model::image::{CONTROL, LENGTH, OLDEST_LENGTH};
 use nolpigat::Answer;
 use std::collections::BTreeSet;
 
@@ -27,9 +29,12 @@ pub fn compared(archive: Side, case: &Case) -> String {
         assert!(lent.same(), "{place}: the lists differ");
         words.insert(word(wanted));
     }
-    // A side without tables differs in the marks and in what is kept.
-    let older = archive.older_length.is_some();
-    let same = if older { image[32..] == model[32..image.len()] } else { image == model };
+    // An older side has no serial and no stamps; one without tables differs in the marks too.
+    let same = match archive.length() {
+        LENGTH => image == model,
+        OLDEST_LENGTH => image[CONTROL..] == shortened(&model, OLDEST_LENGTH)[CONTROL..],
+        length => image == shortened(&model, length),
+    };
     assert!(same, "{place}: the images differ");
     words.into_iter().collect::<Vec<_>>().join(", ")
 }

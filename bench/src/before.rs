@@ -1,7 +1,7 @@
 //! The calls of libbefore.a, the archive of an earlier commit, as `differential::archive` has those of libnolpigat.a.
 //! Its functions are named apart, so that both archives link into one program.
 
-use model::image::{LENGTH, OLDER_LENGTH};
+use model::image::{LENGTH, OLDER_LENGTH, OLDEST_LENGTH};
 use model::Call;
 
 extern "C" {
@@ -21,12 +21,14 @@ extern "C" {
     fn before_nolpigat_state(image: *const u8, length: usize) -> u32;
     fn before_nolpigat_load(image: *const u8, length: usize, card: u8) -> u32;
     fn before_nolpigat_move_list(image: *const u8, image_length: usize, list: *mut u8, list_length: usize) -> u32;
+    #[cfg(before_tables)]
+    fn before_nolpigat_place_by_table(image: *mut u8, length: usize, lines: *const u8, lines_length: usize) -> u32;
 }
 
 /// The length of the archive's images: it refuses a start on another.
 pub fn length() -> usize {
-    let refused = perform(&mut [0; LENGTH], &Call::Start { mask: 0xFF }) != 0;
-    if refused { OLDER_LENGTH } else { LENGTH }
+    let takes = |length: &usize| perform(&mut vec![0; *length], &Call::Start { mask: 0xFF }) == 0;
+    [OLDEST_LENGTH, OLDER_LENGTH, LENGTH].into_iter().find(takes).expect("an archive of this store")
 }
 
 /// The code of the archive's answer. A block is a byte there.
@@ -60,4 +62,17 @@ pub fn perform(image: &mut [u8], call: &Call) -> u32 {
 pub fn move_list(image: &[u8], list: &mut [u8]) -> u32 {
     // Both slices are lent for the call alone, and they do not overlap.
     unsafe { before_nolpigat_move_list(image.as_ptr(), image.len(), list.as_mut_ptr(), list.len()) }
+}
+
+/// The code of the archive's answer to a placing by table.
+#[cfg(before_tables)]
+pub fn place_by_table(image: &mut [u8], lines: &[u8]) -> u32 {
+    // Both slices are lent for the call alone, and they do not overlap.
+    unsafe { before_nolpigat_place_by_table(image.as_mut_ptr(), image.len(), lines.as_ptr(), lines.len()) }
+}
+
+/// An archive from before tables: no case asks it.
+#[cfg(not(before_tables))]
+pub fn place_by_table(_: &mut [u8], _: &[u8]) -> u32 {
+    unreachable!("the archive has no tables")
 }

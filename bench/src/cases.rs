@@ -3,7 +3,8 @@
 use crate::sides::{Asked, Side};
 use model::calls::{perform, started, Call};
 use model::control::Control;
-use model::image::{BLOCKS, CARDS, OLDER_LENGTH, RECORDS};
+use model::converter::shortened;
+use model::image::{BLOCKS, CARDS, LENGTH, OLDER_LENGTH, OLDEST_LENGTH, RECORDS};
 use model::move_list::fewest_moves;
 use model::sites::{members, sites};
 use model::table::{place_by_table, write_lines, Line};
@@ -19,6 +20,8 @@ pub struct Case {
     pub calls: Vec<Asked>,
     /// The figures are those of the whole list, and not of one call.
     whole: bool,
+    /// An earlier delivery answers otherwise.
+    today: bool,
 }
 
 impl Case {
@@ -27,26 +30,34 @@ impl Case {
     }
 
     fn of(state: &'static str, call: &'static str, image: &[u8], calls: Vec<Asked>) -> Case {
-        Case { state, call, image: image.to_vec(), without_table: None, calls, whole: false }
+        Case { state, call, image: image.to_vec(), without_table: None, calls, whole: false, today: false }
     }
 
     fn whole(state: &'static str, call: &'static str, image: &[u8], calls: Vec<Call>) -> Case {
         Case { whole: true, ..Case::new(state, call, image, calls) }
     }
 
+    fn today(state: &'static str, call: &'static str, image: &[u8], calls: Vec<Asked>) -> Case {
+        Case { today: true, ..Case::of(state, call, image, calls) }
+    }
+
     fn move_list(state: &'static str, call: &'static str, image: &[u8]) -> Case {
         Case::of(state, call, image, vec![Asked::MoveList; 4])
     }
 
-    /// The image on which a side runs. An older side has its own length and no tables; None where it lacks the call.
+    /// The image on which a side runs. An older side has its own length, and perhaps no tables; None where it lacks the
+    /// call or answers otherwise.
     pub fn image_of(&self, side: Side) -> Option<Vec<u8>> {
-        let Some(length) = side.older_length else { return Some(self.image.clone()) };
-        if !self.calls.iter().all(Asked::is_old) {
+        let length = side.length();
+        if length == LENGTH {
+            return Some(self.image.clone());
+        }
+        let tables = length == OLDER_LENGTH;
+        if self.today || !self.calls.iter().all(|asked| asked.is_old(tables)) {
             return None;
         }
-        let mut image = self.without_table.as_ref().unwrap_or(&self.image).clone();
-        image.truncate(length());
-        Some(image)
+        let image = self.without_table.as_ref().filter(|_| !tables).unwrap_or(&self.image);
+        Some(shortened(image, length))
     }
 
     /// What the figures of a copy are divided by.
@@ -68,10 +79,11 @@ impl Case {
 const FULL: &str = "full";
 const ONE_TABLE: &str = "full, one table";
 const REORGANISING: &str = "reorganising";
+const STOPPED: &str = "stopped";
 const OLDER: &str = "full, an older image";
 
 /// In the order of the table's rows.
-const STATES: [&str; 4] = [FULL, ONE_TABLE, REORGANISING, OLDER];
+const STATES: [&str; 5] = [FULL, ONE_TABLE, REORGANISING, STOPPED, OLDER];
 
 /// Records that a transaction stores before it ends.
 const PENDING: usize = 8;
@@ -80,6 +92,9 @@ const TRANSACTIONS: u8 = 15;
 
 /// The card that fails.
 const FAILING: u8 = 2;
+
+/// A further card that fails, which stops the store.
+const STOPPING: u8 = 3;
 
 fn accept(image: &mut [u8], call: Call) {
     let answer = perform(image, &call);
@@ -252,6 +267,28 @@ fn on_half(half: &[u8]) -> Vec<Case> {
     ]
 }
 
+/// Two of eight cards failed, with transactions open: the store stopped. The second card can come back.
+fn on_stopped(full: &[u8]) -> Vec<Case> {
+    let fails = [FAILING, STOPPING].map(|card| Call::Fail { card }).to_vec();
+    let stopped = after(&pending(full, &homes(full)), fails);
+    let others = (0..CARDS as u8).filter(|card| ![FAILING, STOPPING].contains(card));
+    let marks = others.map(|card| Asked::Call(Call::Fail { card })).collect();
+    vec![
+        Case::today(STOPPED, "return, the store runs", &stopped, vec![Asked::Return(STOPPING)]),
+        Case::today(STOPPED, "return, stale", &stopped, vec![Asked::Return(FAILING); 64]),
+        Case::today(STOPPED, "fail", &stopped, marks),
+    ]
+}
+
+/// Conversions of the full store as earlier editions had it.
+fn conversions(full: &[u8]) -> Vec<Case> {
+    let case = |call, length, asked| Case::of(OLDER, call, &shortened(full, length), vec![asked; 4]);
+    vec![
+        case("convert 21,024", OLDEST_LENGTH, Asked::Convert21024),
+        case("convert 21,216", OLDER_LENGTH, Asked::Convert21216),
+    ]
+}
+
 /// All cases of a state.
 fn of_state(state: &'static str, image: &[u8], own: fn(&'static str, &[u8]) -> Vec<Case>) -> Vec<Case> {
     let mut all = common(state, image);
@@ -273,7 +310,8 @@ pub fn cases() -> Vec<Case> {
     }
     all.extend(placings(ONE_TABLE, &with_table));
     all.extend(of_state(REORGANISING, &half, |_, half| on_half(half)));
-    all.push(Case::of(OLDER, "convert", &full[..OLDER_LENGTH], vec![Asked::Convert; 4]));
+    all.extend(on_stopped(&full));
+    all.extend(conversions(&full));
     let eight = place_and_move(&full, [0x7E, 0x3C], BLOCKS / 4);
     all.push(Case::move_list(REORGANISING, "move list, eight cards", &eight));
     all.sort_by_key(Case::place);

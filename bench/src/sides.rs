@@ -2,9 +2,10 @@
 
 use differential::archive;
 use model::commands::Fields;
-use model::converter::convert;
-use model::image::LENGTH;
+use model::converter::{convert_21024, convert_21216};
+use model::image::{LENGTH, OLDER_LENGTH};
 use model::move_list::{move_list, Move, MOST_MOVES};
+use model::returns::return_card;
 use model::table::place_by_table;
 use model::{perform, Call};
 
@@ -15,8 +16,12 @@ pub enum Asked {
     MoveList,
     /// A placing by the lines in these bytes.
     Table(Vec<u8>),
-    /// The image is an older one.
-    Convert,
+    /// A return of this card.
+    Return(u8),
+    /// The image is one of the editions before tables.
+    Convert21024,
+    /// The image is one of the edition before stamps.
+    Convert21216,
 }
 
 impl Asked {
@@ -26,13 +31,15 @@ impl Asked {
             Asked::Call(call) => Fields::of(call).operation,
             Asked::MoveList => 15,
             Asked::Table(_) => 16,
-            Asked::Convert => 17,
+            Asked::Return(_) => 17,
+            Asked::Convert21024 => 18,
+            Asked::Convert21216 => 19,
         }
     }
 
-    /// The deliveries before tables have it too.
-    pub fn is_old(&self) -> bool {
-        matches!(self, Asked::Call(_) | Asked::MoveList)
+    /// A delivery before, with tables of plants or without them, has it too.
+    pub fn is_old(&self, tables: bool) -> bool {
+        matches!(self, Asked::Call(_) | Asked::MoveList) || tables && matches!(self, Asked::Table(_))
     }
 }
 
@@ -69,8 +76,15 @@ pub struct Side {
     pub name: &'static str,
     /// Answers a code.
     pub perform: fn(&mut [u8], &mut Lent, &Asked) -> u32,
-    /// The length of its images; None is that of the delivery in force, with tables.
+    /// The length of its images where they are shorter than those of the delivery in force.
     pub older_length: Option<fn() -> usize>,
+}
+
+impl Side {
+    /// The length of its images.
+    pub fn length(&self) -> usize {
+        self.older_length.map_or(LENGTH, |length| length())
+    }
 }
 
 /// The archive libnolpigat.a.
@@ -80,7 +94,9 @@ pub const RATTLE: Side = Side {
         Asked::Call(call) => archive::perform(image, call),
         Asked::MoveList => archive::move_list(image, &mut lent.archive),
         Asked::Table(lines) => archive::place_by_table(image, lines),
-        Asked::Convert => archive::convert(image, &mut lent.archive_image),
+        Asked::Return(card) => archive::return_card(image, *card),
+        Asked::Convert21024 => archive::convert_21024(image, &mut lent.archive_image[..OLDER_LENGTH]),
+        Asked::Convert21216 => archive::convert_21216(image, &mut lent.archive_image),
     },
     older_length: None,
 };
@@ -91,7 +107,9 @@ pub const MODEL: Side = Side {
         Asked::Call(call) => archive::code(perform(image, call)),
         Asked::MoveList => archive::list_code(move_list(image, &mut lent.model)),
         Asked::Table(lines) => archive::code(place_by_table(image, lines)),
-        Asked::Convert => archive::code(convert(image, &mut lent.model_image)),
+        Asked::Return(card) => archive::code(return_card(image, *card)),
+        Asked::Convert21024 => archive::code(convert_21024(image, &mut lent.model_image[..OLDER_LENGTH])),
+        Asked::Convert21216 => archive::code(convert_21216(image, &mut lent.model_image)),
     },
     older_length: None,
 };
@@ -103,7 +121,8 @@ pub const BEFORE: Side = Side {
     perform: |image, lent, asked| match asked {
         Asked::Call(call) => crate::before::perform(image, call),
         Asked::MoveList => crate::before::move_list(image, &mut lent.archive),
-        Asked::Table(_) | Asked::Convert => unreachable!("the cases of this side have none"),
+        Asked::Table(lines) => crate::before::place_by_table(image, lines),
+        _ => unreachable!("the cases of this side have none"),
     },
     older_length: Some(crate::before::length),
 };

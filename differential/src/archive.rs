@@ -45,10 +45,22 @@ pub fn place_by_table(image: &mut [u8], lines: &[u8]) -> u32 {
     unsafe { nolpigat_place_by_table(image.as_mut_ptr(), image.len(), lines.as_ptr(), lines.len()) }
 }
 
-/// The code of the archive's answer to a conversion into a lent image.
-pub fn convert(older: &[u8], image: &mut [u8]) -> u32 {
+/// The code of the archive's answer to a return of a card.
+pub fn return_card(image: &mut [u8], card: u8) -> u32 {
+    // The pointer and the length are those of a slice that is lent for the call alone.
+    unsafe { nolpigat_return_card(image.as_mut_ptr(), image.len(), card) }
+}
+
+/// The code of the archive's answer to a conversion of an image of 21,024 bytes into a lent one.
+pub fn convert_21024(older: &[u8], image: &mut [u8]) -> u32 {
     // Both slices are lent for the call alone, and they do not overlap.
-    unsafe { nolpigat_convert(older.as_ptr(), older.len(), image.as_mut_ptr(), image.len()) }
+    unsafe { nolpigat_convert_21024(older.as_ptr(), older.len(), image.as_mut_ptr(), image.len()) }
+}
+
+/// The code of the archive's answer to a conversion of an image of 21,216 bytes into a lent one.
+pub fn convert_21216(older: &[u8], image: &mut [u8]) -> u32 {
+    // Both slices are lent for the call alone, and they do not overlap.
+    unsafe { nolpigat_convert_21216(older.as_ptr(), older.len(), image.as_mut_ptr(), image.len()) }
 }
 
 /// The code of the archive's answer to a lent list, whose entries are two bytes, card and block.

@@ -6,22 +6,27 @@ use model::tally::{possible, ANSWERS, OPERATIONS};
 use model::Call;
 use std::collections::{BTreeMap, BTreeSet};
 
-/// The fifteen calls, a command's bytes, and a placing by table.
-pub const ENTRIES: usize = 17;
+/// The fifteen calls, a command's bytes, a placing by table and a return.
+pub const ENTRIES: usize = 18;
 pub const COMMAND_ENTRY: usize = 15;
 pub const TABLE_ENTRY: usize = 16;
+pub const RETURN_ENTRY: usize = 17;
 
-const TABLE_NAME: &str = "place by table";
-
-/// What a placing by table can be refused with.
-const TABLE_REFUSALS: [u8; 8] = [1, 2, 3, 4, 9, 10, 17, 18];
+/// The calls that have no command, by their entries from `TABLE_ENTRY` on: what each can be refused with; else ok.
+const WITHOUT_COMMAND: [(&str, &[u8]); 2] =
+    [("place by table", &[1, 2, 3, 4, 9, 10, 17, 18, 20]), ("return", &[1, 2, 3, 8, 19])];
 
 /// Kinds of answers, then refusals by number.
-const ANSWER_CLASSES: usize = 36;
+const KINDS: u32 = 16;
+const HIGHEST_REFUSAL: u32 = 21;
+const ANSWER_CLASSES: usize = (KINDS + HIGHEST_REFUSAL) as usize + 1;
 
 /// The name of an entry.
 fn entry_name(entry: usize) -> &'static str {
-    OPERATIONS.get(entry).map_or(TABLE_NAME, |(name, ..)| name)
+    match entry.checked_sub(TABLE_ENTRY) {
+        Some(at) => WITHOUT_COMMAND[at].0,
+        None => OPERATIONS[entry].0,
+    }
 }
 
 pub type Entries = [usize; ENTRIES];
@@ -59,11 +64,11 @@ fn byte_arguments(call: &Call) -> Vec<u16> {
 
 fn answer_class(code: u32) -> usize {
     let (kind, number) = (code / NUMBER_RANGE, code % NUMBER_RANGE);
-    (if kind == REFUSED { 16 + number.min(19) } else { kind.min(15) }) as usize
+    (if kind == REFUSED { KINDS + number.min(HIGHEST_REFUSAL) } else { kind.min(KINDS - 1) }) as usize
 }
 
 fn answer_name(class: usize) -> String {
-    match class.checked_sub(16) {
+    match class.checked_sub(KINDS as usize) {
         Some(number) => format!("refused {number}"),
         None => ANSWERS.get(class).map_or_else(|| format!("kind {class}"), |word| word.to_string()),
     }
@@ -73,10 +78,13 @@ impl Cases {
     pub fn add_answer(&mut self, request: &Request, code: u32) {
         let operation = request.operation();
         self.answers[operation][answer_class(code)] += 1;
-        if let Request::Call(call) = request {
-            for (place, value) in byte_arguments(call).into_iter().enumerate() {
-                self.byte_values[operation][place][value as usize] = true;
-            }
+        let arguments = match request {
+            Request::Call(call) => byte_arguments(call),
+            Request::Return(card) => vec![(*card).into()],
+            _ => vec![],
+        };
+        for (place, value) in arguments.into_iter().enumerate() {
+            self.byte_values[operation][place][value as usize] = true;
         }
     }
 
@@ -112,8 +120,12 @@ impl Cases {
     pub fn faults(&self, images: &[String], named: &[String]) -> Vec<String> {
         let mut wanted = possible();
         wanted.extend(OPERATIONS[..COMMAND_ENTRY].iter().map(|(operation, ..)| format!("{operation} refused 1")));
-        wanted.insert(format!("{TABLE_NAME} ok"));
-        wanted.extend(TABLE_REFUSALS.map(|number| format!("{TABLE_NAME} refused {number}")));
+        // No command file has so many placements.
+        wanted.insert("place refused 20".into());
+        for (name, refusals) in WITHOUT_COMMAND {
+            wanted.insert(format!("{name} ok"));
+            wanted.extend(refusals.iter().map(|number| format!("{name} refused {number}")));
+        }
         let found = self.answers();
         let mut faults: Vec<String> = wanted.difference(&found).map(|name| format!("no {name}")).collect();
         faults.extend(found.difference(&wanted).map(|name| format!("impossible: {name}")));
@@ -137,11 +149,12 @@ impl Cases {
     fn byte_faults(&self) -> Vec<String> {
         let mut faults = Vec::new();
         let one = |operation: usize| Call::of(operation as u8, &Default::default()).expect("operations 0 to 14");
-        for operation in 0..COMMAND_ENTRY {
-            for place in 0..byte_arguments(&one(operation)).len() {
-                let missing = self.byte_values[operation][place].iter().filter(|met| !**met).count();
+        let places = |entry: usize| if entry < COMMAND_ENTRY { byte_arguments(&one(entry)).len() } else { 1 };
+        for entry in (0..COMMAND_ENTRY).chain([RETURN_ENTRY]) {
+            for place in 0..places(entry) {
+                let missing = self.byte_values[entry][place].iter().filter(|met| !**met).count();
                 if missing > 0 {
-                    let (name, ..) = OPERATIONS[operation];
+                    let name = entry_name(entry);
                     faults.push(format!("{missing} byte values of argument {} of {name} missing", place + 1));
                 }
             }

@@ -11,6 +11,7 @@ pub mod pair;
 pub mod protection;
 pub mod questions;
 pub mod requests;
+pub mod returns;
 pub mod run;
 pub mod single;
 pub mod tables;

@@ -1,5 +1,6 @@
-//! Long lists of calls with any bytes in the tables of failed cards, compared with the plain record list too.
-//! Some go on from an image that calls of earlier editions left.
+//! Long lists of calls with any bytes in the tables of failed cards, compared with the plain record list too. They go
+//! on through stops: cards are returned, most often with the bytes of their failing. Some lists go on from an image
+//! that calls of earlier editions left.
 
 use crate::archive::code;
 use crate::broken_wire;
@@ -7,10 +8,12 @@ use crate::conversions;
 use crate::move_lists::{self, MoveLists, Origin};
 use crate::pair::{Outcome, Pair, Request, ALIGNMENTS};
 use crate::protection::{self, IN_LIST};
+use crate::returns;
 use crate::run::Run;
 use crate::tables;
+use model::at_failing::AtFailing;
 use model::commands::{read_command, COMMAND_BYTES};
-use model::control::{form_of, Control, NO_HOMES};
+use model::control::{form_of, Control, NO_HOMES, SERIAL};
 use model::edition::Edition;
 use model::image::{table_at, CONTROL};
 use model::images::disturb;
@@ -29,6 +32,9 @@ const MOVES_LISTED: usize = 20;
 const NOISE: &str = "list call with bytes put into a failed card's table";
 const STOP: &str = "stop, as the plain list says";
 const NO_STOP: &str = "fail of a working card, no stop as the plain list says";
+const NEXT_STOP: &str = "stop behind a stop, as the plain list says";
+const KEPT_RETURN: &str = "return of a card with the bytes of its failing";
+const WRONG_RETURN: &str = "return of a card with other bytes than at its failing, refused 19";
 
 /// Operations whose answers are the plain list's: get, store, delete, commit and rollback.
 const PLAIN_OPERATIONS: std::ops::RangeInclusive<usize> = 2..=6;
@@ -44,18 +50,26 @@ fn beginning_name(history: &[Edition], active: usize) -> String {
     format!("list from an image of {history:?} with {active} active")
 }
 
-fn plain_name(operation: usize, refused: bool) -> String {
+fn plain_name(operation: usize, refused: bool, behind: bool) -> String {
     let (name, ..) = OPERATIONS[operation];
-    format!("{name}{}, as the plain list says", if refused { " refused" } else { "" })
+    let (refused, behind) = (if refused { " refused" } else { "" }, if behind { ", behind a stop" } else { "" });
+    format!("{name}{refused}, as the plain list says{behind}")
+}
+
+fn stop_name(active: usize) -> String {
+    format!("stop with {active} active, as the plain list says")
 }
 
 /// Classes of calls in lists that a run must meet.
 pub fn classes() -> Vec<String> {
     let mut all: Vec<String> = KINDS.iter().flat_map(|(name, _)| [false, true].map(|o| list_name(name, o))).collect();
     all.extend(HISTORIES.iter().flat_map(|history| (1..=4).map(|active| beginning_name(history, active))));
-    all.extend(PLAIN_OPERATIONS.flat_map(|operation| [plain_name(operation, false), plain_name(operation, true)]));
-    all.push(plain_name(STATE, false));
-    all.extend([NOISE, STOP, NO_STOP].map(String::from));
+    for behind in [false, true] {
+        all.extend(PLAIN_OPERATIONS.flat_map(|operation| [false, true].map(|r| plain_name(operation, r, behind))));
+        all.push(plain_name(STATE, false, behind));
+    }
+    all.extend((1..=4).map(stop_name));
+    all.extend([NOISE, STOP, NO_STOP, NEXT_STOP, KEPT_RETURN, WRONG_RETURN].map(String::from));
     all.extend(OVER_OLD.iter().map(|name| name.to_string()));
     all.extend(move_lists::list_classes());
     all
@@ -77,6 +91,7 @@ pub fn run(run: &mut Run, calls: usize) {
 struct ListRun {
     pair: Pair,
     list: List,
+    at_failing: AtFailing,
 }
 
 impl ListRun {
@@ -90,7 +105,8 @@ impl ListRun {
         if let Some(plain) = &list.plain {
             run.cases.add(&beginning_name(list.history, plain.active.len()));
         }
-        ListRun { pair, list }
+        let at_failing = AtFailing::new(pair.image());
+        ListRun { pair, list, at_failing }
     }
 
     fn run(&mut self, run: &mut Run, move_lists: &mut MoveLists, most: usize) {
@@ -99,11 +115,15 @@ impl ListRun {
             let step = self.list.next_step();
             self.disturb(run);
             run.cases.add(&name);
+            run.behind_stops += usize::from(self.list.is_behind_a_stop());
             match step {
                 Step::Command(bytes) => self.command(run, &bytes),
                 Step::Table(lines) => self.table(run, &lines),
+                Step::Return { card, kept } => self.return_card(run, card, kept),
             }
-            if self.list.plain.is_some() && move_lists.chance(MOVES_LISTED) {
+            self.at_failing.note(self.pair.image());
+            let runs = self.list.plain.as_ref().is_some_and(|plain| !plain.stopped);
+            if runs && move_lists.chance(MOVES_LISTED) {
                 move_lists.check(run, Origin::Reached, self.pair.archive_image());
             }
         }
@@ -128,10 +148,35 @@ impl ListRun {
         let request = Request::Table(lines);
         let outcome = run.perform(&mut self.pair, &request);
         tables::count(run, tables::IN_LIST, &before, lines, &outcome.answer);
-        let Some(answer) = self.list.expect_table(lines) else { return };
+        let expected = self.list.expect_table(lines);
+        self.compare_answer(run, &request, expected, &outcome);
+    }
+
+    /// A card comes back with the bytes of its failing, or is stale.
+    fn return_card(&mut self, run: &mut Run, card: u8, kept: bool) {
+        let mut keeps = kept;
+        let table = if card < 8 { vec![table_at(card.into())] } else { vec![] };
+        let at_failing = &self.at_failing;
+        self.pair.change(&table, |image| keeps = at_failing.prepare_return(image, card, kept));
+        let before = self.pair.image().to_vec();
+        let request = Request::Return(card);
+        let outcome = run.perform(&mut self.pair, &request);
+        returns::count(run, returns::IN_LIST, &before, card, &outcome.answer);
+        match outcome.answer {
+            Answer::Ok => run.cases.add(KEPT_RETURN),
+            Answer::Refused(19) if !keeps => run.cases.add(WRONG_RETURN),
+            _ => {}
+        }
+        let expected = self.list.expect_return(card, keeps);
+        self.compare_answer(run, &request, expected, &outcome);
+    }
+
+    /// The archive's answer to a call without a command, and its control part, against the plain list.
+    fn compare_answer(&self, run: &mut Run, request: &Request, expected: Option<Answer>, outcome: &Outcome) {
+        let Some(answer) = expected else { return };
         let same = self.list.plain.as_ref().is_some_and(|plain| same_cards(plain, self.pair.archive_image()));
         if outcome.code != code(answer) || !same {
-            run.report(&request, &format!("the plain list expects {answer}; same cards: {same}; {outcome}"));
+            run.report(request, &format!("the plain list expects {answer}; same cards: {same}; {outcome}"));
         }
     }
 
@@ -147,6 +192,8 @@ impl ListRun {
 
     /// The archive's answer and control part against the plain list.
     fn compare_with_plain(&mut self, run: &mut Run, request: &Request, call: &Call, outcome: &Outcome) {
+        let behind = self.list.is_behind_a_stop();
+        let was_stopped = self.list.plain.as_ref().is_some_and(|plain| plain.stopped);
         let Some(expected) = self.list.expect(call) else { return };
         let stopped = outcome.code == code(Answer::Stopped);
         let agrees = match expected {
@@ -154,9 +201,13 @@ impl ListRun {
             Expected::Stops => stopped,
             Expected::Free => !stopped,
         };
-        count_plain(run, request.operation(), call, outcome, expected);
+        count_plain(run, request.operation(), call, outcome, expected, behind);
         let image = self.pair.archive_image();
         let plain = self.list.plain.as_ref();
+        if let (Expected::Stops, Some(plain), false) = (expected, plain, was_stopped) {
+            run.cases.add(&stop_name(plain.active.len()));
+            run.cases.add(if behind { NEXT_STOP } else { STOP });
+        }
         let same_cards = plain.is_none_or(|plain| same_cards(plain, image));
         let same_word = *call != Call::State || plain.is_none_or(|plain| outcome.code == code(plain.state()));
         if !agrees || !same_cards || !same_word {
@@ -169,6 +220,7 @@ impl ListRun {
 /// What is special about 65,535, in a store with old placements or with tables, and about a state.
 fn count_situations(run: &mut Run, before: &[u8], call: &Call, outcome: &Outcome) {
     broken_wire::count(run, broken_wire::IN_LIST, before, call, &outcome.answer);
+    returns::count_call(run, returns::IN_LIST, before, call, &outcome.answer);
     let in_range = call.in_range(Edition::Today);
     let Some(control) = Control::read(before).filter(|control| !control.stopped && in_range) else { return };
     for name in rail_situations(&control, call, &outcome.answer) {
@@ -178,13 +230,12 @@ fn count_situations(run: &mut Run, before: &[u8], call: &Call, outcome: &Outcome
     protection::count(run, IN_LIST, &control, call, &outcome.answer);
 }
 
-fn count_plain(run: &mut Run, operation: usize, call: &Call, outcome: &Outcome, expected: Expected) {
+fn count_plain(run: &mut Run, operation: usize, call: &Call, outcome: &Outcome, expected: Expected, behind: bool) {
     match (expected, outcome.answer) {
         (Expected::Exactly(answer), _) if PLAIN_OPERATIONS.contains(&operation) => {
-            run.cases.add(&plain_name(operation, matches!(answer, Answer::Refused(_))));
+            run.cases.add(&plain_name(operation, matches!(answer, Answer::Refused(_)), behind));
         }
-        (Expected::Stops, _) => run.cases.add(STOP),
-        (Expected::Free, Answer::Protected | Answer::Unprotected) => run.cases.add(&plain_name(STATE, false)),
+        (Expected::Free, Answer::Protected | Answer::Unprotected) => run.cases.add(&plain_name(STATE, false, behind)),
         (Expected::Free, Answer::Placed(_) | Answer::Unplaced) if matches!(call, Call::Fail { .. }) => {
             run.cases.add(NO_STOP)
         }
@@ -192,10 +243,12 @@ fn count_plain(run: &mut Run, operation: usize, call: &Call, outcome: &Outcome, 
     }
 }
 
-/// Working, failed and active, with the marks and what is kept, are there as the plain list has them.
+/// Working, failed and active, with the marks and what is kept, the serial and whether the store runs are there as the
+/// plain list has them.
 fn same_cards(plain: &Plain, image: &[u8]) -> bool {
-    let (placements, working, failed) = (plain.active.clone(), plain.working, plain.failed);
-    let wanted = Control { stopped: false, placements, working, failed, homes: NO_HOMES }.form();
+    let Plain { stopped, working, failed, serial, .. } = *plain;
+    let placements = plain.active.clone();
+    let wanted = Control { stopped, placements, working, failed, homes: NO_HOMES, serial }.form();
     let found = form_of(image);
-    found[..8] == wanted[..8] && found[CONTROL..] == wanted[CONTROL..]
+    found[..8] == wanted[..8] && found[SERIAL] == wanted[SERIAL] && found[CONTROL..] == wanted[CONTROL..]
 }

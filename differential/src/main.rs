@@ -3,7 +3,7 @@
 //! Exit 1 on a difference, or if a run that is long enough misses a class of cases.
 
 use differential::run::Run;
-use differential::{broken_wire, conversions, lists, move_lists, protection, questions, single, tables};
+use differential::{broken_wire, conversions, lists, move_lists, protection, questions, returns, single, tables};
 use std::process::exit;
 use std::time::Instant;
 
@@ -15,6 +15,9 @@ const CALLS_BY_IMAGE: usize = 250;
 
 /// A conversion after so many calls.
 const CALLS_BY_CONVERSION: usize = 200;
+
+/// At least one call in so many is behind a first stop.
+const CALLS_BY_CALL_BEHIND: usize = 10;
 
 const IMAGES_FOR_ALL_CLASSES: usize = CALLS_FOR_ALL_CLASSES / CALLS_BY_IMAGE;
 
@@ -34,17 +37,23 @@ fn run_all(run: &mut Run, calls: usize) -> Vec<String> {
     println!("{} questions on images that requests left", run.questions);
     println!("{} move lists in lists and on {} images, {images:.1} s on images", run.lists, calls / CALLS_BY_IMAGE);
     println!("{} conversions", run.conversions);
+    println!("{} calls behind a first stop", run.behind_stops);
     let named = [
         single::argument_classes(),
         lists::classes(),
         tables::classes(),
+        returns::classes(),
         conversions::classes(),
         protection::classes(),
         broken_wire::classes(),
         questions::classes(),
         move_lists::image_classes(),
     ];
-    run.cases.faults(&single::image_classes(), &named.concat())
+    let mut faults = run.cases.faults(&single::image_classes(), &named.concat());
+    if run.behind_stops * CALLS_BY_CALL_BEHIND < run.calls {
+        faults.push(format!("only {} of {} calls behind a first stop", run.behind_stops, run.calls));
+    }
+    faults
 }
 
 /// Move lists alone.

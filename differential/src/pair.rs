@@ -1,9 +1,10 @@
 //! Two images of the same bytes, one lent to the archive and one to the model.
 
 use crate::archive::{self, NUMBER_RANGE};
-use crate::cases::TABLE_ENTRY;
+use crate::cases::{RETURN_ENTRY, TABLE_ENTRY};
 use model::commands::Fields;
 use model::move_list::{move_list, ListAnswer, Move};
+use model::returns::return_card;
 use model::table::place_by_table;
 use model::{listing, perform, Answer, Call};
 use std::fmt;
@@ -23,15 +24,18 @@ pub enum Request<'a> {
     Command(&'a [u8]),
     /// A placing by the lines in these bytes.
     Table(&'a [u8]),
+    /// A return of this card.
+    Return(u8),
 }
 
 impl Request<'_> {
-    /// The number of the operation; 15 for bytes that name none, and one more for a placing by table.
+    /// The number of the operation; 15 for bytes that name none, and further ones for calls without a command.
     pub fn operation(&self) -> usize {
         match self {
             Request::Call(call) => Fields::of(call).operation as usize,
             Request::Command(bytes) => bytes.first().map_or(15, |byte| byte >> 4) as usize,
             Request::Table(_) => TABLE_ENTRY,
+            Request::Return(_) => RETURN_ENTRY,
         }
     }
 }
@@ -145,6 +149,7 @@ impl Pair {
             Request::Table(lines) => {
                 (place_lent(archive, lines, self.image.start % ALIGNMENTS), place_by_table(model, lines))
             }
+            Request::Return(card) => (archive::return_card(archive, *card), return_card(model, *card)),
         };
         Outcome { code, answer, wanted: archive::code(answer), byte: self.different_byte() }
     }

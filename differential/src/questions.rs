@@ -24,7 +24,7 @@ const TOLD: [&[&str]; 9] = [
     &["0", "number", "refused 1", "refused 2"],
     &["number", "refused 1", "refused 2"],
     &["number", "none", "refused 1", "refused 2", "refused 3"],
-    &["number", "refused 1", "refused 2"],
+    &["0", "number", "refused 1", "refused 2"],
     &["0", "number", "refused 1", "refused 2"],
     &["0", "number", "none", "refused 1", "refused 2", "refused 3"],
     &["0", "number", "refused 1", "refused 2"],

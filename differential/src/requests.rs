@@ -61,6 +61,8 @@ pub const VALUE_ENDS: [(u16, &str); 3] = [(0, "value 0"), (65534, "value 65534")
 pub struct Requests {
     /// The next values, by operation and place of the argument.
     next: [[u8; 2]; 15],
+    /// The next card of a return.
+    next_returned: u8,
 }
 
 impl Requests {
@@ -80,6 +82,15 @@ impl Requests {
             }
         }
         Call::of(operation, &numbers).expect("operations 0 to 14")
+    }
+
+    /// Most often a card in its range.
+    pub fn returned(&mut self, random: &mut Random) -> u8 {
+        if random.chance(900) {
+            return random.below(8) as u8;
+        }
+        self.next_returned = self.next_returned.wrapping_add(1);
+        self.next_returned
     }
 }
 

@@ -21,6 +21,8 @@ pub struct Run {
     pub questions: usize,
     /// Conversions so far.
     pub conversions: usize,
+    /// Calls in lists behind a first stop, with no start since.
+    pub behind_stops: usize,
     pub differences: usize,
 }
 
@@ -34,6 +36,7 @@ impl Run {
             lists: 0,
             questions: 0,
             conversions: 0,
+            behind_stops: 0,
             differences: 0,
         }
     }

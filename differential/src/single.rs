@@ -5,11 +5,13 @@ use crate::cases::{Entries, COMMAND_ENTRY, ENTRIES};
 use crate::pair::{Pair, Request, ALIGNMENTS};
 use crate::protection::{self, SINGLE};
 use crate::requests::{command_class, command_classes, random_command, Requests, RECORD_ENDS, VALUE_ENDS};
+use crate::returns;
 use crate::run::Run;
 use crate::tables;
 use model::clauses::{broken, broken_control, Clause, CLAUSES};
-use model::control::{form_of, put_form, Control};
-use model::image::{CONTROL, KEPT, LENGTH, OLDER_LENGTH};
+use model::control::{count, form_of, put_form, Control, HIGHEST_SERIAL};
+use model::edition::SERIALS_END;
+use model::image::{CONTROL, KEPT, LENGTH, OLDER_LENGTH, OLDEST_LENGTH};
 use model::images::{random_tables, whole_control};
 use model::random::Random;
 use model::sites::Placement;
@@ -19,10 +21,14 @@ use model::{Answer, Call};
 
 const CALLS_ON_AN_IMAGE: usize = 64;
 
-const LENGTHS: [usize; 8] = [0, 1, 31, 32, OLDER_LENGTH, LENGTH - 1, LENGTH + 1, 2 * LENGTH];
+const LENGTHS: [usize; 9] = [0, 1, 31, 32, OLDEST_LENGTH, OLDER_LENGTH, LENGTH - 1, LENGTH + 1, 2 * LENGTH];
 
 /// Of a thousand requests on an image, so many are placings by table.
 const BY_TABLE: usize = 80;
+
+/// Of a thousand requests on an image, so many are returns; on one of a stopped store.
+const BY_RETURN: usize = 60;
+const BY_RETURN_STOPPED: usize = 400;
 
 /// Of a thousand tables, so many have a fault.
 const FAULTY_TABLES: usize = 600;
@@ -50,6 +56,10 @@ const RUNNING_TWO_KINDS: &str = "running, active of two kinds";
 const RUNNING_ALL_KINDS: &str = "running, active of all three kinds";
 const FOUR_OF_ALL_KINDS: &str = "running, four active of all three kinds";
 const STOPPED_TABLE: &str = "stopped, a table active";
+const LAST_SERIAL: &str = "running, at the last serial that takes a place";
+const NO_SERIAL: &str = "running, no serial for a place";
+const HIGHEST: &str = "running, at the highest serial";
+const STOPPED_NO_SERIAL: &str = "stopped, no serial for a place";
 const KEPT_RANDOM: &str = "any bytes behind the tables";
 const KEPT_BROKEN: &str = "bits changed behind the tables, form broken";
 const KEPT_WHOLE: &str = "bits changed behind the tables, form whole";
@@ -77,6 +87,7 @@ pub fn image_classes() -> Vec<String> {
     all.extend([RUNNING_WITH_FAILED, RUNNING_WITH_OPEN, ANOTHER_LENGTH, ALL_RANDOM].map(String::from));
     all.extend([RUNNING_OLD, RUNNING_RAILS, RUNNING_TABLES, RUNNING_TWO_KINDS, RUNNING_ALL_KINDS].map(String::from));
     all.extend([FOUR_OF_ALL_KINDS, STOPPED_TABLE, KEPT_RANDOM, KEPT_BROKEN, KEPT_WHOLE].map(String::from));
+    all.extend([LAST_SERIAL, NO_SERIAL, HIGHEST, STOPPED_NO_SERIAL].map(String::from));
     all.extend(CLAUSES.map(|clause| format!("{clause:?} broken alone")));
     all.extend(LENGTHS.map(|length| format!("length {length}")));
     all
@@ -135,7 +146,20 @@ fn classes(image: &[u8], making: Making) -> Vec<String> {
     if !control.open().is_empty() {
         found.push(RUNNING_WITH_OPEN.into());
     }
+    found.extend(serial_classes(&control).into_iter().map(String::from));
     found
+}
+
+/// Where the serial stands to its bounds.
+fn serial_classes(control: &Control) -> Vec<&'static str> {
+    let highest = control.serial + count(control.newest().mask) as u32 == HIGHEST_SERIAL;
+    let names = [
+        (LAST_SERIAL, !control.stopped && control.serial == SERIALS_END - 1),
+        (NO_SERIAL, !control.stopped && control.serial >= SERIALS_END),
+        (HIGHEST, !control.stopped && highest),
+        (STOPPED_NO_SERIAL, control.stopped && control.serial >= SERIALS_END),
+    ];
+    names.into_iter().filter(|(_, holds)| *holds).map(|(name, _)| name).collect()
 }
 
 fn make(random: &mut Random, making: Making) -> Vec<u8> {
@@ -174,34 +198,61 @@ fn calls_on(run: &mut Run, pair: &mut Pair, requests: &mut Requests, image: &[u8
     let mut entries = [0; ENTRIES];
     let alignment = run.random.below(ALIGNMENTS);
     pair.load(image, alignment);
+    let is_stopped = image.first().is_some_and(|byte| byte & 0x80 != 0);
+    let by_return = if is_stopped { BY_RETURN_STOPPED } else { BY_RETURN };
     for _ in 0..calls {
-        if run.random.chance(125) {
-            let bytes = random_command(&mut run.random);
-            let outcome = run.perform(pair, &Request::Command(&bytes));
-            count_command(run, image, &bytes, outcome.answer);
-            entries[COMMAND_ENTRY] += 1;
+        let entry = if run.random.chance(by_return) {
+            return_on(run, pair, requests, image)
+        } else if run.random.chance(125) {
+            command_on(run, pair, image)
         } else if run.random.chance(BY_TABLE) {
-            let working = image.get(5).copied().unwrap_or(0xFF);
-            let lines = random_table(&mut run.random, working, FAULTY_TABLES);
-            let request = Request::Table(&lines);
-            let outcome = run.perform(pair, &request);
-            tables::count(run, tables::SINGLE, image, &lines, &outcome.answer);
-            entries[request.operation()] += 1;
+            table_on(run, pair, image)
         } else {
-            let call = requests.call(&mut run.random);
-            let request = Request::Call(call);
-            let outcome = run.perform(pair, &request);
-            count_ends(run, &call);
-            count_state(run, image, &call, outcome.answer);
-            broken_wire::count_image(run, image, &call);
-            broken_wire::count(run, broken_wire::SINGLE, image, &call, &outcome.answer);
-            entries[request.operation()] += 1;
-        }
+            call_on(run, pair, requests, image)
+        };
+        entries[entry] += 1;
         if pair.image() != image {
             pair.load(image, alignment);
         }
     }
     entries
+}
+
+fn return_on(run: &mut Run, pair: &mut Pair, requests: &mut Requests, image: &[u8]) -> usize {
+    let card = requests.returned(&mut run.random);
+    let request = Request::Return(card);
+    let outcome = run.perform(pair, &request);
+    returns::count(run, returns::SINGLE, image, card, &outcome.answer);
+    request.operation()
+}
+
+fn command_on(run: &mut Run, pair: &mut Pair, image: &[u8]) -> usize {
+    let bytes = random_command(&mut run.random);
+    let outcome = run.perform(pair, &Request::Command(&bytes));
+    count_command(run, image, &bytes, outcome.answer);
+    COMMAND_ENTRY
+}
+
+fn table_on(run: &mut Run, pair: &mut Pair, image: &[u8]) -> usize {
+    let working = image.get(5).copied().unwrap_or(0xFF);
+    let lines = random_table(&mut run.random, working, FAULTY_TABLES);
+    let request = Request::Table(&lines);
+    let outcome = run.perform(pair, &request);
+    tables::count(run, tables::SINGLE, image, &lines, &outcome.answer);
+    returns::count_table(run, returns::SINGLE, image, &outcome.answer);
+    request.operation()
+}
+
+fn call_on(run: &mut Run, pair: &mut Pair, requests: &mut Requests, image: &[u8]) -> usize {
+    let call = requests.call(&mut run.random);
+    let request = Request::Call(call);
+    let outcome = run.perform(pair, &request);
+    count_ends(run, &call);
+    count_state(run, image, &call, outcome.answer);
+    broken_wire::count_image(run, image, &call);
+    broken_wire::count(run, broken_wire::SINGLE, image, &call, &outcome.answer);
+    returns::count_call(run, returns::SINGLE, image, &call, &outcome.answer);
+    request.operation()
 }
 
 fn count_command(run: &mut Run, image: &[u8], bytes: &[u8], answer: Answer) {
@@ -237,11 +288,11 @@ fn count_state(run: &mut Run, image: &[u8], call: &Call, answer: Answer) {
     }
 }
 
-/// How the image of a round is made; every second one is of a running store.
+/// How the image of a round is made; three of eight are of running stores, and one of a stopped one.
 fn making_of(round: usize) -> Making {
     let makings = makings();
-    let running = Making::Whole { number: 1 + round / 2 % 4, stopped: false };
-    if round % 2 == 0 { running } else { makings[round / 2 % makings.len()] }
+    let (number, stopped) = (1 + round / 8 % 4, round % 8 == 4);
+    if round % 2 == 0 { Making::Whole { number, stopped } } else { makings[round / 2 % makings.len()] }
 }
 
 /// The image of a round.

@@ -1,10 +1,30 @@
 /* listing [IMAGE]: runs the commands on standard input and prints their listing. They go on from the
- * image in the file, or begin with zeros. An image that versions before 2.0 left is converted first. */
+ * image in the file, or begin with zeros. An image that an earlier version left is converted first. */
 #include <nolpigat.h>
 #include <stdio.h>
 #include <string.h>
 
-/* The file's bytes become the image. 0 if they are neither one of this version nor an older one. */
+static int is_written(uint32_t answer) {
+    return nolpigat_kind(answer) == NOLPIGAT_KIND_WRITTEN;
+}
+
+/* The bytes become the image. 0 if they are neither one of this version nor an older one. */
+static int take_over(const uint8_t *bytes, size_t length, uint8_t *image) {
+    static uint8_t between[NOLPIGAT_VERSION_2_IMAGE_SIZE];
+    if (length == NOLPIGAT_IMAGE_SIZE) {
+        memcpy(image, bytes, length);
+        return 1;
+    }
+    if (length == NOLPIGAT_VERSION_1_IMAGE_SIZE) {
+        if (!is_written(nolpigat_convert_21024(bytes, length, between, sizeof between)))
+            return 0;
+        bytes = between;
+        length = sizeof between;
+    }
+    return is_written(nolpigat_convert_21216(bytes, length, image, NOLPIGAT_IMAGE_SIZE));
+}
+
+/* The file's bytes become the image. 0 if that cannot be. */
 static int read_image(const char *name, uint8_t *image) {
     static uint8_t bytes[NOLPIGAT_IMAGE_SIZE + 1];
     FILE *file = fopen(name, "rb");
@@ -13,11 +33,7 @@ static int read_image(const char *name, uint8_t *image) {
         return 0;
     length = fread(bytes, 1, sizeof bytes, file);
     fclose(file);
-    if (length == NOLPIGAT_IMAGE_SIZE) {
-        memcpy(image, bytes, length);
-        return 1;
-    }
-    return nolpigat_kind(nolpigat_convert(bytes, length, image, NOLPIGAT_IMAGE_SIZE)) == NOLPIGAT_KIND_WRITTEN;
+    return take_over(bytes, length, image);
 }
 
 int main(int argc, char **argv) {
@@ -28,8 +44,8 @@ int main(int argc, char **argv) {
     unsigned long number = 0;
 
     if (argc > 2 || (argc == 2 && !read_image(argv[1], image))) {
-        fprintf(stderr, "usage: listing [IMAGE]; an image has %d bytes, an older one %d\n", NOLPIGAT_IMAGE_SIZE,
-                NOLPIGAT_OLDER_IMAGE_SIZE);
+        fprintf(stderr, "usage: listing [IMAGE]; an image has %d bytes, an older one %d or %d\n", NOLPIGAT_IMAGE_SIZE,
+                NOLPIGAT_VERSION_2_IMAGE_SIZE, NOLPIGAT_VERSION_1_IMAGE_SIZE);
         return 2;
     }
     /* The last read may give one to four bytes, which the store refuses with 15. */

@@ -8,7 +8,7 @@
 /* What the panel does next. */
 enum boot {
     RUNS,    /* go on */
-    STOPPED, /* keep the image and call people: only they may start it anew */
+    STOPPED, /* keep the image and return the cards (supply); only people may start it anew */
     UNUSABLE /* the same: this is no image of a running or stopped store */
 };
 

@@ -3,7 +3,7 @@
 use crate::control::{bit, count, has, Control};
 use crate::edition::Edition;
 use crate::image::*;
-use crate::sites::{holders, members, sites};
+use crate::sites::{holders, members, sites, Placement};
 
 #[derive(Clone, Copy, Debug, PartialEq, Eq)]
 pub enum Answer {
@@ -167,7 +167,8 @@ fn admit(edition: Edition, image: &[u8], call: &Call) -> Result<Control, Answer>
     if !call.in_range(edition) {
         return Err(Answer::Refused(3));
     }
-    if control.stopped {
+    let marks = edition.has_serials() && matches!(call, Call::Fail { .. });
+    if control.stopped && !marks {
         return Err(Answer::Refused(4));
     }
     if call.used_transaction().is_some_and(|transaction| !control.is_open(transaction)) {
@@ -181,7 +182,9 @@ fn start(edition: Edition, image: &mut [u8], mask: u8) -> Answer {
         return Answer::Refused(9);
     }
     image.fill(0);
-    Control::fresh(edition.placement(mask)).write(image);
+    let control = Control::fresh(edition, edition.placement(mask));
+    control.write(image);
+    control.write_stamps(image);
     Answer::Ok
 }
 
@@ -236,7 +239,8 @@ fn store(image: &mut [u8], control: &Control, transaction: u8, record: u16, valu
     if targets.is_empty() {
         targets = sites(control.newest(), block).to_vec();
         for card in &targets {
-            let bytes = &mut image[block_at(*card, block)];
+            let at = Layout::of(image).block_at(*card, block);
+            let bytes = &mut image[at];
             bytes.fill(0);
             bytes[0] = 0x80;
         }
@@ -286,13 +290,18 @@ fn unlock(image: &mut [u8], control: &mut Control, closing: &[u8], step: fn(&mut
     }
 }
 
+/// The stamp goes with the blocks.
+fn clear_table(image: &mut [u8], card: usize) {
+    let at = Layout::of(image).table_at(card);
+    image[at].fill(0);
+}
+
 fn fit(image: &mut [u8], mut control: Control, card: usize) -> Answer {
     if has(control.working, card) || control.placed(card) {
         return Answer::Refused(8);
     }
-    control.failed &= !bit(card);
-    control.working |= bit(card);
-    image[table_at(card)].fill(0);
+    control.take_back(card);
+    clear_table(image, card);
     control.write(image);
     Answer::Ok
 }
@@ -305,9 +314,15 @@ fn withdraw(image: &mut [u8], mut control: Control, card: usize) -> Answer {
         return Answer::Refused(14);
     }
     control.working &= !bit(card);
-    image[table_at(card)].fill(0);
+    clear_table(image, card);
     control.write(image);
     Answer::Ok
+}
+
+/// The placement becomes the newest, and all working cards take its stamp. The control part is still to be written.
+pub(crate) fn add_placement(edition: Edition, image: &mut [u8], control: &mut Control, newest: Placement) {
+    control.add_placement(edition, newest);
+    control.write_stamps(image);
 }
 
 fn place(edition: Edition, image: &mut [u8], mut control: Control, mask: u8) -> Answer {
@@ -316,10 +331,10 @@ fn place(edition: Edition, image: &mut [u8], mut control: Control, mask: u8) -> 
     if count(mask) < 2 || mask & !control.working != 0 || again {
         return Answer::Refused(9);
     }
-    if control.placements.len() >= 3 {
-        return Answer::Refused(10);
+    if let Some(number) = edition.no_room(control.placements.len(), control.serial) {
+        return Answer::Refused(number);
     }
-    control.placements.push(edition.placement(mask));
+    add_placement(edition, image, &mut control, edition.placement(mask));
     control.write(image);
     Answer::Ok
 }
@@ -327,6 +342,11 @@ fn place(edition: Edition, image: &mut [u8], mut control: Control, mask: u8) -> 
 fn fail(edition: Edition, image: &mut [u8], mut control: Control, card: usize) -> Answer {
     if !has(control.working, card) {
         return Answer::Refused(8);
+    }
+    if control.stopped {
+        control.mark_failed(card);
+        control.write(image);
+        return Answer::Stopped;
     }
     control.stopped = control.stops_without(card);
     control.mark_failed(card);
@@ -336,7 +356,7 @@ fn fail(edition: Edition, image: &mut [u8], mut control: Control, card: usize) -
         Answer::Stopped
     } else if has(control.newest().mask, card) {
         let mask = control.newest().mask & !bit(card);
-        control.placements.push(edition.placement(mask));
+        add_placement(edition, image, &mut control, edition.placement(mask));
         Answer::Placed(mask)
     } else {
         Answer::Unplaced
@@ -356,15 +376,16 @@ fn move_block(image: &mut [u8], control: &Control, card: usize, block: usize) ->
         return Answer::Refused(12);
     }
     let targets = sites(control.newest(), block);
+    let layout = Layout::of(image);
     let mut copies = 0;
     for target in targets {
         if !held(image, target, block) {
-            image.copy_within(block_at(card, block), block_at(target, block).start);
+            image.copy_within(layout.block_at(card, block), layout.block_at(target, block).start);
             copies += 1;
         }
     }
     if !targets.contains(&card) {
-        image[block_at(card, block)].fill(0);
+        image[layout.block_at(card, block)].fill(0);
     }
     Answer::Copies(copies)
 }

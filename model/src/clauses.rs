@@ -1,6 +1,6 @@
 //! The clauses of the control form by name, and forms that break one of them alone.
 
-use crate::control::{bit, count, has, kept, rail_mark, table_mark, Form, FORM};
+use crate::control::{bit, count, has, kept, rail_mark, serial_of, table_mark, Form, FORM, HIGHEST_SERIAL, SERIAL};
 use crate::image::{CONTROL, MOST_ACTIVE};
 use crate::images::whole_control;
 use crate::random::Random;
@@ -24,6 +24,8 @@ pub enum Clause {
     OpenTransactionZeros,
     ClosedTransaction,
     LastBytes,
+    SerialBelowCount,
+    SerialTooHigh,
     WorkingAndFailed,
     FewMembers,
     MemberUnknown,
@@ -38,11 +40,12 @@ pub enum Clause {
     StoppedAndOpen,
 }
 
-pub const CLAUSES: [Clause; 26] = [
+pub const CLAUSES: [Clause; 28] = [
     CountZero, CountOverFour, FirstByteZeros, UnusedMask, MarkBeyondCount, TableMarkBeyondCount, BothMarks,
     PairOfEqualCards, PairNotOfMembers, KeptWithoutTable, KeptBeyondCount, OpenTransactionZeros, ClosedTransaction,
-    LastBytes, WorkingAndFailed, FewMembers, MemberUnknown, ThirdLacksMember, ThirdIsFourth, ThirdHasSeveralMore,
-    ThirdHasWorkingMore, NewestMemberIdle, TwoFailed, FewWorking, HomeNotWorking, StoppedAndOpen,
+    LastBytes, SerialBelowCount, SerialTooHigh, WorkingAndFailed, FewMembers, MemberUnknown, ThirdLacksMember,
+    ThirdIsFourth, ThirdHasSeveralMore, ThirdHasWorkingMore, NewestMemberIdle, TwoFailed, FewWorking, HomeNotWorking,
+    StoppedAndOpen,
 ];
 
 /// The clauses that the bytes break. Clauses on placements speak of those that there are.
@@ -58,7 +61,10 @@ pub fn broken(bytes: &Form) -> Vec<Clause> {
     let transactions = &bytes[8..23];
     add(OpenTransactionZeros, transactions.iter().any(|byte| byte & 0x80 != 0 && byte & 0x0F != 0));
     add(ClosedTransaction, transactions.iter().any(|byte| byte & 0x80 == 0 && *byte != 0));
-    add(LastBytes, bytes[23..CONTROL].iter().any(|byte| *byte != 0));
+    add(LastBytes, bytes[SERIAL.end..CONTROL].iter().any(|byte| *byte != 0));
+    let (serial, newest) = (serial_of(&bytes[SERIAL]), active.last().map_or(0, |mask| count(*mask)));
+    add(SerialBelowCount, serial < number as u32);
+    add(SerialTooHigh, serial + newest as u32 > HIGHEST_SERIAL);
     let (working, failed) = (bytes[5], bytes[6]);
     add(WorkingAndFailed, working & failed != 0);
     add(FewMembers, active.iter().any(|mask| count(*mask) < 2));
@@ -133,9 +139,22 @@ fn bytes_of(clause: Clause) -> Range<usize> {
         MarkBeyondCount | TableMarkBeyondCount | BothMarks => 7..8,
         PairOfEqualCards | PairNotOfMembers | KeptWithoutTable | KeptBeyondCount => CONTROL..FORM,
         OpenTransactionZeros | ClosedTransaction | HomeNotWorking | StoppedAndOpen => 8..23,
-        LastBytes => 23..CONTROL,
+        LastBytes => SERIAL.end..CONTROL,
+        SerialBelowCount | SerialTooHigh => SERIAL,
         _ => 1..7,
     }
+}
+
+/// The serial's bytes, at a bound of the clause where it speaks of the serial.
+fn serial_for(random: &mut Random, clause: Clause, bytes: &Form) -> [u8; 3] {
+    let number = u32::from(bytes[0] >> 4 & 7);
+    let serial = match clause {
+        SerialBelowCount => random.below(number.max(1) as usize) as u32,
+        SerialTooHigh => HIGHEST_SERIAL - random.below(9) as u32 + random.one_of(&[0, 1, 7, 100]),
+        _ => return [bytes[23], bytes[24], bytes[25]],
+    };
+    let [_, high, middle, low] = serial.to_be_bytes();
+    [high, middle, low]
 }
 
 /// The bytes of a form that breaks this clause and no other.
@@ -148,6 +167,8 @@ pub fn broken_control(random: &mut Random, clause: Clause) -> Form {
             let faulty = random.one_of(&bytes_of(clause).collect::<Vec<usize>>());
             bytes[faulty] ^= if random.chance(500) { bit(random.below(8)) } else { random.byte() };
         }
+        let serial = serial_for(random, clause, &bytes);
+        bytes[SERIAL].copy_from_slice(&serial);
         if clause == CountZero {
             bytes[1..5].fill(0);
             bytes[7] = 0;

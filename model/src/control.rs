@@ -1,8 +1,9 @@
 //! The control part: bytes 0 to 31, what is kept for placements behind the tables, and their form.
 
 use crate::edition::Edition;
-use crate::image::{CARDS, CONTROL, KEPT, LENGTH, MOST_ACTIVE, OLDER_LENGTH, PAIRS_BYTES};
+use crate::image::{stamp_at, Layout, CARDS, CONTROL, MOST_ACTIVE, PAIRS_BYTES, STAMP_BYTES};
 use crate::sites::{members, pack_pairs, unpack_pairs, Choice, Placement};
+use std::ops::Range;
 
 pub const TRANSACTIONS: usize = 15;
 
@@ -11,7 +12,13 @@ pub type Homes = [Option<u8>; TRANSACTIONS + 1];
 
 pub const NO_HOMES: Homes = [None; TRANSACTIONS + 1];
 
-pub const FORM: usize = CONTROL + LENGTH - OLDER_LENGTH;
+pub const FORM: usize = CONTROL + MOST_ACTIVE * PAIRS_BYTES;
+
+/// Where the serial of the newest placement lies in the control part, most significant byte first.
+pub const SERIAL: Range<usize> = 23..26;
+
+/// The serial and the members of the newest placement are together not above this.
+pub const HIGHEST_SERIAL: u32 = 16_777_008;
 
 /// The bytes that the control form speaks of: the control part, and then what is kept behind the tables.
 pub type Form = [u8; FORM];
@@ -20,17 +27,26 @@ pub type Form = [u8; FORM];
 pub fn form_of(image: &[u8]) -> Form {
     let mut form = [0; FORM];
     form[..CONTROL].copy_from_slice(&image[..CONTROL]);
-    if image.len() == LENGTH {
-        form[CONTROL..].copy_from_slice(&image[KEPT]);
-    }
+    let kept = &image[Layout::of(image).kept()];
+    form[CONTROL..][..kept.len()].copy_from_slice(kept);
     form
 }
 
 pub fn put_form(image: &mut [u8], form: &Form) {
     image[..CONTROL].copy_from_slice(&form[..CONTROL]);
-    if image.len() == LENGTH {
-        image[KEPT].copy_from_slice(&form[CONTROL..]);
-    }
+    let kept = Layout::of(image).kept();
+    image[kept.clone()].copy_from_slice(&form[CONTROL..][..kept.len()]);
+}
+
+/// The serial in these bytes, most significant first.
+pub fn serial_of(bytes: &[u8]) -> u32 {
+    bytes.iter().fold(0, |serial, byte| serial << 8 | u32::from(*byte))
+}
+
+/// The stamp of a placement: its serial in 24 bits, then its mask.
+pub fn stamp(serial: u32, mask: u8) -> [u8; STAMP_BYTES] {
+    let [_, high, middle, low] = serial.to_be_bytes();
+    [high, middle, low, mask]
 }
 
 /// What is kept for the placement at this place, oldest first.
@@ -46,6 +62,8 @@ pub struct Control {
     pub working: u8,
     pub failed: u8,
     pub homes: Homes,
+    /// Of the newest placement; 0 by editions without serials.
+    pub serial: u32,
 }
 
 /// Card 0 is the highest bit.
@@ -116,9 +134,15 @@ fn read_homes(bytes: &[u8]) -> Option<Homes> {
 
 impl Control {
     /// The control part that a start leaves.
-    pub fn fresh(newest: Placement) -> Control {
-        let working = newest.mask;
-        Control { stopped: false, placements: vec![newest], working, failed: 0, homes: NO_HOMES }
+    pub fn fresh(edition: Edition, newest: Placement) -> Control {
+        let (working, serial) = (newest.mask, edition.has_serials().into());
+        Control { stopped: false, placements: vec![newest], working, failed: 0, homes: NO_HOMES, serial }
+    }
+
+    /// The placement becomes the newest, with the next serial.
+    pub fn add_placement(&mut self, edition: Edition, newest: Placement) {
+        self.placements.push(newest);
+        self.serial += u32::from(edition.has_serials());
     }
 
     /// By today's form; None when it is broken.
@@ -138,7 +162,8 @@ impl Control {
         if bytes[0] & 0x0F != 0 || bytes[7] & !edition.marks(number) != 0 {
             return None;
         }
-        if bytes[23..CONTROL].iter().any(|b| *b != 0) {
+        let zeros = if edition.has_serials() { SERIAL.end } else { SERIAL.start };
+        if bytes[zeros..CONTROL].iter().any(|b| *b != 0) {
             return None;
         }
         if bytes[1 + number..5].iter().any(|b| *b != 0) {
@@ -150,8 +175,16 @@ impl Control {
             working: bytes[5],
             failed: bytes[6],
             homes: read_homes(bytes)?,
+            serial: serial_of(&bytes[SERIAL]),
         };
-        control.sound().then_some(control)
+        let serial_fits = !edition.has_serials() || control.serial_fits();
+        (control.sound() && serial_fits).then_some(control)
+    }
+
+    /// Each active placement had a serial of its own, and each member of the newest can still fail.
+    fn serial_fits(&self) -> bool {
+        let members = count(self.newest().mask) as u32;
+        self.serial >= self.placements.len() as u32 && self.serial + members <= HIGHEST_SERIAL
     }
 
     /// The clauses of the form that speak of cards.
@@ -173,9 +206,12 @@ impl Control {
         if self.stopped {
             return self.homes.iter().all(|home| home.is_none());
         }
-        self.newest().mask & !self.working == 0
-            && !self.must_stop()
-            && self.homes.iter().flatten().all(|home| has(self.working, *home as usize))
+        self.can_run() && self.homes.iter().flatten().all(|home| has(self.working, *home as usize))
+    }
+
+    /// What the form of a running store asks of cards and placements.
+    pub fn can_run(&self) -> bool {
+        self.newest().mask & !self.working == 0 && !self.must_stop()
     }
 
     /// Some active placement has two failed or fewer than two working members.
@@ -217,6 +253,7 @@ impl Control {
         }
         bytes[5] = self.working;
         bytes[6] = self.failed;
+        bytes[SERIAL].copy_from_slice(&self.stamp()[..SERIAL.len()]);
         for transaction in 1..=TRANSACTIONS {
             if let Some(home) = self.homes[transaction] {
                 bytes[7 + transaction] = 0x80 | home << 4;
@@ -225,10 +262,30 @@ impl Control {
         bytes
     }
 
+    /// What a start and an added placement write to each working card.
+    pub fn stamp(&self) -> [u8; STAMP_BYTES] {
+        stamp(self.serial, self.newest().mask)
+    }
+
+    /// Writes the stamp of the newest placement to all cards that work, where tables have stamps.
+    pub fn write_stamps(&self, image: &mut [u8]) {
+        if Layout::of(image).has_stamps() {
+            for card in members(self.working) {
+                image[stamp_at(card)].copy_from_slice(&self.stamp());
+            }
+        }
+    }
+
     /// The card no longer works and is marked failed.
     pub fn mark_failed(&mut self, card: usize) {
         self.working &= !bit(card);
         self.failed |= bit(card);
+    }
+
+    /// The card works and is failed no more.
+    pub fn take_back(&mut self, card: usize) {
+        self.failed &= !bit(card);
+        self.working |= bit(card);
     }
 
     pub fn newest(&self) -> Placement {

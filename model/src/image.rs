@@ -2,9 +2,11 @@
 
 use std::ops::Range;
 
-pub const LENGTH: usize = 21_216;
+pub const LENGTH: usize = 21_248;
+/// The length by the edition before stamps: the card tables end with their blocks.
+pub const OLDER_LENGTH: usize = 21_216;
 /// The length by the editions before tables of plants: nothing lies behind the card tables.
-pub const OLDER_LENGTH: usize = 21_024;
+pub const OLDEST_LENGTH: usize = 21_024;
 pub const CONTROL: usize = 32;
 pub const CARDS: usize = 8;
 pub const BLOCKS: usize = 64;
@@ -12,32 +14,90 @@ pub const PLACES: usize = 8;
 pub const RECORDS: usize = BLOCKS * PLACES;
 pub const SLOT_BYTES: usize = 5;
 pub const BLOCK_BYTES: usize = 1 + PLACES * SLOT_BYTES;
-pub const TABLE_BYTES: usize = BLOCKS * BLOCK_BYTES;
-/// Where all card tables lie.
-pub const TABLES: Range<usize> = CONTROL..OLDER_LENGTH;
+/// All blocks of a card's table.
+pub const BLOCKS_BYTES: usize = BLOCKS * BLOCK_BYTES;
+/// The serial and the mask of a placement, behind a table's blocks.
+pub const STAMP_BYTES: usize = 4;
+pub const TABLE_BYTES: usize = BLOCKS_BYTES + STAMP_BYTES;
+/// Where all card tables lie, with their stamps.
+pub const TABLES: Range<usize> = CONTROL..CONTROL + CARDS * TABLE_BYTES;
 /// The most placements that are active.
 pub const MOST_ACTIVE: usize = 4;
 /// What is kept for a placement by table: 6 bits a block.
 pub const PAIRS_BYTES: usize = BLOCKS * 6 / 8;
 /// What is kept for all placements, behind the card tables.
-pub const KEPT: Range<usize> = OLDER_LENGTH..LENGTH;
+pub const KEPT: Range<usize> = TABLES.end..LENGTH;
 
-/// Where a card's table lies.
+/// Where tables and what is kept lie, which the length of an image tells.
+#[derive(Clone, Copy, Debug, PartialEq, Eq)]
+pub struct Layout {
+    length: usize,
+    table_bytes: usize,
+}
+
+impl Layout {
+    pub const TODAY: Layout = Layout { length: LENGTH, table_bytes: TABLE_BYTES };
+
+    /// Of an image of this length; any other is read as of today.
+    pub fn of(image: &[u8]) -> Layout {
+        match image.len() {
+            OLDER_LENGTH | OLDEST_LENGTH => Layout { length: image.len(), table_bytes: BLOCKS_BYTES },
+            _ => Layout::TODAY,
+        }
+    }
+
+    pub fn has_stamps(self) -> bool {
+        self.table_bytes == TABLE_BYTES
+    }
+
+    /// Where a card's table lies, with its stamp.
+    pub fn table_at(self, card: usize) -> Range<usize> {
+        let first = CONTROL + card * self.table_bytes;
+        first..first + self.table_bytes
+    }
+
+    /// Where a block of a card's table lies.
+    pub fn block_at(self, card: usize, block: usize) -> Range<usize> {
+        let first = self.table_at(card).start + block * BLOCK_BYTES;
+        first..first + BLOCK_BYTES
+    }
+
+    /// Where the slot at a place of a block lies.
+    pub fn slot_at(self, card: usize, block: usize, place: usize) -> Range<usize> {
+        let first = self.block_at(card, block).start + 1 + place * SLOT_BYTES;
+        first..first + SLOT_BYTES
+    }
+
+    /// Where all card tables lie.
+    pub fn tables(self) -> Range<usize> {
+        CONTROL..self.table_at(CARDS).start
+    }
+
+    /// What is kept for all placements; empty before tables of plants.
+    pub fn kept(self) -> Range<usize> {
+        self.tables().end..self.length
+    }
+}
+
+/// Where a card's table lies today, with its stamp.
 pub fn table_at(card: usize) -> Range<usize> {
-    let first = CONTROL + card * TABLE_BYTES;
-    first..first + TABLE_BYTES
+    Layout::TODAY.table_at(card)
 }
 
-/// Where a block of a card's table lies.
+/// Where the stamp of a card's table lies.
+pub fn stamp_at(card: usize) -> Range<usize> {
+    let end = table_at(card).end;
+    end - STAMP_BYTES..end
+}
+
+/// Where a block of a card's table lies today.
 pub fn block_at(card: usize, block: usize) -> Range<usize> {
-    let first = table_at(card).start + block * BLOCK_BYTES;
-    first..first + BLOCK_BYTES
+    Layout::TODAY.block_at(card, block)
 }
 
-/// Where the slot at a place of a block lies.
+/// Where the slot at a place of a block lies today.
 pub fn slot_at(card: usize, block: usize, place: usize) -> Range<usize> {
-    let first = block_at(card, block).start + 1 + place * SLOT_BYTES;
-    first..first + SLOT_BYTES
+    Layout::TODAY.slot_at(card, block, place)
 }
 
 /// The block of a record and its place there.
@@ -46,7 +106,7 @@ pub fn place_of(record: u16) -> (usize, usize) {
 }
 
 pub fn held(image: &[u8], card: usize, block: usize) -> bool {
-    image[block_at(card, block).start] & 0x80 != 0
+    image[Layout::of(image).block_at(card, block).start] & 0x80 != 0
 }
 
 /// Some slot of the card's copy is locked.
@@ -132,11 +192,12 @@ impl Slot {
 }
 
 pub fn read_slot(image: &[u8], card: usize, block: usize, place: usize) -> Slot {
-    Slot::unpack(&image[slot_at(card, block, place)])
+    Slot::unpack(&image[Layout::of(image).slot_at(card, block, place)])
 }
 
 pub fn change_slot(image: &mut [u8], card: usize, block: usize, place: usize, change: impl FnOnce(&mut Slot)) {
     let mut slot = read_slot(image, card, block, place);
     change(&mut slot);
-    image[slot_at(card, block, place)].copy_from_slice(&slot.pack());
+    let at = Layout::of(image).slot_at(card, block, place);
+    image[at].copy_from_slice(&slot.pack());
 }

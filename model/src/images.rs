@@ -1,8 +1,8 @@
 //! Random images and calls, also such as no list of calls reaches.
 
 use crate::calls::{Call, Numbers};
-use crate::control::{bit, form_of, put_form, Control, Form, FORM, NO_HOMES};
-use crate::edition::{Edition, BROKEN_WIRE};
+use crate::control::{bit, count, form_of, put_form, stamp, Control, Form, FORM, HIGHEST_SERIAL, NO_HOMES};
+use crate::edition::{Edition, BROKEN_WIRE, SERIALS_END};
 use crate::image::*;
 use crate::random::Random;
 use crate::sites::{members, sites, Choice, Pairs, Placement};
@@ -62,23 +62,41 @@ pub fn random_pairs(random: &mut Random, mask: u8) -> Pairs {
     })
 }
 
+/// Most often a small one; now and then near one of the bounds, where few break the form.
+fn random_serial(random: &mut Random, placements: &[Placement]) -> u32 {
+    let (active, members) = (placements.len() as u32, placements.last().map_or(0, |newest| count(newest.mask)) as u32);
+    match random.below(12) {
+        0 => random.below(1 << 24) as u32,
+        1 | 2 => SERIALS_END - 4 + random.below(8) as u32,
+        3 | 4 => HIGHEST_SERIAL - members - random.below(4) as u32,
+        5 => (active + random.below(4) as u32).saturating_sub(1),
+        _ => active + random.below(300) as u32,
+    }
+}
+
 /// A control part whose form is often whole.
 fn random_parts(random: &mut Random, number: usize, stopped: bool) -> Control {
     let mut failed = 0;
     for _ in 0..random.below(4) {
         failed |= bit(random.below(CARDS));
     }
-    let working = (random.byte() | random.byte() | random.byte()) & !failed;
+    let mut working = (random.byte() | random.byte() | random.byte()) & !failed;
+    if stopped && random.chance(200) {
+        // Few cards are left, or none.
+        working &= bit(random.below(CARDS)) | bit(random.below(CARDS));
+    }
     let masks = random_masks(random, number, stopped, working, failed);
     // All kinds occur, in any order, as no list of calls leaves them.
-    let placements = masks.into_iter().map(|mask| Placement { mask, choice: random_choice(random, mask) }).collect();
+    let placements: Vec<Placement> =
+        masks.into_iter().map(|mask| Placement { mask, choice: random_choice(random, mask) }).collect();
     let mut homes = NO_HOMES;
     for home in &mut homes[1..] {
         if !stopped && working != 0 && random.chance(300) {
             *home = Some(random.one_of(&members(working)) as u8);
         }
     }
-    Control { stopped, placements, working, failed, homes }
+    let serial = random_serial(random, &placements);
+    Control { stopped, placements, working, failed, homes, serial }
 }
 
 /// The bytes of a form that is whole, with this many active placements.
@@ -102,14 +120,36 @@ fn random_control(random: &mut Random, image: &mut [u8]) {
     }
 }
 
-/// Random bytes into the tables of the cards marked failed, which no call reads before a fit.
+/// Stamps of all kinds: most often that of the newest placement, else one that is stale in one of its ways.
+fn random_stamps(random: &mut Random, image: &mut [u8]) {
+    let Some(control) = Control::read(image) else { return };
+    let (serial, mask) = (control.serial, control.newest().mask);
+    let step = 1 + random.below(3) as u32;
+    for card in 0..CARDS {
+        let mut found = control.stamp();
+        match random.below(12) {
+            0 => random.fill(&mut found),
+            1 => found = [0; STAMP_BYTES],
+            2 => found = stamp(serial.saturating_sub(step), mask),
+            3 => found = stamp(serial + step, mask),
+            4 => found = stamp(serial, mask ^ bit(random.below(CARDS))),
+            5 => found[random.below(STAMP_BYTES)] ^= bit(random.below(8)),
+            _ => {}
+        }
+        image[stamp_at(card)].copy_from_slice(&found);
+    }
+}
+
+/// Random bytes into the tables of the cards marked failed, stamps too. No call reads them before a fit or a return.
 pub fn disturb(random: &mut Random, image: &mut [u8]) {
     for card in members(image[6]) {
         let bytes = &mut image[table_at(card)];
-        match random.below(4) {
+        match random.below(6) {
             0 => random.fill(bytes),
             1 => bytes.fill(0),
             2 => bytes.fill(0xFF),
+            // One bit of the stamp, and nothing else.
+            3 | 4 => bytes[BLOCKS_BYTES + random.below(STAMP_BYTES)] ^= bit(random.below(8)),
             _ => {
                 for _ in 0..20 {
                     let at = random.below(TABLE_BYTES);
@@ -134,21 +174,26 @@ fn random_slot(random: &mut Random, slot: &mut Slot, locked: usize) {
     }
 }
 
-/// Tables of any bytes, with few held blocks and few locks.
+/// Tables of any bytes, with few held blocks and few locks, and stamps of all kinds where there are some.
 pub fn random_tables(random: &mut Random, image: &mut [u8]) {
-    random.fill(&mut image[TABLES]);
+    let layout = Layout::of(image);
+    random.fill(&mut image[layout.tables()]);
     let dense = random.one_of(&[20, 200, 500, 1000]);
     let locked = random.one_of(&[0, 20, 300]);
     for card in 0..CARDS {
         for block in 0..BLOCKS {
             if !random.chance(dense) {
-                image[block_at(card, block).start] &= 0x7F;
+                image[layout.block_at(card, block).start] &= 0x7F;
             }
             for place in 0..PLACES {
                 change_slot(image, card, block, place, |slot| random_slot(random, slot, locked));
             }
         }
     }
+    if !layout.has_stamps() {
+        return;
+    }
+    random_stamps(random, image);
     if random.chance(200) {
         if let Some(control) = Control::read(image) {
             tidy(random, image, control.newest());

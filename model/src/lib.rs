@@ -1,6 +1,7 @@
 //! A second, plain implementation of the record store (docs/RULES.md).
 //! Command files are run by it and by the proved program, and the listings are compared.
 
+pub mod at_failing;
 pub mod broken_wire_situations;
 pub mod calls;
 pub mod clauses;
@@ -21,6 +22,9 @@ pub mod protection_situations;
 pub mod queries;
 pub mod rail_situations;
 pub mod random;
+pub mod return_situations;
+pub mod returns;
+pub mod serial_situations;
 pub mod sites;
 pub mod situations;
 pub mod table;

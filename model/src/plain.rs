@@ -2,11 +2,12 @@
 
 use crate::calls::{perform_by, Answer, Call};
 use crate::control::{bit, count, has, Homes, NO_HOMES};
-use crate::converter::converted;
+use crate::converter::{lengthen, CONVERTED_SERIAL};
 use crate::edition::Edition;
 use crate::image::{CARDS, RECORDS};
+use crate::returns::return_card;
 use crate::sites::Placement;
-use crate::table::{pairs_of, place_by_table, read_lines};
+use crate::table::{pairs_of, place_by_table_by, read_lines};
 
 #[derive(Clone, Copy)]
 struct Record {
@@ -22,11 +23,16 @@ pub struct Plain {
     edition: Edition,
     records: [Record; RECORDS],
     homes: Homes,
+    pub stopped: bool,
+    /// How often the list stopped since its start.
+    pub stops: usize,
     pub working: u8,
     pub failed: u8,
     /// Oldest first.
     pub active: Vec<Placement>,
-    /// A run of the rules over the same calls, for settle's condition alone.
+    /// Of the newest placement, so that refusal 20 follows from the calls.
+    pub serial: u32,
+    /// A run of the rules over the same calls, for settle's condition and for which returns are taken.
     rules: Vec<u8>,
 }
 
@@ -55,32 +61,69 @@ impl Plain {
             edition,
             records: [BLANK; RECORDS],
             homes: NO_HOMES,
+            stopped: false,
+            stops: 0,
             working: mask,
             failed: 0,
             active: vec![edition.placement(mask)],
+            serial: edition.has_serials().into(),
             rules,
         }
     }
 
     /// The calls from here on follow these rules; what is there stays.
     pub fn go_on_by(&mut self, edition: Edition) {
-        if edition.length() != self.edition.length() {
-            self.rules = converted(&self.rules);
+        self.rules = lengthen(&self.rules, edition).expect("calls keep the form");
+        if edition.has_serials() && !self.edition.has_serials() {
+            self.serial = CONVERTED_SERIAL;
         }
         self.edition = edition;
     }
 
     /// Steps the list by a placing with the lines in these bytes; its answer follows from the list's own fields.
     pub fn place_by_table(&mut self, bytes: &[u8]) -> Answer {
-        place_by_table(&mut self.rules, bytes);
-        let pairs = read_lines(bytes).ok_or(3).and_then(|lines| pairs_of(&lines, self.working, self.active.len()));
-        match pairs {
-            Err(number) => Answer::Refused(number),
-            Ok(pairs) => {
-                self.active.push(Placement::by_table(pairs));
-                Answer::Ok
-            }
+        place_by_table_by(self.edition, &mut self.rules, bytes);
+        let Some(lines) = read_lines(bytes) else { return Answer::Refused(3) };
+        if self.stopped {
+            return Answer::Refused(4);
         }
+        let pairs = match pairs_of(&lines, self.working) {
+            Err(number) => return Answer::Refused(number),
+            Ok(pairs) => pairs,
+        };
+        if let Some(number) = self.edition.no_room(self.active.len(), self.serial) {
+            return Answer::Refused(number);
+        }
+        self.add(Placement::by_table(pairs));
+        Answer::Ok
+    }
+
+    /// Steps the list by a return of a card whose table has the bytes of its failing. Where the rules take it, the
+    /// card works, and the list runs again if it can.
+    pub fn return_card(&mut self, card: u8) -> Answer {
+        let by_the_rules = return_card(&mut self.rules, card);
+        if by_the_rules == Answer::Ok {
+            self.working |= bit(card as usize);
+            self.failed &= !bit(card as usize);
+            let whole = self.newest().mask & !self.working == 0;
+            self.stopped = !whole || self.must_stop(self.working, self.failed);
+        }
+        by_the_rules
+    }
+
+    /// What a return of a card with a stale table is refused with. It is no step.
+    pub fn refused_return(&self, card: u8) -> Answer {
+        let failed = |card: u8| has(self.failed, card as usize);
+        Answer::Refused(match card {
+            8.. => 3,
+            _ if !self.stopped || !failed(card) => 8,
+            _ => 19,
+        })
+    }
+
+    fn add(&mut self, newest: Placement) {
+        self.active.push(newest);
+        self.serial += u32::from(self.edition.has_serials());
     }
 
     fn newest(&self) -> Placement {
@@ -97,6 +140,7 @@ impl Plain {
             Call::Settle | Call::Fail { .. } | Call::Move { .. } | Call::State | Call::Load { .. } => None,
             _ if !call.in_range(self.edition) => Some(3),
             Call::Start { mask } => lowest(&[(9, count(mask) < 2)]),
+            _ if self.stopped => Some(4),
             Call::Begin { transaction, home } => {
                 lowest(&[(6, is_open(transaction)), (8, !has(self.newest().mask, home as usize))])
             }
@@ -114,7 +158,7 @@ impl Plain {
             Call::Place { mask } => {
                 let again = mask == self.newest().mask && self.edition.refuses_again(self.newest());
                 let unfit = count(mask) < 2 || mask & !self.working != 0 || again;
-                lowest(&[(9, unfit), (10, self.active.len() >= 3)])
+                lowest(&[(9, unfit)]).or(self.edition.no_room(self.active.len(), self.serial))
             }
         }
     }
@@ -160,7 +204,7 @@ impl Plain {
                 self.failed &= !bit(card as usize);
             }
             Call::Withdraw { card } => self.working &= !bit(card as usize),
-            Call::Place { mask } => self.active.push(self.edition.placement(mask)),
+            Call::Place { mask } => self.add(self.edition.placement(mask)),
             _ => unreachable!("{call:?}"),
         }
         Answer::Ok
@@ -188,34 +232,63 @@ impl Plain {
     }
 
     fn fail(&mut self, card: u8) -> Expected {
+        if self.stopped {
+            return self.fail_stopped(card);
+        }
         if card > 7 || !has(self.working, card as usize) {
             return Expected::Free;
         }
-        let gone = bit(card as usize);
-        self.working &= !gone;
-        self.failed |= gone;
+        self.mark_failed(card);
+        self.stopped = self.must_stop(self.working, self.failed);
         for transaction in 1..=15 {
-            if self.homes[transaction as usize] == Some(card) {
+            let home = self.homes[transaction as usize];
+            if home == Some(card) || self.stopped && home.is_some() {
                 self.end(transaction, false);
             }
         }
-        let stops = self.stops(self.working, self.failed);
-        if self.newest().mask & gone != 0 {
-            self.active.push(self.edition.placement(self.newest().mask & !gone));
+        if self.stopped {
+            self.stops += 1;
+            return Expected::Stops;
         }
-        if stops { Expected::Stops } else { Expected::Free }
+        let left = self.newest().mask & !bit(card as usize);
+        if left != self.newest().mask {
+            self.add(self.edition.placement(left));
+        }
+        Expected::Free
+    }
+
+    /// A stopped list only marks the card, by editions that can take it back.
+    fn fail_stopped(&mut self, card: u8) -> Expected {
+        let refused = |number| Expected::Exactly(Answer::Refused(number));
+        match card {
+            8.. => refused(3),
+            _ if !self.edition.has_serials() => refused(4),
+            _ if !has(self.working, card as usize) => refused(8),
+            _ => {
+                self.mark_failed(card);
+                Expected::Stops
+            }
+        }
+    }
+
+    fn mark_failed(&mut self, card: u8) {
+        self.working &= !bit(card as usize);
+        self.failed |= bit(card as usize);
     }
 
     /// With these cards working and these failed, some active placement has two failed cards or fewer than two
     /// working ones.
-    fn stops(&self, working: u8, failed: u8) -> bool {
+    fn must_stop(&self, working: u8, failed: u8) -> bool {
         self.active.iter().any(|Placement { mask, .. }| count(mask & failed) >= 2 || count(mask & working) < 2)
     }
 
     /// What state says by today's rules. Demand 3 leaves it open; the list's cards and placements decide it.
     pub fn state(&self) -> Answer {
+        if self.stopped {
+            return Answer::Refused(4);
+        }
         let mut working = (0..CARDS).map(bit).filter(|card| self.working & card != 0);
-        let unprotected = working.any(|card| self.stops(self.working & !card, self.failed | card));
+        let unprotected = working.any(|card| self.must_stop(self.working & !card, self.failed | card));
         if unprotected { Answer::Unprotected } else { Answer::Protected }
     }
 }

@@ -7,6 +7,7 @@ use crate::edition::Edition;
 use crate::image::*;
 use crate::protection_situations::protection_situations;
 use crate::rail_situations::rail_situations;
+use crate::return_situations::stopped_situations;
 use crate::sites::{holders, members, sites};
 use crate::table_situations::table_situations;
 
@@ -35,10 +36,12 @@ pub const SITUATIONS: &[&str] = &[
     "load above 0",
 ];
 
-/// The names, given the image before the call. Of refusals 2, 3 and 4, only stores of 65,535 have some.
+/// The names, given the image before the call. Of refusals 2, 3 and 4, only stores of 65,535 have some, and of a stopped
+/// store only fails.
 pub fn situations(before: &[u8], call: &Call, answer: &Answer) -> Vec<String> {
     let mut found: Vec<String> =
         broken_wire_situations(before, call, answer).into_iter().map(String::from).collect();
+    found.extend(stopped_situations(before, call, answer));
     let in_range = call.in_range(Edition::Today);
     let Some(control) = Control::read(before).filter(|control| !control.stopped && in_range) else {
         return found;

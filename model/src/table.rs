@@ -1,8 +1,9 @@
 //! Placing by a plant's table, change request A.6.
 
-use crate::calls::Answer;
+use crate::calls::{add_placement, Answer};
 use crate::control::{has, Control};
-use crate::image::{BLOCKS, CARDS, LENGTH};
+use crate::edition::Edition;
+use crate::image::{BLOCKS, CARDS};
 use crate::sites::{Pairs, Placement};
 
 /// First block, last block, first card, second card.
@@ -42,8 +43,8 @@ pub fn write_lines(lines: &[Line]) -> Vec<u8> {
     lines.iter().flat_map(|line| [line.first, line.last, line.cards[0], line.cards[1]]).collect()
 }
 
-/// The pair of each block, where these cards work and so many placements are active; else the refusal.
-pub fn pairs_of(lines: &[Line], working: u8, active: usize) -> Result<Pairs, u8> {
+/// The pair of each block, where these cards work; else the refusal.
+pub fn pairs_of(lines: &[Line], working: u8) -> Result<Pairs, u8> {
     let unfit = |line: &Line| line.cards[0] == line.cards[1] || line.cards.iter().any(|c| !has(working, *c as usize));
     if lines.iter().any(unfit) {
         return Err(9);
@@ -56,28 +57,32 @@ pub fn pairs_of(lines: &[Line], working: u8, active: usize) -> Result<Pairs, u8>
     if covering.iter().any(|lines| lines.len() > 1) {
         return Err(18);
     }
-    if active >= 3 {
-        return Err(10);
-    }
     Ok(std::array::from_fn(|block| covering[block][0].cards))
 }
 
-/// The cards that the lines name become the newest placement.
+/// The cards that the lines name become the newest placement, by today's rules.
 pub fn place_by_table(image: &mut [u8], bytes: &[u8]) -> Answer {
-    if image.len() != LENGTH {
+    place_by_table_by(Edition::Today, image, bytes)
+}
+
+/// By the rules of an edition that has tables.
+pub fn place_by_table_by(edition: Edition, image: &mut [u8], bytes: &[u8]) -> Answer {
+    if image.len() != edition.length() {
         return Answer::Refused(1);
     }
-    let Some(mut control) = Control::read(image) else { return Answer::Refused(2) };
+    let Some(mut control) = Control::read_by(edition, image) else { return Answer::Refused(2) };
     let Some(lines) = read_lines(bytes) else { return Answer::Refused(3) };
     if control.stopped {
         return Answer::Refused(4);
     }
-    match pairs_of(&lines, control.working, control.placements.len()) {
-        Err(number) => Answer::Refused(number),
-        Ok(pairs) => {
-            control.placements.push(Placement::by_table(pairs));
-            control.write(image);
-            Answer::Ok
-        }
+    let pairs = match pairs_of(&lines, control.working) {
+        Err(number) => return Answer::Refused(number),
+        Ok(pairs) => pairs,
+    };
+    if let Some(number) = edition.no_room(control.placements.len(), control.serial) {
+        return Answer::Refused(number);
     }
+    add_placement(edition, image, &mut control, Placement::by_table(pairs));
+    control.write(image);
+    Answer::Ok
 }

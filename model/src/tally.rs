@@ -7,6 +7,7 @@ use crate::image::LENGTH;
 use crate::listing::answer;
 use crate::protection_situations::PROTECTION;
 use crate::rail_situations::{ANY_BY_RAILS, ON_RAILS, OVER_OLD};
+use crate::return_situations::WHILE_STOPPED;
 use crate::situations::{situations, SITUATIONS};
 use crate::table_situations::WITH_TABLES;
 use std::collections::{BTreeMap, BTreeSet};
@@ -29,7 +30,7 @@ pub const OPERATIONS: [(&str, &[&str], &[u8]); 16] = [
     ("fit", &["ok"], &[2, 3, 4, 8, 15]),
     ("withdraw", &["ok"], &[2, 3, 4, 8, 14, 15]),
     ("place", &["ok"], &[2, 4, 9, 10, 15]),
-    ("fail", &["placed", "unplaced", "stopped"], &[2, 3, 4, 8, 15]),
+    ("fail", &["placed", "unplaced", "stopped"], &[2, 3, 8, 15]),
     ("move", &["copies"], &[2, 3, 4, 8, 11, 12, 15]),
     ("settle", &["retired"], &[2, 4, 13, 15]),
     ("state", &["protected", "unprotected"], &[2, 4, 15]),
@@ -98,6 +99,7 @@ impl Tally {
     pub fn missing(&self) -> Vec<String> {
         let pairs = possible().into_iter().filter(|pair| !self.pairs.contains_key(pair));
         let situations = SITUATIONS.iter().chain(ON_RAILS).chain(PROTECTION).chain(NO_BROKEN_WIRE);
+        let situations = situations.chain(WHILE_STOPPED);
         let situations = situations.filter(|name| self.count(name) == 0).map(|name| name.to_string());
         pairs.chain(situations).collect()
     }

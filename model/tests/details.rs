@@ -2,6 +2,7 @@
 
 use model::calls::{perform, started, Answer, Call};
 use model::control::Control;
+use model::edition::Edition;
 use model::image::*;
 use model::sites::{holders, sites, trail, Placement};
 
@@ -23,7 +24,7 @@ fn site_order_and_trail() {
     assert_eq!(sites(old(0xFF), 63), [7, 0]);
     assert_eq!(sites(old(0x29), 4), [4, 7]);
     let placements = [0xF0, 0x90, 0xE0].map(old).to_vec();
-    let control = Control { failed: 0x10, placements, ..Control::fresh(old(0xE0)) };
+    let control = Control { failed: 0x10, placements, ..Control::fresh(Edition::Today, old(0xE0)) };
     assert_eq!(trail(&control, 0), [0, 1, 0, 0, 1]);
     assert_eq!(trail(&control, 2), [2, 0, 2, 0]);
 }
@@ -31,7 +32,7 @@ fn site_order_and_trail() {
 #[test]
 fn trail_of_both_kinds() {
     let placements = vec![old(0xFC), by_rails(0xFC), by_rails(0xCC)];
-    let control = Control { failed: 0x20, placements, ..Control::fresh(by_rails(0xFC)) };
+    let control = Control { failed: 0x20, placements, ..Control::fresh(Edition::Today, by_rails(0xFC)) };
     // Cards 0 to 5, by the old choice and by rails; then 0, 1, 4 and 5.
     assert_eq!(trail(&control, 0), [0, 1, 0, 4, 0, 4]);
     assert_eq!(trail(&control, 1), [1, 1, 4, 1, 4]);
@@ -139,7 +140,11 @@ fn stop_rolls_back_on_working_cards_only() {
     assert_eq!(read_slot(&image, 0, 0, 0).lock, 0);
     assert_eq!(read_slot(&image, 0, 1, 0).lock, 0);
     assert_eq!(read_slot(&image, 0, 0, 3).lock, 7);
-    assert_eq!(perform(&mut image, &Call::Fail { card: 0 }), Answer::Refused(4));
+    // A further fail marks the card in the control part, and nothing else changes.
+    let mut wanted = image.clone();
+    wanted[5..7].copy_from_slice(&[0, 0xC0]);
+    assert_eq!(perform(&mut image, &Call::Fail { card: 0 }), Answer::Stopped);
+    assert!(image == wanted);
 }
 
 #[test]

@@ -1,7 +1,8 @@
 //! Each clause of the control form, broken alone, gives 2 for every call but start.
 
 use model::calls::{perform, Answer, Call};
-use model::image::{KEPT, LENGTH, OLDER_LENGTH};
+use model::control::{stamp, SERIAL};
+use model::image::{KEPT, LENGTH, OLDER_LENGTH, OLDEST_LENGTH};
 use model::sites::{pack_pairs, Pairs};
 
 const CALLS: [Call; 14] = [
@@ -21,12 +22,13 @@ const CALLS: [Call; 14] = [
     Call::Load { card: 0 },
 ];
 
-/// A control part without open transactions: its first five bytes, working, failed.
+/// A control part without open transactions: its first five bytes, working, failed. Its serial fits every count.
 fn part(head: [u8; 5], working: u8, failed: u8) -> Vec<u8> {
     let mut image = vec![0; LENGTH];
     image[..5].copy_from_slice(&head);
     image[5] = working;
     image[6] = failed;
+    image[25] = 7;
     image
 }
 
@@ -72,7 +74,7 @@ fn zero_fields() {
     kept(good.clone());
     let mut bits: Vec<usize> = (4..8).collect();
     bits.extend(7 * 8 + 1..8 * 8);
-    bits.extend(23 * 8..32 * 8);
+    bits.extend(26 * 8..32 * 8);
     for transaction in 1..=15 {
         // Home and zero bits of a closed transaction.
         bits.extend((7 + transaction) * 8 + 1..(8 + transaction) * 8);
@@ -182,6 +184,25 @@ fn nothing_is_kept_without_a_table() {
     }
 }
 
+/// Not below the count, and not above the bound with the newest placement's members added, stopped or not.
+#[test]
+fn serials() {
+    let four = part([0x40, 0xF0, 0xE0, 0xF0, 0xE0], 0xE0, 0x10);
+    let one = part([0x10, 0xFF, 0, 0, 0], 0xFF, 0);
+    let stopped = part([0xB0, 0xF0, 0xF0, 0xC0, 0], 0xC0, 0x30);
+    for (image, least, members) in [(four, 4, 3), (one, 1, 8), (stopped, 3, 2)] {
+        let most = 16_777_008 - members;
+        for (serial, good) in [
+            (0, false), (least - 1, false), (least, true), (least + 1, true), (16_776_999, true), (16_777_000, true),
+            (most - 1, true), (most, true), (most + 1, false), (16_777_008, false), (0xFF_FFFF, false),
+        ] {
+            let mut image = image.clone();
+            image[SERIAL].copy_from_slice(&stamp(serial, 0)[..3]);
+            if good { kept(image) } else { broken(image) }
+        }
+    }
+}
+
 #[test]
 fn working_and_failed_share() {
     kept(part([0x10, 0xE0, 0, 0, 0], 0xE0, 0x01));
@@ -258,7 +279,7 @@ fn stopped_and_open() {
 
 #[test]
 fn length_comes_first() {
-    for length in [0, 1, 31, 32, OLDER_LENGTH, LENGTH - 1, LENGTH + 1] {
+    for length in [0, 1, 31, 32, OLDEST_LENGTH, OLDER_LENGTH, LENGTH - 1, LENGTH + 1] {
         let mut image = vec![0; length];
         for call in CALLS {
             assert_eq!(perform(&mut image, &call), Answer::Refused(1));

@@ -10,15 +10,32 @@ use model::sites::Placement;
 #[test]
 fn lengths() {
     assert_eq!(BLOCK_BYTES, 41);
-    assert_eq!(TABLE_BYTES, 2_624);
-    assert_eq!(table_at(0).start, 32);
-    assert_eq!(table_at(7).end, OLDER_LENGTH);
+    assert_eq!((BLOCKS_BYTES, TABLE_BYTES), (2_624, 2_628));
+    assert_eq!(table_at(0), 32..2_660);
+    assert_eq!(table_at(7).end, 21_056);
     assert_eq!(block_at(0, 0), 32..73);
-    assert_eq!(block_at(7, 63).end, OLDER_LENGTH);
+    assert_eq!(block_at(7, 63).end, 21_052);
+    assert_eq!(stamp_at(0), 2_656..2_660);
+    assert_eq!(stamp_at(7), 21_052..21_056);
     assert_eq!(slot_at(0, 0, 0), 33..38);
-    assert_eq!(slot_at(7, 63, 7).end, OLDER_LENGTH);
-    assert_eq!((LENGTH, OLDER_LENGTH, PAIRS_BYTES), (21_216, 21_024, 48));
+    assert_eq!(slot_at(7, 63, 7).end, 21_052);
+    assert_eq!((LENGTH, OLDER_LENGTH, OLDEST_LENGTH, PAIRS_BYTES), (21_248, 21_216, 21_024, 48));
+    assert_eq!((TABLES, KEPT), (32..21_056, 21_056..21_248));
     assert_eq!(KEPT.len(), MOST_ACTIVE * PAIRS_BYTES);
+}
+
+/// Before stamps a table ended with its blocks, and before tables of plants nothing came behind.
+#[test]
+fn earlier_lengths() {
+    for (length, kept) in [(OLDER_LENGTH, 21_024..21_216), (OLDEST_LENGTH, 21_024..21_024)] {
+        let layout = Layout::of(&vec![0; length]);
+        assert!(!layout.has_stamps());
+        assert_eq!(layout.table_at(7), 18_400..21_024);
+        assert_eq!(layout.slot_at(7, 63, 7).end, 21_024);
+        assert_eq!((layout.tables(), layout.kept()), (32..21_024, kept));
+    }
+    assert_eq!(Layout::of(&[0; LENGTH]), Layout::TODAY);
+    assert_eq!((Layout::TODAY.tables(), Layout::TODAY.kept()), (TABLES, KEPT));
 }
 
 #[test]
@@ -45,7 +62,7 @@ fn control_part() {
     let table = Placement::by_table(pairs);
     assert_eq!(table.mask, 0xE0);
     let placements = vec![Placement::chained(0xF0), table, Placement::by_rails(0xE0)];
-    let control = Control { stopped: false, placements, working: 0xE1, failed: 0x10, homes };
+    let control = Control { stopped: false, placements, working: 0xE1, failed: 0x10, homes, serial: 0x01_0203 };
     let mut bytes = vec![0; LENGTH];
     bytes[..CONTROL].fill(0xFF);
     bytes[KEPT].fill(0xFF);
@@ -54,6 +71,7 @@ fn control_part() {
     wanted[..8].copy_from_slice(&[0x30, 0xF0, 0xE0, 0xE0, 0, 0xE1, 0x10, 0x24]);
     wanted[8] = 0xA0;
     wanted[22] = 0x80;
+    wanted[23..26].copy_from_slice(&[1, 2, 3]);
     // Blocks 0, 2 and 3 are 000 001, block 1 is 010 000; the second placement has the second 48 bytes.
     for bytes in wanted[KEPT][48..96].chunks_mut(3) {
         bytes.copy_from_slice(&[0x04, 0x10, 0x41]);

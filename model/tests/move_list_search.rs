@@ -1,5 +1,6 @@
 //! Change request A.3: the move list against a search through the model's own moves and settles.
 
+use model::at_failing::AtFailing;
 use model::commands::read_command;
 use model::control::{form_of, put_form, Control};
 use model::image::*;
@@ -9,6 +10,7 @@ use model::move_list::{fewest_moves, move_list, running, ListAnswer, Move, MOST_
 use model::move_list_images::reorganising_image;
 use model::move_list_situations::{move_list_situations, MOVE_LISTS, MOVE_LISTS_REACHED};
 use model::random::Random;
+use model::returns::return_card;
 use model::table::place_by_table;
 use model::{perform, Answer, Call};
 use std::collections::{BTreeSet, HashSet, VecDeque};
@@ -150,7 +152,7 @@ fn random_reorganisations() {
 }
 
 /// The step on the image, and in the plain list.
-fn take(list: &mut List, image: &mut [u8], step: &Step) {
+fn take(list: &mut List, image: &mut [u8], at_failing: &mut AtFailing, step: &Step) {
     match step {
         Step::Command(bytes) => {
             if let Some(call) = read_command(bytes) {
@@ -162,17 +164,24 @@ fn take(list: &mut List, image: &mut [u8], step: &Step) {
             place_by_table(image, lines);
             list.expect_table(lines);
         }
+        Step::Return { card, kept } => {
+            let kept = at_failing.prepare_return(image, *card, *kept);
+            return_card(image, *card);
+            list.expect_return(*card, kept);
+        }
     }
+    at_failing.note(image);
 }
 
 fn check_reached(list: &mut List, random: &mut Random, seen: &mut Seen) {
     let mut image = list.image().to_vec();
+    let mut at_failing = AtFailing::new(&image);
     for at in 0..list.calls {
         let step = list.next_step();
         if Control::read(&image).is_some() {
             disturb(random, &mut image);
         }
-        take(list, &mut image, &step);
+        take(list, &mut image, &mut at_failing, &step);
         let Some(control) = running(&image).ok().filter(|_| list.plain.is_some() && at % 40 == 0) else { continue };
         let moves = fewest_moves(&image, &control);
         seen.add(&image, &control, &moves);

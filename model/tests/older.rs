@@ -9,6 +9,7 @@ use model::converter::converted;
 use model::image::{held_blocks, place_of, read_slot, Slot, PLACES, RECORDS};
 use model::listing::{answer, listing_from};
 use model::sites::{holders, members};
+use model::table::place_by_table_by;
 use model::{Answer, Call};
 use std::collections::BTreeSet;
 use std::path::Path;
@@ -32,6 +33,9 @@ fn earlier_commands_leave_the_images() {
         let mut image = vec![0; edition.length()];
         for call in calls(&stored(case, "earlier")) {
             perform_by(edition, &mut image, &call);
+        }
+        if edition.has_tables() {
+            assert_eq!(place_by_table_by(edition, &mut image, &stored(case, "lines")), Answer::Ok);
         }
         assert!(image == stored(case, "image"), "{case}");
     }
@@ -66,6 +70,7 @@ fn images_have_broken_wires() {
         let image = stored(case, "image");
         let control = Control::read_by(edition, &image).expect("the form is whole");
         assert!(!control.stopped && control.placements.len() >= 2, "{case}");
+        assert_eq!(control.newest().is_by_table(), edition.has_tables(), "{case}");
         let [committed, pending] = blocks_with_it(&image, &control);
         let many = committed.len() >= 5 && pending.len() >= 5;
         assert_eq!(many, edition.stores(BROKEN_WIRE), "{case}: {committed:?} {pending:?}");

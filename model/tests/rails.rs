@@ -4,7 +4,7 @@ use model::calls::{perform, perform_by, started, Answer, Call};
 use model::control::{has, Control};
 use model::edition::Edition;
 use model::converter::converted;
-use model::image::{block_at, held, BLOCKS, CARDS, LENGTH, OLDER_LENGTH};
+use model::image::{block_at, held, BLOCKS, CARDS, LENGTH, OLDEST_LENGTH};
 use model::sites::{members, rail, sites, Placement};
 
 fn old(mask: u8) -> Placement {
@@ -17,7 +17,7 @@ fn by_rails(mask: u8) -> Placement {
 
 /// An image after an accepted start by the base's call, and after places.
 fn older(mask: u8, placed: &[u8]) -> Vec<u8> {
-    let mut image = vec![0; OLDER_LENGTH];
+    let mut image = vec![0; OLDEST_LENGTH];
     assert_eq!(perform_by(Edition::Base, &mut image, &Call::Start { mask }), Answer::Ok);
     for mask in placed {
         assert_eq!(perform_by(Edition::Base, &mut image, &Call::Place { mask: *mask }), Answer::Ok);
@@ -128,7 +128,7 @@ fn base_writes_no_marks() {
     assert_eq!(perform_by(Edition::Base, &mut image, &Call::Fail { card: 7 }), Answer::Placed(0xFE));
     assert_eq!(image[..8], [0x40, 0xFF, 0xFE, 0xFF, 0xFE, 0xFE, 0x01, 0]);
     // It knows no marks either, and the same image is whole today.
-    let mut marked = vec![0; OLDER_LENGTH];
+    let mut marked = vec![0; OLDEST_LENGTH];
     assert_eq!(perform_by(Edition::Rails, &mut marked, &Call::Start { mask: 0xFF }), Answer::Ok);
     assert_eq!(perform_by(Edition::Base, &mut marked, &Call::State), Answer::Refused(2));
     assert_eq!(perform(&mut converted(&image), &Call::State), Answer::Unprotected);
@@ -180,6 +180,7 @@ fn settle_moves_the_mark_of_the_newest() {
             image[5] = 0xFE | if number == 3 { 1 } else { 0 };
             image[6] = !image[5];
             image[7] = marks << (8 - number);
+            image[25] = number;
             assert_eq!(perform(&mut image, &Call::Settle), Answer::Retired(number - 1));
             assert_eq!(image[7], if marks & 1 == 1 { 0x80 } else { 0 }, "{number} {marks:02X}");
         }

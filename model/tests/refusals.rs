@@ -47,13 +47,13 @@ fn unsettled(image: &[u8], control: &Control) -> bool {
     })
 }
 
-/// Lines 4 to 14 of the table, each on its own, for numbers in their ranges.
+/// Lines 4 to 20 of the table, each on its own, for numbers in their ranges.
 fn applies(number: u8, image: &[u8], control: &Control, call: &Call) -> bool {
     let open = |t: u8| control.homes[t as usize].is_some();
     let in_some = |card: u8| control.placements.iter().any(|placement| has(placement.mask, card as usize));
     let works = |card: u8| has(control.working, card as usize);
     match (number, *call) {
-        (4, _) => control.stopped,
+        (4, _) => control.stopped && !matches!(call, Call::Fail { .. }),
         (
             5,
             Call::Get { transaction, .. }
@@ -84,6 +84,7 @@ fn applies(number: u8, image: &[u8], control: &Control, call: &Call) -> bool {
         }
         (13, Call::Settle) => unsettled(image, control),
         (14, Call::Withdraw { card }) => control.homes.contains(&Some(card)),
+        (20, Call::Place { .. }) => control.serial > 16_776_999,
         _ => false,
     }
 }
@@ -91,7 +92,7 @@ fn applies(number: u8, image: &[u8], control: &Control, call: &Call) -> bool {
 #[test]
 fn lowest_number_and_no_change() {
     let mut random = Random::new(77);
-    let mut refused = [0; 16];
+    let mut refused = [0; 21];
     let mut accepted = 0;
     for _ in 0..3_000 {
         let mut image = random_image(&mut random);
@@ -103,7 +104,7 @@ fn lowest_number_and_no_change() {
                 (Call::Start { mask }, _) => (count(mask) < 2).then_some(9),
                 (_, None) => Some(2),
                 (_, Some(_)) if outside_range(&call) => Some(3),
-                (_, Some(control)) => (4..15).find(|n| applies(*n, &before, &control, &call)),
+                (_, Some(control)) => (4..21).find(|n| applies(*n, &before, &control, &call)),
             };
             match answer {
                 Answer::Refused(number) => {
@@ -123,7 +124,7 @@ fn lowest_number_and_no_change() {
         }
     }
     assert!(accepted > 10_000, "{accepted}");
-    for number in 2..15 {
+    for number in (2..15).chain([20]) {
         assert!(refused[number] > 20, "{number}: {refused:?}");
     }
 }

@@ -1,7 +1,7 @@
 //! before: a Markdown table of each call's time and instructions by the archive of an earlier commit ("before") and by
 //! the present archive ("after"). The model takes its turn too, so that "after" is timed as bench times Rattle. An
-//! archive from before tables has images of its own length, and in a state with a table those of the same store
-//! without it.
+//! earlier archive has images of its own length, and one from before tables, in a state with a table, those of the same
+//! store without it.
 //! before count CASE SIDE COPIES: the calls of one case on so many copies, for callgrind.
 
 use bench::answers::compared;

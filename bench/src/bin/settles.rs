@@ -5,7 +5,8 @@
 use bench::cases::{filled, place_and_move, reorganising};
 use bench::sides::{named, Asked, Lent, Side, BEFORE, MODEL, RATTLE};
 use bench::{counting, program, timing};
-use model::image::BLOCKS;
+use model::converter::shortened;
+use model::image::{BLOCKS, LENGTH};
 use model::Call;
 use nolpigat::Answer;
 use std::hint::black_box;
@@ -31,8 +32,10 @@ struct State {
 impl State {
     /// In the length that the side has.
     fn image_of(&self, side: Side) -> Vec<u8> {
-        let length = side.older_length.map_or(self.image.len(), |length| length());
-        self.image[..length].to_vec()
+        match side.length() {
+            LENGTH => self.image.clone(),
+            length => shortened(&self.image, length),
+        }
     }
 }
 

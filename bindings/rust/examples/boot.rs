@@ -7,7 +7,7 @@ use nolpigat::*;
 enum Boot {
     /// Go on.
     Runs,
-    /// Keep the image and call people: only they may start it anew.
+    /// Keep the image and return the cards (supply); only people may start it anew.
     Stopped,
     /// The same: this is no image of a running or stopped store.
     Unusable,

@@ -1,4 +1,4 @@
-//! Convert: at boot a panel of version 2 finds an image that an earlier version left. docs/RECIPES.md says why in this
+//! Convert: at boot a panel of version 3 finds an image that an earlier version left. docs/RECIPES.md says why in this
 //! order.
 
 use nolpigat::*;
@@ -47,6 +47,26 @@ fn take_over(bytes: &[u8], image: &mut [u8; IMAGE_SIZE]) -> Found {
 
 // ---- the cases, one after the other ----
 
+const VERSION_1: usize = VERSION_1_IMAGE_SIZE;
+const VERSION_2: usize = VERSION_2_IMAGE_SIZE;
+
+/// The store as version 2 had it: no serial, and no stamps of four bytes behind the cards' tables. Its first bytes are
+/// those of version 1, as long as no table of a plant is placed. The byte behind it stays zero.
+fn as_earlier(store: &[u8]) -> [u8; VERSION_2 + 1] {
+    const CONTROL: usize = 32;
+    const TABLE: usize = 2624;
+    let mut found = [0; VERSION_2 + 1];
+    found[..CONTROL].copy_from_slice(&store[..CONTROL]);
+    found[23..26].fill(0);
+    for card in 0..8 {
+        let table = &store[CONTROL + card * (TABLE + 4)..][..TABLE];
+        found[CONTROL + card * TABLE..][..TABLE].copy_from_slice(table);
+    }
+    let kept = &store[CONTROL + 8 * (TABLE + 4)..];
+    found[CONTROL + 8 * TABLE..VERSION_2].copy_from_slice(kept);
+    found
+}
+
 fn ends(name: &str, bytes: &[u8], image: &mut [u8; IMAGE_SIZE], expected: Found) {
     print!("{name}: ");
     assert_eq!(take_over(bytes, image), expected);
@@ -60,10 +80,10 @@ fn is_state(image: &[u8], expected: Result<Protection, Refusal>) {
 }
 
 /// Cards 0, 1 and 2, and transaction 1 with a record.
-fn fill(older: &mut [u8]) -> Result<(), Refusal> {
-    start(older, Mask(0xE0))?;
-    begin(older, Tran(1), Card(0))?;
-    store(older, Tran(1), Rec(9), 1234)
+fn fill(store: &mut [u8]) -> Result<(), Refusal> {
+    start(store, Mask(0xE0))?;
+    begin(store, Tran(1), Card(0))?;
+    nolpigat::store(store, Tran(1), Rec(9), 1234)
 }
 
 /// The transaction is still open, and goes on.
@@ -73,30 +93,45 @@ fn goes_on(image: &mut [u8]) -> Result<(), Refusal> {
     commit(image, Tran(1))
 }
 
+/// A card that failed before the conversion is stale, so that only a start helps.
+fn stays_stopped(image: &mut [u8]) {
+    let Err(refusal) = return_card(image, Card(2)) else { panic!("a card of before was taken") };
+    println!("  return of card 2: {refusal}");
+    assert_eq!(refusal, Refusal::Stale);
+}
+
 fn main() -> Result<(), Refusal> {
-    // Without a table, the first bytes are those that version 1.6 had. The byte behind them stays zero.
-    let (mut found, mut lent) = ([0; IMAGE_SIZE + 1], [0; IMAGE_SIZE]);
-    let (bytes, image) = (&mut found, &mut lent);
-    ends("never written", &bytes[..OLDER_IMAGE_SIZE], image, Found::New);
-    fill(&mut bytes[..IMAGE_SIZE])?;
-    ends("running", &bytes[..OLDER_IMAGE_SIZE], image, Found::Ready);
+    let (mut store, mut lent) = ([0; IMAGE_SIZE], [0; IMAGE_SIZE]);
+    let image = &mut lent;
+    ends("never written", &[0; VERSION_1], image, Found::New);
+    fill(&mut store)?;
+    let found = as_earlier(&store);
+    for (name, length) in [("running, of version 1", VERSION_1), ("running, of version 2", VERSION_2)] {
+        ends(name, &found[..length], image, Found::Ready);
+        is_state(image, Ok(Protection::Protected));
+        goes_on(image)?;
+    }
+    let again = *image;
+    ends("again, of this version", &again, image, Found::Ready);
     is_state(image, Ok(Protection::Protected));
-    goes_on(image)?;
-    ends("again, of this version", &bytes[..IMAGE_SIZE], image, Found::Ready);
-    is_state(image, Ok(Protection::Protected));
-    ends("a byte too few", &bytes[..OLDER_IMAGE_SIZE - 1], image, Found::Unusable);
-    ends("a byte too many", &bytes[..], image, Found::Unusable);
-    // A cut image of this version is no older one if it has a table.
+    ends("a byte too few", &found[..VERSION_2 - 1], image, Found::Unusable);
+    ends("a byte too many", &found, image, Found::Unusable);
+    // A cut image of version 2 is none of version 1 if it has a table.
     let line = Line { first: Block(0), last: Block(63), cards: [Card(1), Card(2)] };
-    place_by_table(&mut bytes[..IMAGE_SIZE], &[line])?;
-    ends("cut short", &bytes[..OLDER_IMAGE_SIZE], image, Found::Unusable);
+    place_by_table(&mut store, &[line])?;
+    let found = as_earlier(&store);
+    ends("with a table", &found[..VERSION_2], image, Found::Ready);
+    is_state(image, Ok(Protection::Unprotected));
+    ends("cut short", &found[..VERSION_1], image, Found::Unusable);
     // Of three cards two fail.
-    fill(&mut bytes[..IMAGE_SIZE])?;
-    assert_eq!(fail(&mut bytes[..IMAGE_SIZE], Card(1))?, Failed::Placed(Mask(0xA0)));
-    assert_eq!(fail(&mut bytes[..IMAGE_SIZE], Card(2))?, Failed::Stopped);
-    ends("stopped", &bytes[..OLDER_IMAGE_SIZE], image, Found::Ready);
+    fill(&mut store)?;
+    assert_eq!(fail(&mut store, Card(1))?, Failed::Placed(Mask(0xA0)));
+    assert_eq!(fail(&mut store, Card(2))?, Failed::Stopped);
+    let mut found = as_earlier(&store);
+    ends("stopped", &found[..VERSION_1], image, Found::Ready);
     is_state(image, Err(Refusal::Stopped));
-    bytes[0] = 0;
-    ends("broken", &bytes[..OLDER_IMAGE_SIZE], image, Found::Unusable);
+    stays_stopped(image);
+    found[0] = 0;
+    ends("broken", &found[..VERSION_1], image, Found::Unusable);
     Ok(())
 }

@@ -1,7 +1,7 @@
 //! listing [IMAGE]: runs the commands on standard input and prints their listing. They go on from the image in
-//! the file, or begin with zeros. An image that versions before 2.0 left is converted first.
+//! the file, or begin with zeros. An image that an earlier version left is converted first.
 
-use nolpigat::{command, convert, COMMAND_SIZE, IMAGE_SIZE, OLDER_IMAGE_SIZE};
+use nolpigat::{command, convert, COMMAND_SIZE, IMAGE_SIZE, VERSION_1_IMAGE_SIZE, VERSION_2_IMAGE_SIZE};
 use std::io::{self, BufWriter, Read, Write};
 use std::process::exit;
 
@@ -25,7 +25,8 @@ fn of_this_version(bytes: Vec<u8>) -> Option<Vec<u8>> {
 fn main() -> io::Result<()> {
     let words: Vec<String> = std::env::args().skip(1).collect();
     let Some(mut image) = image(&words)? else {
-        eprintln!("usage: listing [IMAGE]; an image has {IMAGE_SIZE} bytes, an older one {OLDER_IMAGE_SIZE}");
+        let older = format!("{VERSION_2_IMAGE_SIZE} or {VERSION_1_IMAGE_SIZE}");
+        eprintln!("usage: listing [IMAGE]; an image has {IMAGE_SIZE} bytes, an older one {older}");
         exit(2);
     };
     let mut commands = Vec::new();

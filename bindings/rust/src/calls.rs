@@ -107,7 +107,8 @@ pub fn withdraw(image: &mut [u8], card: Card) -> Result<(), Refusal> {
 /// placement is by a table or older than the choice by rails.
 ///
 /// Refused: [`Placement`](Refusal::Placement) if the mask has under two members or one that does not work, or is the
-/// newest again and that one is by rails; [`Active`](Refusal::Active) if three or more placements are active.
+/// newest again and that one is by rails; [`Active`](Refusal::Active) if three or more placements are active;
+/// [`Serials`](Refusal::Serials) after some 16,777,000 placements since the start.
 pub fn place(image: &mut [u8], mask: Mask) -> Result<(), Refusal> {
     done(ask!(nolpigat_place(image.as_mut_ptr(), image.len(), mask.0)))
 }
@@ -120,16 +121,17 @@ pub enum Failed {
     Placed(Mask),
     /// The store goes on; the card was not in the newest placement, and none was added.
     Unplaced,
-    /// The store has stopped.
+    /// The store has stopped, or had stopped before.
     Stopped,
 }
 
-/// The card no longer works and is marked failed; its table is not read again before a [`fit`]. If some active
-/// placement now has two failed or fewer than two working members, every open transaction is rolled back and the
-/// store stops. Otherwise transactions begun there are rolled back, and if the card was in the newest placement, one
-/// without it is added, with sites on two supply rails, also after a table.
+/// The card no longer works and is marked failed; its table is not read again before a [`fit`] or a
+/// [`return_card`](crate::return_card). If some active placement now has two failed or fewer than two working members,
+/// every open transaction is rolled back and the store stops. Otherwise transactions begun there are rolled back, and
+/// if the card was in the newest placement, one without it is added, with sites on two supply rails, also after a
+/// table. While the store is stopped, the card is only marked.
 ///
-/// Refused: [`Card`](Refusal::Card) if the card does not work.
+/// Refused: [`Card`](Refusal::Card) if the card does not work. It is never refused with [`Stopped`](Refusal::Stopped).
 pub fn fail(image: &mut [u8], card: Card) -> Result<Failed, Refusal> {
     let code = ask!(nolpigat_fail(image.as_mut_ptr(), image.len(), card.0));
     taken(code, |answer| match answer {

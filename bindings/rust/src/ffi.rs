@@ -18,8 +18,10 @@ extern "C" {
     pub fn nolpigat_load(image: *const u8, length: usize, card: u8) -> u32;
     pub fn nolpigat_command(image: *mut u8, length: usize, bytes: *const u8, bytes_length: usize) -> u32;
     pub fn nolpigat_place_by_table(image: *mut u8, length: usize, lines: *const u8, lines_length: usize) -> u32;
+    pub fn nolpigat_return_card(image: *mut u8, length: usize, card: u8) -> u32;
     pub fn nolpigat_move_list(image: *const u8, image_length: usize, list: *mut u8, list_length: usize) -> u32;
-    pub fn nolpigat_convert(older: *const u8, older_length: usize, image: *mut u8, length: usize) -> u32;
+    pub fn nolpigat_convert_21024(older: *const u8, older_length: usize, image: *mut u8, length: usize) -> u32;
+    pub fn nolpigat_convert_21216(older: *const u8, older_length: usize, image: *mut u8, length: usize) -> u32;
     pub fn nolpigat_stopped(image: *const u8, length: usize) -> u32;
     pub fn nolpigat_placement_count(image: *const u8, length: usize) -> u32;
     pub fn nolpigat_placement(image: *const u8, length: usize, index: u8) -> u32;

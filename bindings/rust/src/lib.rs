@@ -26,13 +26,17 @@
 //! has cards on both. The placements in an image that was written before this rule keep their sites, and those of
 //! [`place_by_table`] have the cards of a plant's table; a [`place`] of the same mask puts either on two rails.
 //!
-//! An image that versions before 2.0 left is shorter; [`convert`] makes one of this length from it.
+//! Where several cards fail at once, as with their supply, the store stops and keeps what was committed; [`return_card`]
+//! takes the cards back, and the store runs again as soon as it can.
+//!
+//! An image that versions before 3.0 left is shorter; [`convert`] makes one of this length from it.
 //!
 //! Cards are 0 to 7, blocks 0 to 63, records 0 to 511, transactions 1 to 15, values to store 0 to 65,534; record r lies
 //! in block r / 8. A mask is a set of cards in a byte, card 0 its highest bit. No call panics: what cannot be done is
 //! refused with a [`Refusal`]. [`Length`](Refusal::Length), [`ControlForm`](Refusal::ControlForm) and
-//! [`Stopped`](Refusal::Stopped) come from every call but [`start`], and [`Range`](Refusal::Range) from every call
-//! with a number other than a mask; each function names its others. The queries say which they have.
+//! [`Stopped`](Refusal::Stopped) come from every call but [`start`], the last not from [`fail`] and [`return_card`], and
+//! [`Range`](Refusal::Range) from every call with a number other than a mask; each function names its others. The
+//! queries say which they have.
 //!
 //! The package needs neither std nor an allocator.
 
@@ -48,6 +52,7 @@ mod namings;
 mod older;
 mod queries;
 mod refusal;
+mod returns;
 mod tables;
 mod transaction;
 
@@ -58,19 +63,23 @@ pub use calls::{
 };
 pub use commands::{Command, Operation};
 pub use namings::{Block, Card, Mask, Rec, Tran};
-pub use older::convert;
+pub use older::{convert, convert_21024, convert_21216};
 pub use queries::{
     failed, free_transaction, holders, home, placement, placement_count, source, stopped, working, MOST_PLACEMENTS,
 };
 pub use refusal::Refusal;
+pub use returns::return_card;
 pub use tables::{place_by_table, Line};
 pub use transaction::Transaction;
 
 /// The length of an image in bytes.
-pub const IMAGE_SIZE: usize = 21_216;
+pub const IMAGE_SIZE: usize = 21_248;
 
-/// The length of an image that versions before 2.0 left, in bytes.
-pub const OLDER_IMAGE_SIZE: usize = 21_024;
+/// The length of an image that versions 2.x left, in bytes.
+pub const VERSION_2_IMAGE_SIZE: usize = 21_216;
+
+/// The length of an image that versions 1.x left, in bytes.
+pub const VERSION_1_IMAGE_SIZE: usize = 21_024;
 
 /// The length of a command in bytes.
 pub const COMMAND_SIZE: usize = 5;

@@ -9,14 +9,15 @@ use core::fmt;
 #[derive(Clone, Copy, Debug, PartialEq, Eq, Hash)]
 #[non_exhaustive]
 pub enum Refusal {
-    /// 1: the image has another length than [`IMAGE_SIZE`](crate::IMAGE_SIZE); of a conversion, or the older one than
-    /// [`OLDER_IMAGE_SIZE`](crate::OLDER_IMAGE_SIZE).
+    /// 1: the image has another length than [`IMAGE_SIZE`](crate::IMAGE_SIZE); of a conversion, one of the two images
+    /// has not the length that it names.
     Length,
     /// 2: the control form is broken; also before the first start.
     ControlForm,
     /// 3: a number is outside its range.
     Range,
-    /// 4: the store has stopped. Every call but start is refused; the queries of the control part are not.
+    /// 4: the store has stopped. Every call but start, fail and return is refused; the queries of the control part are
+    /// not.
     Stopped,
     /// 5: the transaction is not open.
     NotOpen,
@@ -46,13 +47,17 @@ pub enum Refusal {
     Gap,
     /// 18: a block is in two lines of the table.
     Overlap,
+    /// 19: return of a card whose stamp is not that of the newest placement, or that is no member of it.
+    Stale,
+    /// 20: no serials are left for a further placement; only a start gives new ones.
+    Serials,
     /// The code of an answer that this wrapper has no name for at this call; whether the image is as found is not
     /// known. The archive of this version gives none such.
     Unknown(u32),
 }
 
 /// The refusals by their numbers, from 1 on.
-const BY_NUMBER: [Refusal; 18] = [
+const BY_NUMBER: [Refusal; 20] = [
     Refusal::Length,
     Refusal::ControlForm,
     Refusal::Range,
@@ -71,6 +76,8 @@ const BY_NUMBER: [Refusal; 18] = [
     Refusal::List,
     Refusal::Gap,
     Refusal::Overlap,
+    Refusal::Stale,
+    Refusal::Serials,
 ];
 
 /// The kind of a refusal's code.
@@ -83,7 +90,7 @@ impl Refusal {
         named.copied().unwrap_or(Refusal::Unknown(code))
     }
 
-    /// The number of the refusal in the rules, 1 to 18. Of an unknown code, the number in it if it is a refusal's,
+    /// The number of the refusal in the rules, 1 to 20. Of an unknown code, the number in it if it is a refusal's,
     /// else 0.
     pub fn number(self) -> u16 {
         match self {
@@ -116,6 +123,8 @@ impl fmt::Display for Refusal {
             Refusal::List => "the list is too short for the moves",
             Refusal::Gap => "a block is in no line of the table",
             Refusal::Overlap => "a block is in two lines of the table",
+            Refusal::Stale => "the card's table is stale",
+            Refusal::Serials => "no serials are left: too many placements since the start",
             Refusal::Unknown(_) => "the refusal is unknown to this version",
         })
     }

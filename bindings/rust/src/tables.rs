@@ -23,7 +23,8 @@ pub struct Line {
 /// Refused: [`Range`](Refusal::Range) also for more than [`MOST_LINES`](crate::MOST_LINES) lines and for a first block
 /// above the last; [`Placement`](Refusal::Placement) if a line's cards are equal or one does not work;
 /// [`Gap`](Refusal::Gap) if a block is in no line, so also without lines; [`Overlap`](Refusal::Overlap) if one is in
-/// two; then [`Active`](Refusal::Active) if three or more placements are active.
+/// two; then [`Active`](Refusal::Active) if three or more placements are active, and then
+/// [`Serials`](Refusal::Serials), as [`place`](crate::place).
 ///
 /// ```
 /// use nolpigat::*;

@@ -33,7 +33,7 @@ fn failed() -> Vec<u8> {
 
 /// Where the slot of record 9 on a card begins.
 fn slot_place(card: usize) -> usize {
-    32 + card * 2624 + 41 + 1 + 5
+    32 + card * 2628 + 41 + 1 + 5
 }
 
 /// The slot of record 9 on a card.
@@ -46,7 +46,14 @@ fn start_zeroes_the_image() {
     let mut image = vec![0xFF; IMAGE_SIZE];
     assert_eq!(start(&mut image, Mask(0xE0)), Ok(()));
     assert_eq!(image[..8], [0x10, 0xE0, 0, 0, 0, 0xE0, 0, 0x80]);
-    assert!(image[8..].iter().all(|byte| *byte == 0));
+    // Beside these bytes the serial, and its stamp with the mask at the end of each working card's table.
+    let mut wanted = vec![0; IMAGE_SIZE];
+    wanted[..8].copy_from_slice(&image[..8]);
+    wanted[25] = 1;
+    for card in 0..3 {
+        wanted[32 + (card + 1) * 2628 - 4..][..4].copy_from_slice(&[0, 0, 1, 0xE0]);
+    }
+    assert!(image == wanted);
 }
 
 #[test]
@@ -172,6 +179,7 @@ fn place_adds_the_newest() {
 fn older() -> Vec<u8> {
     let mut image = vec![0; IMAGE_SIZE];
     image[..6].copy_from_slice(&[0x10, 0xFF, 0, 0, 0, 0xFF]);
+    image[25] = 1;
     image
 }
 

@@ -31,11 +31,13 @@ fn every_kind() {
         (0xC_0000, Answer::None),
         (0xD_00E0, Answer::Number(0xE0)),
         (0xF_0001, Answer::Refused(Refusal::Length)),
-        (0xE_52E0, Answer::Written(21_216)),
+        (0xE_5300, Answer::Written(21_248)),
         (0xF_0010, Answer::Refused(Refusal::List)),
         (0xF_0011, Answer::Refused(Refusal::Gap)),
         (0xF_0012, Answer::Refused(Refusal::Overlap)),
-        (0xF_0013, Answer::Refused(Refusal::Unknown(0xF_0013))),
+        (0xF_0013, Answer::Refused(Refusal::Stale)),
+        (0xF_0014, Answer::Refused(Refusal::Serials)),
+        (0xF_0015, Answer::Refused(Refusal::Unknown(0xF_0015))),
     ];
     for (code, answer) in expected {
         assert_eq!(Answer::from(code), answer);
@@ -60,7 +62,7 @@ fn texts_of_the_header() {
             codes += 1;
         }
     }
-    assert_eq!((codes, refusals), (35, 20));
+    assert_eq!((codes, refusals), (37, 22));
 }
 
 #[test]
@@ -76,7 +78,7 @@ fn no_answers_code() {
 
 #[test]
 fn number_of_an_unknown_code() {
-    assert_eq!(Refusal::Unknown(0xF_0013).number(), 19);
+    assert_eq!(Refusal::Unknown(0xF_0015).number(), 21);
     assert_eq!(Refusal::Unknown(0x1_0011).number(), 0);
 }
 

@@ -14,7 +14,7 @@ fn performed(image: &mut [u8], bytes: &[u8]) -> Result<(), Refusal> {
 }
 
 /// Each call, with numbers in their ranges, start first.
-const CALLS: [Call; 18] = [
+const CALLS: [Call; 17] = [
     |image| start(image, Mask(0xE0)),
     |image| begin(image, Tran(2), Card(1)),
     |image| get(image, Tran(1), Rec(9)).map(drop),
@@ -25,7 +25,6 @@ const CALLS: [Call; 18] = [
     |image| fit(image, Card(3)),
     |image| withdraw(image, Card(3)),
     |image| place(image, Mask(0xC0)),
-    |image| fail(image, Card(1)).map(drop),
     |image| move_block(image, Card(1), Block(1)).map(drop),
     |image| settle(image).map(drop),
     |image| state(image).map(drop),
@@ -34,6 +33,9 @@ const CALLS: [Call; 18] = [
     |image| move_list(image, &mut []).map(drop),
     |image| place_by_table(image, &[]),
 ];
+
+/// The calls that a stopped store takes, with a card that fits each.
+const STOPPED_CALLS: [Call; 2] = [|image| fail(image, Card(0)).map(drop), |image| return_card(image, Card(1))];
 
 /// The queries of the control part.
 const QUERIES: [Call; 7] = [
@@ -51,7 +53,7 @@ const RECORD_QUERIES: [Call; 2] =
     [|image| source(image, Tran(1), Rec(9)).map(drop), |image| holders(image, Tran(1), Rec(9)).map(drop)];
 
 fn all() -> impl Iterator<Item = Call> {
-    CALLS.into_iter().chain(QUERIES).chain(RECORD_QUERIES)
+    CALLS.into_iter().chain(STOPPED_CALLS).chain(QUERIES).chain(RECORD_QUERIES)
 }
 
 /// Cards 0, 1 and 2, with transaction 1 open.
@@ -86,7 +88,7 @@ fn assert_refused(image: &[u8], call: Call, refusal: Refusal) {
 
 #[test]
 fn wrong_lengths() {
-    for length in [0, 1, OLDER_IMAGE_SIZE, IMAGE_SIZE - 1, IMAGE_SIZE + 1] {
+    for length in [0, 1, VERSION_1_IMAGE_SIZE, VERSION_2_IMAGE_SIZE, IMAGE_SIZE - 1, IMAGE_SIZE + 1] {
         let mut image = opened();
         image.resize(length, 0);
         for call in all() {
@@ -105,18 +107,18 @@ fn broken_control_form() {
 }
 
 #[test]
-fn only_queries_of_the_control_part_after_a_stop() {
+fn few_calls_and_queries_of_the_control_part_after_a_stop() {
     for call in CALLS[1..].iter().chain(&RECORD_QUERIES) {
         assert_refused(&stopped_store(), *call, Refusal::Stopped);
     }
-    for query in QUERIES {
-        assert_eq!(query(&mut stopped_store()), Ok(()));
+    for call in STOPPED_CALLS.into_iter().chain(QUERIES) {
+        assert_eq!(call(&mut stopped_store()), Ok(()));
     }
 }
 
 #[test]
 fn numbers_outside_their_ranges() {
-    let calls: [Call; 25] = [
+    let calls: [Call; 27] = [
         |image| begin(image, Tran(0), Card(0)),
         |image| begin(image, Tran(16), Card(0)),
         |image| begin(image, Tran(2), Card(8)),
@@ -133,6 +135,8 @@ fn numbers_outside_their_ranges() {
         |image| fit(image, Card(8)),
         |image| withdraw(image, Card(8)),
         |image| fail(image, Card(8)).map(drop),
+        |image| return_card(image, Card(8)),
+        |image| return_card(image, Card(u8::MAX)),
         |image| move_block(image, Card(1), Block(64)).map(drop),
         |image| move_block(image, Card(8), Block(1)).map(drop),
         |image| load(image, Card(u8::MAX)).map(drop),

@@ -2,6 +2,9 @@
 
 use nolpigat::*;
 
+/// Where the pairs of placements by table are kept.
+const KEPT: usize = IMAGE_SIZE - 4 * 48;
+
 fn line(first: u8, last: u8, cards: [u8; 2]) -> Line {
     Line { first: Block(first), last: Block(last), cards: cards.map(Card) }
 }
@@ -62,7 +65,7 @@ fn blocks_go_to_the_table_and_back_to_rails() {
     move_all(&mut image);
     assert_eq!(settle(&mut image), Ok(1));
     assert_eq!(image[..8], [0x10, 0xC6, 0, 0, 0, 0xFE, 0, 0x80]);
-    assert!(image[OLDER_IMAGE_SIZE..].iter().all(|byte| *byte == 0));
+    assert!(image[KEPT..].iter().all(|byte| *byte == 0));
 }
 
 /// Block 0 of the second placement: three bits a card, most significant bit first.
@@ -70,7 +73,7 @@ fn blocks_go_to_the_table_and_back_to_rails() {
 fn pairs_are_kept_behind_the_tables() {
     let mut image = filled();
     assert_eq!(place_by_table(&mut image, &table()), Ok(()));
-    let kept = &image[OLDER_IMAGE_SIZE..];
+    let kept = &image[KEPT..];
     assert_eq!(kept.len(), 4 * 48);
     assert!(kept[..48].iter().chain(&kept[96..]).all(|byte| *byte == 0));
     assert_eq!(kept[48..51], [0b1100_0111, 0b0001_1100, 0b0111_0001]);

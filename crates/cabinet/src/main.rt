@@ -7,6 +7,6 @@ fn main() {
         io::write_all(STDERR_FILENO, b"usage: cabinet < COMMANDS > LISTING\n");
         return;
     }
-    let mut image = [0u8; 21216];
+    let mut image = [0u8; 21248];
     console::run(&mut image);
 }

@@ -5,12 +5,14 @@ use lib.Dec.{eqb}
 use mathlib.Core.Bool.{Bool, cond, false, true}
 use mathlib.Core.List.{List, [], _∷_, _++_, map}
 use mathlib.Core.Path.{_≡_, ap, refl, sym}
+use native.Mathlib.Omega.{arith}
 use Rattle.image.specs.Layout.{valueBound}
 use Rattle.mask.specs.Masks.{Byte}
 use Rattle.mask.specs.Placements.{chainedSites, maskSites, olderFromMask, placed}
 use Rattle.method.specs.ControlPart.{partBy}
 use Rattle.control.specs.ControlBytes.{controlByte, marksAt, marksFrom}
 use Rattle.cabinet_rules.specs.Delivery.{PartOf}
+use Rattle.cabinet_rules.specs.Places.{neverSpent}
 use Rattle.cabinet_rules.specs.Retired.{base, beforeMarks, twoRails}
 use Rattle.cabinet_rules.specs.GoesOn.{fromBase}
 use Rattle.cabinet_rules.proofs.GoesOn.{Carries, carries-same}
@@ -34,17 +36,19 @@ baseRules = record {
   site-distinct = λ m b u h. railRules .site-distinct (olderFromMask m) b u h;
   mask-back = λ m. refl;
   made-usable = λ m h. h;
-  place-usable = mask-members again;
-  place-members = mask-members again;
-  place-working = λ k m c e h. mask-working again k m e c h;
-  place-few = mask-few again;
+  place-usable = mask-members again neverSpent;
+  place-members = mask-members again neverSpent;
+  place-working = λ k m c e h. mask-working again neverSpent k m e c h;
+  place-few = mask-few again neverSpent;
   value-fits = λ n e. ltb-true n valueBound e;
   numbers = not-numbered base (λ k. tt);
+  same-refl = λ m. refl;
+  stamp-same = λ j k n s. refl;
 }
 
 -- ---- control bytes: written over those of A.1
 -- placements marked 0 leave the marks zero
-no-marks : (l : List Byte) (m : Byte) (i : ℕ) → marksFrom i (map placed (map olderFromMask l) ++ (placed (olderFromMask m) ∷ [])) ≡ 0
+no-marks : (l : List Byte) (m : Byte) (i : ℕ) → marksFrom i (map (λ p. p) (map placed (map olderFromMask l)) ++ (placed (olderFromMask m) ∷ [])) ≡ 0
 no-marks [] m i = refl
 no-marks (x ∷ l) m i = ap (λ (n : ℕ). 0 + (0 + n)) (no-marks l m (suc i))
 
@@ -68,7 +72,7 @@ base-retired = retired-over base twoRails fromBase beforeMarks (record {
   back-placement = λ m. refl;
   back-serial = λ ν. refl;
   fills = marks-zero;
-  no-tail = λ k n. refl;
+  tails = λ k g t w n h. absurd (omega arith);
 })
 
 pub base-carried : Carries base twoRails fromBase railLaws

@@ -21,13 +21,18 @@ use Rattle.method.specs.ControlPart.{active, isOpen, part}
 use Rattle.method.specs.Rules.{lost, lostOf}
 use Rattle.method.proofs.Capacity.{Chain, ControlInv, OneMore, bounded}
 use Rattle.method.proofs.Invariant.{Form}
+use Rattle.method.proofs.Legal.{Legal, is-resting, is-running}
 use Rattle.method.proofs.Stopped.{Rests}
 use Rattle.control.specs.ControlBytes.{Part, controlByte, countIn, tailByte}
-use Rattle.control_form.specs.ControlForm.{chainOk, countOk, formOk, frontOk, homeOk, isSafe, keptOk, masksOf, membersOk, partOk, tablesOk, zeroFieldsOk}
+use Rattle.control.specs.Serials.{serialBound, serialMost}
+use Rattle.control.specs.Stamps.{noStamp, stampByte, stampOf}
+use Rattle.control.proofs.StampLaws.{stamp-back, stamp-same}
+use Rattle.control_form.specs.ControlForm.{chainOk, countOk, formOk, frontOk, homeOk, isSafe, keptOk, masksOf, membersOk, partOk, serialOk, tablesOk, zeroFieldsOk}
 use Rattle.control_form.proofs.RoundTrip.{read-control, read-count}
 use Rattle.cabinet_rules.specs.Cabinet.{cabinet, tranOk}
-use Rattle.cabinet_rules.specs.Delivery.{byTables, current}
-use Rattle.cabinet_rules.proofs.Lawful.{ControlLaws, DeliveryLaws, lawful, no-stamps, ruleLaws}
+use Rattle.cabinet_rules.specs.Delivery.{Numbered, current, resuming}
+use Rattle.cabinet_rules.proofs.Lawful.{ControlLaws, DeliveryLaws, StampLaws}
+use Rattle.cabinet_rules.proofs.PlacingLaws.{lawful, ruleLaws}
 
 -- ---- the stop rule and the clause of the control form on it
 -- a placement is safe exactly where it is not lost
@@ -81,6 +86,11 @@ room-ok : (d : Byte) (newest : Placement) (j : ℕ) (l : List Placement) → Cha
     → suc (length l) ≤ mostPlaced + j → chainOk mostPlaced d (newest .mask) (masksOf (reverse l)) ≡ true
 room-ok d newest j l c h = chain-ok mostPlaced d newest j (reverse l) c (omega (arith, length-reverse l))
 
+-- ---- the serial
+serial-ok : (k : Part) → Numbered k → serialOk k ≡ true
+unfolding serialOk
+serial-ok k n = and-in _ _ (le-leb (suc (length (k .older))) (k .serial) (n .counted)) (le-leb (k .serial + size (k .newest .mask)) serialMost (n .few))
+
 module _ (k : Part) (f : Form cabinet k) (u : ControlInv cabinet lawful k) where
   -- never more than four placements
   pub few-older : suc (length (k .older)) ≤ mostActive
@@ -105,7 +115,7 @@ module _ (k : Part) (f : Form cabinet k) (u : ControlInv cabinet lawful k) where
       (and-in _ _ (or-r (k .stopped) _ (all-below cardCount _ (λ c h. imp (hasCard (k .newest .mask) c) (hasCard (k .working) c) (f .newWorks c))))
       (and-in _ _ (or-r (k .stopped) _ (all-in (λ p. isSafe (k .working) (k .failed) (p .mask)) (active k)
       (λ p m. safe-is (k .working) (k .failed) (p .mask) ∙ is-not (lost cabinet k p) (f .base .safe p m))))
-      (all-below tranBound _ (λ t h. home t (k .home t) refl))))))
+      (and-in _ _ (all-below tranBound _ (λ t h. home t (k .home t) refl)) (serial-ok k (u .numbers)))))))
     where
       home : (t : ℕ) (o : Option ℕ) → k .home t ≡ o → homeOk (k .stopped) (k .working) (k .home t) ≡ true
       home t none e = rw e
@@ -132,16 +142,16 @@ module _ (k : Part) (r : Rests cabinet lawful k) where
       (and-in _ _ (room-ok (k .failed) (k .newest) (r .room .steps) (k .older) (r .room .chain) (r .room .few))
       (and-in _ _ (or-l (k .stopped) _ (r .stays))
       (and-in _ _ (or-l (k .stopped) _ (r .stays))
-      (all-below tranBound (λ t. homeOk (k .stopped) (k .working) (k .home t)) (λ t h. rw (r .shut t)))))))
+      (and-in _ _ (all-below tranBound (λ t. homeOk (k .stopped) (k .working) (k .home t)) (λ t h. rw (r .shut t))) (serial-ok k (r .numbers)))))))
 
 -- ---- bytes that were written from a control part that meets the clauses have the control form
 pub written-form : (k : Part) → suc (length (k .older)) ≤ mostActive → ((t : ℕ) → isOpen k t ≡ true → tranOk t ≡ true) → ((t h : ℕ) → k .home t ≡ some h → h < cardCount)
-    → partOk k ≡ true → ((p : Placement) → In p (active k) → Usable p) → (g t : ℕ → ℕ) → ((n : ℕ) → n < controlSize → g n ≡ controlByte k n)
+    → k .serial < serialBound → partOk k ≡ true → ((p : Placement) → In p (active k) → Usable p) → (g t : ℕ → ℕ) → ((n : ℕ) → n < controlSize → g n ≡ controlByte k n)
     → ((n : ℕ) → n < tailSize → t n ≡ tailByte k n) → formOk g t ≡ true
 unfolding formOk frontOk keptOk tablesOk countOk zeroFieldsOk
-written-form k few opens homes part usable g t wrote behind =
+written-form k few opens homes small part usable g t wrote behind =
     let n : countIn (g 0) ≡ suc (length (k .older)) = read-count k few opens homes g t wrote behind in
-    rw (read-control k few opens homes g t wrote behind) (
+    rw (read-control k few opens homes g t wrote behind small) (
     and-in _ _ (and-in _ _ (and-in _ _ (le-leb 1 (countIn (g 0)) (omega arith)) (le-leb (countIn (g 0)) mostActive (omega arith)))
     (and-in _ _ (all-below controlSize _ (λ i h. eq-eqb (g i) (controlByte k i) (wrote i h))) part))
     (and-in _ _ (all-below tailSize _ (λ i h. eq-eqb (t i) (tailByte k i) (behind i h))) (all-in (λ p. pairsOk (p .mask) (p .choice)) (active k) (λ p m. usable p m .pairs))))
@@ -154,24 +164,37 @@ module _ (k : Part) (shut : (t : ℕ) → k .home t ≡ none) where
   none-homes : (t h : ℕ) → k .home t ≡ some h → h < cardCount
   none-homes t h e = let z : _≡_ {A = Option ℕ} none (some h) = sym (shut t) ∙ e in let y : _≡_ {A = ℕ} 0 1 = cc in absurd (omega arith)
 
--- ---- A.6, the delivery in force
-pub controlLaws : ControlLaws byTables ruleLaws
+-- ---- A.7, the delivery in force
+pub controlLaws : ControlLaws resuming ruleLaws
 controlLaws = record {
-  reads = λ k f u g t w. read-control k (few-older k f u) (u .opens) (homes k u) g t (w .front) (w .behind);
-  formed = λ k f u g t w. written-form k (few-older k f u) (u .opens) (homes k u) (running-ok k f u) (f .base .sound) g t (w .front) (w .behind);
-  rest-read = λ k r g t w. read-control k (few-resting k r) (none-opens k (r .shut)) (none-homes k (r .shut)) g t (w .front) (w .behind);
-  rest-formed = λ k r g t w. written-form k (few-resting k r) (none-opens k (r .shut)) (none-homes k (r .shut)) (resting-ok k r) (r .sound) g t (w .front) (w .behind);
+  reads = λ k f u g t w. read-control k (few-older k f u) (u .opens) (homes k u) g t (w .front) (w .behind) (small k (u .numbers));
+  formed = λ k f u g t w. written-form k (few-older k f u) (u .opens) (homes k u) (small k (u .numbers)) (running-ok k f u) (f .base .sound) g t (w .front) (w .behind);
+  rest-read = λ k r g t w. read-control k (few-resting k r) (none-opens k (r .shut)) (none-homes k (r .shut)) g t (w .front) (w .behind) (small k (r .numbers));
+  rest-formed = λ k r g t w.
+      written-form k (few-resting k r) (none-opens k (r .shut)) (none-homes k (r .shut)) (small k (r .numbers)) (resting-ok k r) (r .sound) g t (w .front) (w .behind);
 }
   where
     homes : (k : Part) → ControlInv cabinet lawful k → (t h : ℕ) → k .home t ≡ some h → h < cardCount
     homes k u t h e = has-card (k .working) h (u .homes t h e)
 
-abbrev pub tableLaws : DeliveryLaws byTables
-tableLaws = record {
-  rules = ruleLaws;
-  control = controlLaws;
-  stamps = no-stamps byTables ruleLaws (λ m n. refl);
+    small : (k : Part) → Numbered k → k .serial < serialBound
+    small k n = omega (arith, n .few)
+
+-- A stamp of a serial that the form takes is shown again.
+legal-small : (k : Part) → Legal cabinet lawful k → k .serial < serialBound
+legal-small k (is-running f u) = let n = u .numbers .few in omega arith
+legal-small k (is-resting r) = let n = r .numbers .few in omega arith
+
+pub stampLaws : StampLaws resuming ruleLaws
+stampLaws = record {
+  same-stamp = stamp-same;
+  none-shown = λ e h. stamp-same e (stampByte noStamp) h ∙ stamp-back noStamp (omega arith);
+  stamp-shown = λ k l e h. stamp-same e (stampByte (stampOf k)) h ∙ stamp-back (stampOf k) (legal-small k l);
 }
 
 abbrev pub currentLaws : DeliveryLaws current
-currentLaws = tableLaws
+currentLaws = record {
+  rules = ruleLaws;
+  control = controlLaws;
+  stamps = stampLaws;
+}

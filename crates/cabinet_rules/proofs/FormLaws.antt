@@ -26,14 +26,16 @@ use Rattle.method.proofs.Capacity.{Chain, ControlInv, OneMore}
 use Rattle.method.proofs.Invariant.{Form}
 use Rattle.method.proofs.Stopped.{Rests}
 use Rattle.control.specs.ControlBytes.{controlOf, countIn, homeIn, placementAt, homeAt}
-use Rattle.control_form.specs.ControlForm.{controlForm, homeOk, isSafe, membersOk, chainOk, masksOf}
+use Rattle.control.specs.Serials.{serialMost}
+use Rattle.control_form.specs.ControlForm.{controlForm, homeOk, isSafe, membersOk, chainOk, masksOf, serialOk}
 use Rattle.control_form.proofs.RoundTrip.{Clauses, form-count, form-pairs, form-part, part-clauses}
 use Rattle.control.proofs.Struct.{length-placements}
 use Rattle.control.proofs.Fields.{shown-home}
 use Rattle.cabinet_rules.specs.Cabinet.{cabinet, tranOk}
+use Rattle.cabinet_rules.specs.Delivery.{Numbered}
 use Rattle.cabinet_rules.specs.Images.{Image, controlIn, tailIn}
 use Rattle.cabinet_rules.proofs.Form.{length-masks, safe-is}
-use Rattle.cabinet_rules.proofs.Lawful.{lawful}
+use Rattle.cabinet_rules.proofs.PlacingLaws.{lawful}
 
 -- a mask that is one more than another: the card that it has besides
 one-more : (d : Byte) (newest third : Placement) → isOneMore d (newest .mask) (third .mask) ≡ true → OneMore cabinet lawful d newest third
@@ -169,12 +171,23 @@ module _ (g : Image) (form : controlForm g ≡ true) where
       let home : homeOk (controlIn g .stopped) (controlIn g .working) (controlIn g .home t) ≡ true = clauses .home t in-range in
       and-r (not (controlIn g .stopped)) (hasCard (controlIn g .working) h) (sym (ap (homeOk (controlIn g .stopped) (controlIn g .working)) e) ∙ home)
 
+  -- the serial fits the placements
+  pub numbered-in : Numbered (controlIn g)
+  unfolding serialOk
+  numbered-in =
+      let few : Bool = leb (controlIn g .serial + size (controlIn g .newest .mask)) serialMost in
+      record {
+        counted = leb-true (suc (length (controlIn g .older))) (controlIn g .serial) (and-l _ few (clauses .serials));
+        few = leb-true (controlIn g .serial + size (controlIn g .newest .mask)) serialMost
+            (and-r (leb (suc (length (controlIn g .older))) (controlIn g .serial)) few (clauses .serials));
+      }
+
   -- and homes work and the placements are few
   pub running-inv : ControlInv cabinet lawful (controlIn g)
   running-inv =
       let f = chain-steps mostPlaced (controlIn g .failed) (controlIn g .newest) (reverse (controlIn g .older)) (omega arith) (clauses .chain) in
       let few : suc (length (controlIn g .older)) ≤ mostPlaced + f .0 = omega (arith, f .2, length-reverse (controlIn g .older)) in
-      record { homes = home-works; opens = open-in-range; room = record { steps = f .0; chain = f .1; few = few }; numbers = tt }
+      record { homes = home-works; opens = open-in-range; room = record { steps = f .0; chain = f .1; few = few }; numbers = numbered-in }
 
   -- ---- a store that has stopped
   few-older : length (controlIn g .older) ≤ mostPlaced
@@ -194,7 +207,7 @@ module _ (g : Image) (form : controlForm g ≡ true) where
     known = known-works;
     sound = usable-active;
     room = running-inv .room;
-    numbers = tt;
+    numbers = numbered-in;
     bound = omega (arith, few-older);
   }
     where

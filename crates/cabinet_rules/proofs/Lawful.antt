@@ -4,7 +4,7 @@ use borrow.Author.Tests.{leb-false, lt-ltb, ltb-false, ltb-true}
 use lib.Dec.{eqb, leb, ltb}
 use lib.ListN.{length, length-append, take}
 use mathlib.Core.Bool.{Bool, _||_, cond, false, not, true}
-use mathlib.Core.List.{List, [], _++_, _∷_}
+use mathlib.Core.List.{[], _++_, _∷_}
 use mathlib.Core.Option.{Option, none, some}
 use mathlib.Core.Path.{_∙_, _≡_, ap, refl, sym}
 use native.Mathlib.Omega.{arith}
@@ -14,17 +14,14 @@ use Rattle.lists.proofs.Counts.{below-all}
 use Rattle.image.specs.Layout.{blockCount, cardCount, controlSize, copyCount, leastMembers, mostPlaced, recordCount, slotCount, tranBound, valueBound}
 use Rattle.mask.specs.Masks.{Byte, hasCard, isWithin, size, withoutCard}
 use Rattle.mask.proofs.Masks.{has-card, has-none, has-with, has-without}
-use Rattle.mask.specs.Placements.{Usable, placed}
+use Rattle.mask.specs.Placements.{Placement, placed}
 use Rattle.mask.proofs.SiteLaws.{placed-sites, placed-usable, site-count, site-distinct, site-member}
-use Rattle.table_lines.specs.Lines.{hasGap, hasOverlap, linesWork}
-use Rattle.table_lines.proofs.Accepted.{table-members, table-usable, table-working}
 use Rattle.slot.specs.Blocks.{BlockBytes, endSlots, freshBlock, lockSlot, slotAt}
 use Rattle.slot.specs.Words.{entryOf, freedSlot, lockedSlot, slotOf, stateOf}
 use Rattle.slot.specs.declared.Slot.{Slot as Fields}
 use Rattle.slot.proofs.Blocks.{held-empty, held-end, held-fresh, held-lock, slot-end, slot-fresh, slot-lock}
 use Rattle.method.specs.Changes.{addedBy, startedBy}
 use Rattle.method.specs.ControlPart.{ControlPart, active, onlyNewest}
-use Rattle.method.specs.Rules.{row}
 use Rattle.method.specs.Slots.{Slot, blank, ended, freed, locked}
 use Rattle.method.proofs.Capacity.{ControlInv}
 use Rattle.method.proofs.Invariant.{Form}
@@ -32,10 +29,11 @@ use Rattle.method.proofs.Laws.{Laws}
 use Rattle.method.proofs.Legal.{Legal}
 use Rattle.method.proofs.Refusals.{row-clear}
 use Rattle.method.proofs.Stopped.{Rests}
-use Rattle.cabinet_rules.specs.Cabinet.{cabinet, placeRows, rulesOf, slotSeen, startRow, tranOk}
-use Rattle.control.specs.ControlBytes.{Part, Setting}
-use Rattle.cabinet_rules.specs.Delivery.{Delivery, PartOf, brokenWire, byTables, current, storable}
-use Rattle.cabinet_rules.specs.Places.{PlaceArgument, againByRails, argumentRows, byLines, byMask, placedRow, placementOf, tableRows}
+use Rattle.cabinet_rules.specs.Cabinet.{placeRows, rulesOf, slotSeen, startRow, tranOk}
+use Rattle.control.specs.ControlBytes.{Setting}
+use Rattle.control.proofs.StampLaws.{same-refl}
+use Rattle.cabinet_rules.specs.Delivery.{Delivery, PartOf}
+use Rattle.cabinet_rules.specs.Places.{PlaceArgument, neverSpent, placedRow}
 use Rattle.cabinet_rules.specs.Retired.{againMarked, railed}
 
 -- ---- slots, as the rules see them
@@ -109,7 +107,8 @@ not-numbered D any = record {
 }
 
 -- Sites are two different members, what start and fail make of a mask has its cards and is usable where they are two, an accepted argument of
--- place gives a usable placement of working cards while there is room, and a slot has room for a value in range.
+-- place gives a usable placement of working cards while there is room, and a slot has room for a value in range. A stamp is that of the newest
+-- placement and its serial.
 pub record RuleLaws (D : Delivery) : Type 0 where
   pub site-count : (p : D .Placement) (b : ℕ) → D .usable p → b < blockCount → length (D .sites p b) ≡ copyCount
   pub site-member : (p : D .Placement) (b c : ℕ) → D .usable p → b < blockCount → elem c (D .sites p b) ≡ true → hasCard (D .mask p) c ≡ true
@@ -122,20 +121,26 @@ pub record RuleLaws (D : Delivery) : Type 0 where
   pub place-few : (k : PartOf D) (a : D .PlaceArgument) → D .placeRefusal k a ≡ 0 → suc (suc (length (k .older))) ≤ mostPlaced
   pub value-fits : (n : ℕ) → D .valueInRange n ≡ true → n < valueBound
   pub numbers : NumberLaws D
+  pub same-refl : (m : D .memory .Stamp) → D .memory .sameStamp m m ≡ true
+  pub stamp-same : (j k : PartOf D) → j .newest ≡ k .newest → j .serial ≡ k .serial → D .memory .stampOf j ≡ D .memory .stampOf k
 
--- There is room for one placement more.
-placed-few : {A S : Type 0} (k : ControlPart Byte A Setting S) → placedRow k ≡ 0 → suc (suc (length (k .older))) ≤ mostPlaced
+-- There is room for one placement more, and a serial.
+pub placed-few : {A S : Type 0} (spent : S → Bool) (k : ControlPart Byte A Setting S) → placedRow spent k ≡ 0 → suc (suc (length (k .older))) ≤ mostPlaced
 unfolding placedRow
-placed-few k e =
+placed-few spent k e =
     let h : length (k .older ++ (k .newest ∷ [])) < mostPlaced = leb-false mostPlaced (length (active k)) (row-clear (leb mostPlaced (length (active k))) 9 e .0) in
     omega (arith, h, length-append (k .older) (k .newest ∷ []))
 
+pub placed-serial : {A S : Type 0} (spent : S → Bool) (k : ControlPart Byte A Setting S) → placedRow spent k ≡ 0 → spent (k .serial) ≡ false
+unfolding placedRow
+placed-serial spent k e = row-clear (spent (k .serial)) 19 (row-clear (leb mostPlaced (length (active k))) 9 e .1) .0
+
 -- An accepted mask of place.
-module _ {A S : Type 0} (isAgain : A → Byte → Bool) (k : ControlPart Byte A Setting S) (m : Byte) (e : placeRows isAgain k m ≡ 0) where
-  bad : Bool
+module _ {A S : Type 0} (isAgain : A → Byte → Bool) (spent : S → Bool) (k : ControlPart Byte A Setting S) (m : Byte) (e : placeRows isAgain spent k m ≡ 0) where
+  pub bad : Bool
   bad = not (isWithin m (k .working)) || isAgain (k .newest) m
 
-  rows : ((ltb (size m) leastMembers || bad) ≡ false) × (placedRow k ≡ 0)
+  pub rows : ((ltb (size m) leastMembers || bad) ≡ false) × (placedRow spent k ≡ 0)
   unfolding placeRows bad
   rows = row-clear (ltb (size m) leastMembers || (not (isWithin m (k .working)) || isAgain (k .newest) m)) 8 e
 
@@ -150,7 +155,7 @@ module _ {A S : Type 0} (isAgain : A → Byte → Bool) (k : ControlPart Byte A 
       (has-card m c h)) h
 
   pub mask-few : suc (suc (length (k .older))) ≤ mostPlaced
-  mask-few = placed-few k (rows .1)
+  mask-few = placed-few spent k (rows .1)
 
 module _ (D : Delivery) (S : RuleLaws D) where
   -- the placement made of a mask with members enough
@@ -190,6 +195,8 @@ module _ (D : Delivery) (S : RuleLaws D) where
     numbered-place = S .numbers .numbered-place;
     numbered-fail = S .numbers .numbered-fail;
     numbered-settle = S .numbers .numbered-settle;
+    same-refl = S .same-refl;
+    stamp-same = S .stamp-same;
     place-room = S .place-few;
     held-empty = held-empty;
     held-fresh = held-fresh;
@@ -239,63 +246,12 @@ railedRules values fits = record {
   site-distinct = λ q b u h. ap distinct (sym (placed-sites q b)) ∙ site-distinct (placed q) b (placed-usable q u) h;
   mask-back = λ m. refl;
   made-usable = λ m h. h;
-  place-usable = mask-members againMarked;
-  place-members = mask-members againMarked;
-  place-working = λ k m c e h. mask-working againMarked k m e c h;
-  place-few = mask-few againMarked;
+  place-usable = mask-members againMarked neverSpent;
+  place-members = mask-members againMarked neverSpent;
+  place-working = λ k m c e h. mask-working againMarked neverSpent k m e c h;
+  place-few = mask-few againMarked neverSpent;
   value-fits = fits;
   numbers = not-numbered (railed values) (λ k. tt);
+  same-refl = λ m. refl;
+  stamp-same = λ j k n s. refl;
 }
-
--- ---- A.6, the delivery in force
-pub storable-fits : (n : ℕ) → storable n ≡ true → n < valueBound
-storable-fits n e = let h : n < brokenWire = ltb-true n brokenWire e in omega arith
-
--- An accepted table: its lines are of different working cards, every block is in a line, and there is room.
-module _ (k : Part) (l : List ℕ) (e : tableRows k l ≡ 0) where
-  from-9 : (not (linesWork (k .working) l) ≡ false) × (row 17 (hasGap l) (row 18 (hasOverlap l) (placedRow k)) ≡ 0)
-  unfolding tableRows
-  from-9 = row-clear (not (linesWork (k .working) l)) 8 e
-
-  works : linesWork (k .working) l ≡ true
-  works = not-not-is (linesWork (k .working) l) (from-9 .0)
-
-  from-17 : (hasGap l ≡ false) × (row 18 (hasOverlap l) (placedRow k) ≡ 0)
-  from-17 = row-clear (hasGap l) 16 (from-9 .1)
-
-  room : placedRow k ≡ 0
-  room = row-clear (hasOverlap l) 17 (from-17 .1) .1
-
-arg-usable : (k : Part) (a : PlaceArgument) → argumentRows k a ≡ 0 → Usable (placementOf a)
-arg-usable k (byMask m) e = record { enough = mask-members againByRails k m e; pairs = refl }
-arg-usable k (byLines l) e = table-usable l (k .working) (works k l e) (from-17 k l e .0)
-
-arg-members : (k : Part) (a : PlaceArgument) → argumentRows k a ≡ 0 → copyCount ≤ size (placementOf a .mask)
-arg-members k (byMask m) e = mask-members againByRails k m e
-arg-members k (byLines l) e = table-members l (k .working) (works k l e) (from-17 k l e .0)
-
-arg-working : (k : Part) (a : PlaceArgument) (c : ℕ) → argumentRows k a ≡ 0 → hasCard (placementOf a .mask) c ≡ true → hasCard (k .working) c ≡ true
-arg-working k (byMask m) c e h = mask-working againByRails k m e c h
-arg-working k (byLines l) c e h = table-working l (k .working) (works k l e) c h
-
-arg-few : (k : Part) (a : PlaceArgument) → argumentRows k a ≡ 0 → suc (suc (length (k .older))) ≤ mostPlaced
-arg-few k (byMask m) e = mask-few againByRails k m e
-arg-few k (byLines l) e = placed-few k (room k l e)
-
-pub ruleLaws : RuleLaws byTables
-ruleLaws = record {
-  site-count = λ p b u h. site-count p b;
-  site-member = λ p b c u h e. site-member p b c u h e;
-  site-distinct = λ p b u h. site-distinct p b u h;
-  mask-back = λ m. refl;
-  made-usable = λ m h. record { enough = h; pairs = refl };
-  place-usable = arg-usable;
-  place-members = arg-members;
-  place-working = arg-working;
-  place-few = arg-few;
-  value-fits = storable-fits;
-  numbers = not-numbered byTables (λ k. tt);
-}
-
-abbrev pub lawful : Laws cabinet
-lawful = lawfulBy current ruleLaws

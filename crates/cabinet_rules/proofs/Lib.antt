@@ -3,6 +3,7 @@ pub mod RailExamples
 pub mod ProtectionExamples
 pub mod MoveListExamples
 pub mod Lawful
+pub mod PlacingLaws
 pub mod After
 pub mod Form
 pub mod FormLaws
@@ -15,6 +16,7 @@ pub mod OneRecordList
 pub mod FormStays
 pub mod GoesOn
 pub mod Retired
+pub mod Tables
 pub mod Wire
 pub mod TwoRails
 pub mod Base
@@ -27,3 +29,9 @@ pub mod Protection
 pub mod MoveLists
 pub mod Lengthen
 pub mod Twins
+pub mod Returns
+pub mod ThroughStops
+pub mod GoesThrough
+pub mod ComesBack
+pub mod ReturnExamples
+pub mod StepsOn

@@ -25,7 +25,7 @@ use Rattle.cabinet_rules.specs.MoveLists.{AreMoves, ListSettles, NeverSe
 use Rattle.cabinet_rules.specs.MoveLists.{NoneIsFinalFromEarlier, listAnswerOn, listRefusal, movesOn, unlessRefusedList}
 use Rattle.cabinet_rules.proofs.Earlier.{earlier-sound}
 use Rattle.cabinet_rules.proofs.Form.{currentLaws}
-use Rattle.cabinet_rules.proofs.Lawful.{lawful}
+use Rattle.cabinet_rules.proofs.PlacingLaws.{lawful}
 use Rattle.cabinet_rules.proofs.Running.{running-image, running-shows}
 use Rattle.cabinet_rules.proofs.Shows.{Shows, answer-shows, next-shows, noise-shows}
 use Rattle.cabinet_rules.proofs.Sound.{Sound, sound-after, sound-shows, start-sound}

@@ -26,7 +26,7 @@ use Rattle.cabinet_rules.specs.Protection.{ProtectedByFailsOnImages, Pro
 use Rattle.cabinet_rules.specs.Protection.{noFailStopsOn}
 use Rattle.cabinet_rules.proofs.Earlier.{earlier-sound}
 use Rattle.cabinet_rules.proofs.Form.{currentLaws}
-use Rattle.cabinet_rules.proofs.Lawful.{lawful}
+use Rattle.cabinet_rules.proofs.PlacingLaws.{lawful}
 use Rattle.cabinet_rules.proofs.Running.{Running, running-image, running-shows}
 use Rattle.cabinet_rules.proofs.Shows.{answer-shows}
 use Rattle.cabinet_rules.proofs.Sound.{Sound, answer-sound, noise-sound, sound-after, start-sound}

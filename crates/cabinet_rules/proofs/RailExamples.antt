@@ -16,17 +16,18 @@ use Rattle.method.specs.Rules.{nextState, place, plan, refusal, settle, settled
 use Rattle.control.specs.ControlBytes.{controlByte}
 use Rattle.cabinet_rules.specs.Cabinet.{cabinet, placeRows, rulesOf, startRow}
 use Rattle.cabinet_rules.specs.Places.{byMask, placedRow}
-use Rattle.cabinet_rules.specs.Delivery.{byTables}
-use Rattle.cabinet_rules.specs.Retired.{base, belowWire, twoRails}
-use Rattle.cabinet_rules.specs.GoesOn.{fromBase, fromRails, fromWire}
+use Rattle.cabinet_rules.specs.Delivery.{resuming}
+use Rattle.cabinet_rules.specs.Retired.{base, belowWire, byTables, twoRails}
+use Rattle.cabinet_rules.specs.GoesOn.{fromBase, fromRails, fromTables, fromWire}
 use Rattle.cabinet_rules.proofs.GoesOn.{growthOf}
 use Rattle.cabinet_rules.proofs.Examples.{answers, answersBy}
 
 -- An older store: the base's start with cards 0, 1, 4 and 5, and record 0, in block 0, stored as 4660 and committed.
 older : State cabinet
 unfolding rulesAfter
-older = grownState (rulesOf belowWire) (growthOf belowWire byTables fromWire) (grownState (rulesOf twoRails) (growthOf twoRails belowWire fromRails)
-    (grownState (rulesOf base) (growthOf base twoRails fromBase) (rulesAfter (rulesOf base) (start (byte 0xCC) ∷ begin 1 0 ∷ store 1 0 4660 ∷ commit 1 ∷ []) (zeroed (rulesOf base) noCards))))
+older = grownState (rulesOf byTables) (growthOf byTables resuming fromTables)
+    (grownState (rulesOf belowWire) (growthOf belowWire byTables fromWire) (grownState (rulesOf twoRails) (growthOf twoRails belowWire fromRails)
+    (grownState (rulesOf base) (growthOf base twoRails fromBase) (rulesAfter (rulesOf base) (start (byte 0xCC) ∷ begin 1 0 ∷ store 1 0 4660 ∷ commit 1 ∷ []) (zeroed (rulesOf base) noCards)))))
 
 -- Byte 7 after calls.
 marks : List (Call cabinet) → State cabinet → ℕ

@@ -20,7 +20,7 @@ use Rattle.method.proofs.Laws.{Laws}
 use Rattle.method.proofs.Stopped.{Rests}
 use Rattle.cabinet_rules.specs.Cabinet.{rulesOf}
 use Rattle.cabinet_rules.specs.Delivery.{Delivery, PartOf}
-use Rattle.cabinet_rules.specs.Retired.{Retirement, shownBytes, retiredBytes, retiredForm, retiredPart}
+use Rattle.cabinet_rules.specs.Retired.{Retirement, nowPart, shownBytes, retiredBytes, retiredForm, retiredPart}
 use Rattle.cabinet_rules.specs.GoesOn.{Succession, partNow}
 use Rattle.cabinet_rules.proofs.GoesOn.{Follows, growthOf, keeps}
 use Rattle.cabinet_rules.proofs.Lawful.{ControlLaws, DeliveryLaws, RuleLaws, Wrote, lawfulBy}
@@ -98,20 +98,20 @@ map-back older back e (x ∷ l) = λ i. e x i ∷ map-back older back e l i
 
 module _ (E D : Delivery) (S : Succession E D) (R : Retirement (E .Placement) (E .Serial) (D .Placement) (D .Serial)) where
   abbrev old : PartOf E → PartOf D
-  old = partBy (R .older) (λ σ. σ) (R .olderSerial)
+  old = nowPart (D .memory) R
 
   -- What is asked: the memory is the construction's; what was told is told back; of an older control part D writes the filled bytes in those
-  -- added, and zero behind the tables.
+  -- added, and behind the tables what it is shown of what lay there.
   pub record Over : Type 0 where
     pub follows : Follows E D S
     pub bytes-are : (k : PartOf E) (n : ℕ) → E .memory .bytes k n ≡ retiredBytes (D .memory) R k n
-    pub part-is : (g t : ℕ → ℕ) → E .memory .part g t ≡ retiredPart (D .memory) R g
-    pub form-is : (g t : ℕ → ℕ) → E .memory .form g t ≡ retiredForm (D .memory) R g
+    pub part-is : (g t : ℕ → ℕ) → E .memory .part g t ≡ retiredPart (D .memory) R g t
+    pub form-is : (g t : ℕ → ℕ) → E .memory .form g t ≡ retiredForm (D .memory) R g t
     pub told : (k : PartOf E) → old k ≡ partNow E D S k
     pub back-placement : (p : E .Placement) → R .back (R .older p) ≡ p
     pub back-serial : (x : E .Serial) → R .backSerial (R .olderSerial x) ≡ x
     pub fills : (k : PartOf E) (n : ℕ) → R .added n ≡ true → R .filled n ≡ D .memory .bytes (old k) n
-    pub no-tail : (k : PartOf E) (n : ℕ) → 0 ≡ D .memory .tail (old k) n
+    pub tails : (k : PartOf E) (g t : ℕ → ℕ) → Wrote E g t k → (n : ℕ) → n < D .memory .layout .imageTail → R .behind t n ≡ D .memory .tail (old k) n
 
   module _ (O : Over) where
     back-is : (k : PartOf E) → partBy (R .back) (λ σ. σ) (R .backSerial) (old k) ≡ k
@@ -128,15 +128,15 @@ module _ (E D : Delivery) (S : Succession E D) (R : Retirement (E .Placement) (E
           go false e = w .front n h ∙ O .bytes-are k n ∙ rw e
 
       -- the bytes are those that are written of the control part that they show
-      own : E .memory .part g t ≡ k → allBelow controlSize (λ n. eqb (g n) (retiredBytes (D .memory) R (retiredPart (D .memory) R g) n)) ≡ true
-      own e = all-below controlSize (λ n. eqb (g n) (retiredBytes (D .memory) R (retiredPart (D .memory) R g) n)) (λ n h.
-          eq-eqb (g n) (retiredBytes (D .memory) R (retiredPart (D .memory) R g) n)
+      own : E .memory .part g t ≡ k → allBelow controlSize (λ n. eqb (g n) (retiredBytes (D .memory) R (retiredPart (D .memory) R g t) n)) ≡ true
+      own e = all-below controlSize (λ n. eqb (g n) (retiredBytes (D .memory) R (retiredPart (D .memory) R g t) n)) (λ n h.
+          eq-eqb (g n) (retiredBytes (D .memory) R (retiredPart (D .memory) R g t) n)
           (w .front n h ∙ O .bytes-are k n ∙ ap (λ (x : PartOf E). retiredBytes (D .memory) R x n) (sym e ∙ O .part-is g t)))
 
-      formed-again : E .memory .part g t ≡ k → D .memory .form (shownBytes (D .memory) R g) (λ n. 0) ≡ true → retiredForm (D .memory) R g ≡ true
+      formed-again : E .memory .part g t ≡ k → D .memory .form (shownBytes (D .memory) R g) (R .behind t) ≡ true → retiredForm (D .memory) R g t ≡ true
       unfolding retiredForm
-      formed-again e f = and-in (D .memory .form (shownBytes (D .memory) R g) (λ n. 0))
-          (allBelow controlSize (λ n. eqb (g n) (retiredBytes (D .memory) R (retiredPart (D .memory) R g) n))) f (own e)
+      formed-again e f = and-in (D .memory .form (shownBytes (D .memory) R g) (R .behind t))
+          (allBelow controlSize (λ n. eqb (g n) (retiredBytes (D .memory) R (retiredPart (D .memory) R g t) n))) f (own e)
 
     pub retired-over : Retired E D S
     retired-over = record {
@@ -144,10 +144,10 @@ module _ (E D : Delivery) (S : Succession E D) (R : Retirement (E .Placement) (E
       back = partBy (R .back) (λ σ. σ) (R .backSerial);
       back-older = λ k. ap (partBy (R .back) (λ σ. σ) (R .backSerial)) (sym (O .told k)) ∙ back-is k;
       front = shownBytes (D .memory) R;
-      behind = λ t n. 0;
+      behind = R .behind;
       wrote = λ k g t w. record {
         front = λ n h. filled-is k g t w n h ∙ ap (λ (x : PartOf D). D .memory .bytes x n) (O .told k);
-        behind = λ n h. O .no-tail k n ∙ ap (λ (x : PartOf D). D .memory .tail x n) (O .told k);
+        behind = λ n h. O .tails k g t w n h ∙ ap (λ (x : PartOf D). D .memory .tail x n) (O .told k);
       };
       part = λ g t. O .part-is g t;
       form = λ k g t w e f. O .form-is g t ∙ formed-again k g t w e f;

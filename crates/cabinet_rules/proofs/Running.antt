@@ -22,7 +22,7 @@ use Rattle.cabinet_rules.specs.Delivery.{current}
 use Rattle.cabinet_rules.specs.Images.{Image, answer, controlIn, next, stateBy, stateIn, tailIn}
 use Rattle.cabinet_rules.proofs.Form.{currentLaws}
 use Rattle.cabinet_rules.proofs.FormLaws.{resting, running-form, running-inv}
-use Rattle.cabinet_rules.proofs.Lawful.{lawful}
+use Rattle.cabinet_rules.proofs.PlacingLaws.{lawful}
 use Rattle.cabinet_rules.proofs.Shows.{Shows}
 use Rattle.cabinet_rules.proofs.Legible.{Legible}
 use Rattle.cabinet_rules.proofs.Transport.{answer-legible, answer-start, run-rules, state-after, state-next, state-start}

@@ -83,7 +83,7 @@ module _ (D : Delivery) (W : DeliveryLaws D) where
         at : (j : ℕ) → j < Y .tableTail → endBy Y O c j ≡ updated (endOf D (p .stamps c)) (endBy Y g c) j
         at j h = after-end Y (D .memory .bytes (p .after)) (D .memory .tail (p .after)) (p .write) (λ c. endOf D (p .stamps c)) g c j hc h
 
-    state-plan : stateBy D O ≡ apply P p (stateBy D g)
+    pub state-plan : stateBy D O ≡ apply P p (stateBy D g)
     unfolding stateBy apply
     state-plan = state-ext D W (stateBy D O) (apply P p (stateBy D g)) (reads D W (p .after) good O (plan-wrote D p g)) (λ c b. blk c b (split (isThere c b))) (λ c. stm c (split (ltb c cardCount)))
       where

@@ -19,20 +19,23 @@ use Rattle.method.proofs.Twins.{Agreed, agreed-after, agreed-grown, agreed-next
 use Rattle.cabinet_rules.specs.ByTheRules.{noiseBy, noisedBy}
 use Rattle.cabinet_rules.specs.Cabinet.{cabinet, rulesOf, slotSeen}
 use Rattle.cabinet_rules.specs.Claims.{NoisyCallBy, imageAfter, imageAfterBy, noisyBy}
-use Rattle.cabinet_rules.specs.Converting.{longer}
-use Rattle.cabinet_rules.specs.Delivery.{Delivery, byTables, current}
-use Rattle.cabinet_rules.specs.GoesOn.{BegunBy, EarlierImage, ImageLeftBy, StoreBy, Succession, fromBase, fromRails, fromWire}
+use Rattle.cabinet_rules.specs.Converting.{longer, stampedImage}
+use Rattle.cabinet_rules.specs.Delivery.{Delivery, current, resuming}
+use Rattle.cabinet_rules.specs.GoesOn.{BegunBy, CarriedImage, EarlierImage, ImageLeftBy, StoreBy, Succession, WireImage, fromBase, fromRails, fromTables, fromWire}
 use Rattle.cabinet_rules.specs.Images.{Image, answerBy, blockIn, controlIn, next, nextBy, stateBy, stateIn}
-use Rattle.cabinet_rules.specs.Retired.{base, belowWire, twoRails}
+use Rattle.cabinet_rules.specs.Retired.{base, belowWire, byTables, twoRails}
+use Rattle.method.specs.Twins.{Twins}
 use Rattle.cabinet_rules.specs.Twins.{TwinsAgreeFromEarlier, TwinsAgreeOnImages, TwinsOn}
 use Rattle.cabinet_rules.proofs.Base.{base-carried, base-retired, baseLaws}
 use Rattle.cabinet_rules.proofs.Form.{currentLaws}
 use Rattle.cabinet_rules.proofs.GoesOn.{Carries, Follows, growthOf, keeps, legible-grown, state-grown}
-use Rattle.cabinet_rules.proofs.Lawful.{DeliveryLaws, lawful, lawfulBy}
+use Rattle.cabinet_rules.proofs.Lawful.{DeliveryLaws, lawfulBy}
+use Rattle.cabinet_rules.proofs.PlacingLaws.{lawful}
 use Rattle.cabinet_rules.proofs.Legible.{Legible, legible-noise, state-noise}
 use Rattle.cabinet_rules.proofs.Sound.{start-sound}
 use Rattle.cabinet_rules.proofs.Transport.{legible-next, state-after, state-next}
 use Rattle.cabinet_rules.proofs.TwoRails.{railLaws, rails-carried, rails-retired}
+use Rattle.cabinet_rules.proofs.Tables.{tableLaws, tables-carried, tables-retired}
 use Rattle.cabinet_rules.proofs.Wire.{wire-carried, wire-retired, wireLaws}
 
 -- ---- an image whose state has twins that agree, and stay so
@@ -93,12 +96,16 @@ rails-agreed : (g : Image) → ImageLeftBy twoRails (ImageLeftBy base (λ g. ⊥
 rails-agreed = left-agreed twoRails railLaws (ImageLeftBy base (λ g. ⊥))
     (λ g e. image-grown base twoRails fromBase (base-retired .follows) baseLaws railLaws base-carried g (base-agreed g e))
 
-wire-agreed : (g : Image) → EarlierImage g → AgreedImage belowWire wireLaws g
+wire-agreed : (g : Image) → WireImage g → AgreedImage belowWire wireLaws g
 wire-agreed = left-agreed belowWire wireLaws (ImageLeftBy twoRails (ImageLeftBy base (λ g. ⊥)))
     (λ g e. image-grown twoRails belowWire fromRails (rails-retired .follows) railLaws wireLaws rails-carried g (rails-agreed g e))
 
-pub earlier-agreed : (g : Image) → EarlierImage g → AgreedImage current currentLaws (longer g)
-earlier-agreed g e = image-grown belowWire byTables fromWire (wire-retired .follows) wireLaws currentLaws wire-carried g (wire-agreed g e)
+tables-agreed : (g : Image) → EarlierImage g → AgreedImage byTables tableLaws g
+tables-agreed = left-agreed byTables tableLaws (CarriedImage longer WireImage) (λ g e. subst (AgreedImage byTables tableLaws) (sym (e .is))
+    (image-grown belowWire byTables fromWire (wire-retired .follows) wireLaws tableLaws wire-carried (e .was) (wire-agreed (e .was) (e .left))))
+
+pub earlier-agreed : (g : Image) → EarlierImage g → AgreedImage current currentLaws (stampedImage g)
+earlier-agreed g e = image-grown byTables resuming fromTables (tables-retired .follows) tableLaws currentLaws tables-carried g (tables-agreed g e)
 
 -- ---- by the delivery in force, in the image's own terms
 block-shown : (g : Image) (c b : ℕ) → hasCard (controlIn g .working) c ≡ true → b < blockCount → stateIn g .block c b ≡ blockIn g c b
@@ -109,13 +116,16 @@ card-seen : (g : Image) (c b : ℕ) → hasCard (controlIn g .working) c ≡ tru
 unfolding stateBy
 card-seen g c b w h = and-in (hasCard (controlIn g .working) c) (ltb b blockCount) w (lt-ltb b blockCount h)
 
-pub twins-on : (g : Image) → AgreedImage current currentLaws g → TwinsOn g
-twins-on g a c d b i wc wd hb hc hd hi =
+pub twins-shown : (g : Image) → Twins cabinet (stateIn g) → TwinsOn g
+twins-shown g agree c d b i wc wd hb hc hd hi =
     let x : stateIn g .block c b ≡ blockIn g c b = block-shown g c b wc hb in
     let y : stateIn g .block d b ≡ blockIn g d b = block-shown g d b wd hb in
     ap (λ (z : BlockBytes). slotSeen z i) (sym x)
-    ∙ agreed-twins cabinet lawful (stateIn g) (a .agreed) c d b i (card-seen g c b wc hb) (card-seen g d b wd hb) (ap isHeld x ∙ hc) (ap isHeld y ∙ hd) hi
+    ∙ agree c d b i (card-seen g c b wc hb) (card-seen g d b wd hb) (ap isHeld x ∙ hc) (ap isHeld y ∙ hd) hi
     ∙ ap (λ (z : BlockBytes). slotSeen z i) y
+
+pub twins-on : (g : Image) → AgreedImage current currentLaws g → TwinsOn g
+twins-on g a = twins-shown g (agreed-twins cabinet lawful (stateIn g) (a .agreed))
 
 -- TWINS AGREE
 pub twins-agree-on-images : TwinsAgreeOnImages
@@ -126,4 +136,4 @@ twins-agree-on-images m before e l =
 -- and going on from an image that earlier deliveries left
 pub twins-agree-from-earlier : TwinsAgreeFromEarlier
 unfolding TwinsAgreeFromEarlier
-twins-agree-from-earlier g e l = twins-on (imageAfter l (longer g)) (after-agreed current currentLaws l (longer g) (earlier-agreed g e))
+twins-agree-from-earlier g e l = twins-on (imageAfter l (stampedImage g)) (after-agreed current currentLaws l (stampedImage g) (earlier-agreed g e))

@@ -28,6 +28,9 @@ same-part k = ap (λ (l : List Masked). part (k .stopped) l (k .newest) (k .work
 same-byte : (k : PartOf twoRails) (n : ℕ) → twoRails .memory .bytes k n ≡ belowWire .memory .bytes (partNow twoRails belowWire fromRails k) n
 same-byte k n = ap (λ (x : PartOf twoRails). twoRails .memory .bytes x n) (sym (same-part k))
 
+same-tail : (k : PartOf twoRails) (n : ℕ) → twoRails .memory .tail k n ≡ belowWire .memory .tail (partNow twoRails belowWire fromRails k) n
+same-tail k n = ap (λ (x : PartOf twoRails). twoRails .memory .tail x n) (sym (same-part k))
+
 pub rails-retired : Retired twoRails belowWire fromRails
 rails-retired = record {
   follows = record { same-mask = λ p. refl; same-sites = λ p b. refl; still-usable = λ p h. h; still-numbered = λ k h n. tt };
@@ -35,13 +38,13 @@ rails-retired = record {
   back-older = same-part;
   front = λ g. g;
   behind = λ t. t;
-  wrote = λ k g t w. record { front = λ n h. w .front n h ∙ same-byte k n; behind = w .behind };
+  wrote = λ k g t w. record { front = λ n h. w .front n h ∙ same-byte k n; behind = λ n h. w .behind n h ∙ same-tail k n };
   part = λ g t. refl;
   form = λ k g t w r e. e;
 }
 
 pub rails-carried : Carries twoRails belowWire fromRails wireLaws
-rails-carried = carries-same twoRails belowWire fromRails wireLaws (λ g. refl) refl (λ k n h. same-byte k n) (λ k n h. refl) (λ g c h. refl) (λ g c h. refl)
+rails-carried = carries-same twoRails belowWire fromRails wireLaws (λ g. refl) refl (λ k n h. same-byte k n) (λ k n h. same-tail k n) (λ g c h. refl) (λ g c h. refl)
 
 abbrev pub railLaws : DeliveryLaws twoRails
 railLaws = record {

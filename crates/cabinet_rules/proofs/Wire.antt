@@ -1,29 +1,29 @@
 -- The delivery of A.5 meets what is asked of a delivery; A.6 retired it, its memory is written over that of A.6, and a converter carries its stores over:
--- an older image at its length of today has the same bytes, and nothing behind the tables, as A.6 writes for placements without a table. Assumes nothing.
+-- an older image at the length of A.6 has the same bytes, and nothing behind the tables, as A.6 writes for placements without a table. Assumes nothing.
 use Prim.Native.Nat.{_%_, _+_, _/_, _<_, suc, zero, ℕ}
 use borrow.Author.Tests.{le-ltb, lt-ltb}
 use lib.ListN.{getD, length}
 use mathlib.Core.Bool.{Bool, false, true}
 use mathlib.Core.List.{List, [], _∷_, _++_, map}
-use mathlib.Core.Path.{_∙_, _≡_, ap, refl, sym}
+use mathlib.Core.Path.{_∙_, _≡_, refl, sym}
 use native.Mathlib.Omega.{arith}
 use Rattle.lists.proofs.Bools.{tf}
 use Rattle.lists.proofs.Tabulate.{at-tabulate, length-tabulate}
-use Rattle.image.specs.Layout.{blockAddressOf, imageSize, pairsSize, tailSize, tailStart}
-use Rattle.mask.specs.Placements.{Masked, Placement, choiceOf, isByRails, isByTable, placed}
+use Rattle.image.specs.Layout.{blockAddressOf, pairsSize, tailSize, tailStartOf}
+use Rattle.mask.specs.Placements.{Masked, choiceOf, isByRails, isByTable, placed}
 use Rattle.mask.proofs.SiteLaws.{placed-sites, placed-usable}
 use Rattle.slot.proofs.Blocks.{block-ext, byte-in}
-use Rattle.control.specs.ControlBytes.{keptOf, tailByte, tailOf}
-use Rattle.control.proofs.Front.{map-append}
+use Rattle.control.specs.ControlBytes.{keptOf, tailOf}
 use Rattle.control.proofs.Tail.{kept-bare}
-use Rattle.cabinet_rules.specs.Converting.{longer, longerByte, olderSize}
-use Rattle.cabinet_rules.specs.Delivery.{PartOf, byTables, storable}
+use Rattle.cabinet_rules.specs.Converting.{longer, longerByte, olderSize, pairsImageSize}
+use Rattle.cabinet_rules.specs.Delivery.{PartOf, storable}
 use Rattle.cabinet_rules.specs.GoesOn.{fromWire, partNow}
 use Rattle.cabinet_rules.specs.Images.{Image, blockBy}
-use Rattle.cabinet_rules.specs.Retired.{bare, beforeTables, belowWire}
-use Rattle.cabinet_rules.proofs.Form.{tableLaws}
+use Rattle.cabinet_rules.specs.Retired.{bare, beforeTables, belowWire, byTables, pairsBehind}
+use Rattle.cabinet_rules.proofs.Tables.{tableLaws}
 use Rattle.cabinet_rules.proofs.GoesOn.{Carries}
-use Rattle.cabinet_rules.proofs.Lawful.{DeliveryLaws, RuleLaws, no-stamps, railedRules, storable-fits}
+use Rattle.cabinet_rules.proofs.Lawful.{DeliveryLaws, RuleLaws, no-stamps, railedRules}
+use Rattle.cabinet_rules.proofs.PlacingLaws.{storable-fits}
 use Rattle.cabinet_rules.proofs.Retired.{Retired, retired-control, retired-over}
 
 pub wireRules : RuleLaws belowWire
@@ -42,15 +42,15 @@ not-by-table true = refl
 not-by-table false = refl
 
 -- nothing is kept for them
-none-kept : (l : List Masked) (i j : ℕ) → keptOf (map placed l) i j ≡ 0
-none-kept [] i j = refl
-none-kept (q ∷ l) zero j = kept-bare (choiceOf (q .byRails)) j (not-by-table (q .byRails))
-none-kept (q ∷ l) (suc i) j = none-kept l i j
+none-kept : (l : List Masked) (q : Masked) (i j : ℕ) → keptOf (map (λ p. p) (map placed l) ++ (placed q ∷ [])) i j ≡ 0
+none-kept [] q zero j = kept-bare (choiceOf (q .byRails)) j (not-by-table (q .byRails))
+none-kept [] q (suc i) j = refl
+none-kept (p ∷ l) q zero j = kept-bare (choiceOf (p .byRails)) j (not-by-table (p .byRails))
+none-kept (p ∷ l) q (suc i) j = none-kept l q i j
 
-no-tail : (k : PartOf belowWire) (n : ℕ) → 0 ≡ tailByte (partNow belowWire byTables fromWire k) n
+no-tail : (k : PartOf belowWire) (n : ℕ) → 0 ≡ byTables .memory .tail (partNow belowWire byTables fromWire k) n
 unfolding tailOf
-no-tail k n = sym (ap (λ (l : List Placement). keptOf l (n / pairsSize) (n % pairsSize)) (sym (map-append placed (k .older) (k .newest ∷ [])))
-    ∙ none-kept (k .older ++ (k .newest ∷ [])) (n / pairsSize) (n % pairsSize))
+no-tail k n = sym (none-kept (k .older) (k .newest) (n / pairsSize) (n % pairsSize))
 
 pub wire-retired : Retired belowWire byTables fromWire
 wire-retired = retired-over belowWire byTables fromWire beforeTables (record {
@@ -62,7 +62,7 @@ wire-retired = retired-over belowWire byTables fromWire beforeTables (record {
   back-placement = placed-back;
   back-serial = λ ν. refl;
   fills = λ k n e. tf false e refl;
-  no-tail = no-tail;
+  tails = λ k g t w n h. no-tail k n;
 })
 
 abbrev pub wireLaws : DeliveryLaws belowWire
@@ -75,15 +75,15 @@ wireLaws = record {
 -- ---- the converter
 pub longer-at : (g : Image) (n : ℕ) → n < olderSize → getD (longer g) n 0 ≡ getD g n 0
 unfolding longer
-longer-at g n h = at-tabulate imageSize (longerByte g) n (omega arith) ∙ rw (lt-ltb n olderSize h)
+longer-at g n h = at-tabulate pairsImageSize (longerByte g) n (omega arith) ∙ rw (lt-ltb n olderSize h)
 
-pub longer-behind : (g : Image) (n : ℕ) → n < tailSize → getD (longer g) (tailStart + n) 0 ≡ 0
+pub longer-behind : (g : Image) (n : ℕ) → n < tailSize → getD (longer g) (tailStartOf pairsBehind + n) 0 ≡ 0
 unfolding longer
-longer-behind g n h = at-tabulate imageSize (longerByte g) (tailStart + n) (omega arith) ∙ rw (le-ltb (tailStart + n) olderSize (omega arith))
+longer-behind g n h = at-tabulate pairsImageSize (longerByte g) (tailStartOf pairsBehind + n) (omega arith) ∙ rw (le-ltb (tailStartOf pairsBehind + n) olderSize (omega arith))
 
-pub length-longer : (g : Image) → length (longer g) ≡ imageSize
+pub length-longer : (g : Image) → length (longer g) ≡ pairsImageSize
 unfolding longer
-length-longer g = length-tabulate imageSize (longerByte g)
+length-longer g = length-tabulate pairsImageSize (longerByte g)
 
 pub wire-carried : Carries belowWire byTables fromWire tableLaws
 wire-carried = record {

@@ -1,15 +1,18 @@
 -- What the deliveries of this cabinet differ in, and the one in force. Assumes nothing.
-use Prim.Native.Nat.{ℕ}
+use Prim.Native.Nat.{_+_, _≤_, suc, ℕ}
 use lib.Dec.{ltb}
-use mathlib.Core.Bool.{Bool, false, true}
+use lib.ListN.{length}
+use mathlib.Core.Bool.{Bool, true}
 use mathlib.Core.List.{List}
 use Rattle.image.specs.Layout.{Layout, layout as currentLayout}
-use Rattle.mask.specs.Masks.{Byte}
+use Rattle.mask.specs.Masks.{Byte, size}
 use Rattle.mask.specs.Placements.{Placement, Usable, fromMask, sitesOf}
 use Rattle.method.specs.ControlPart.{ControlPart}
-use Rattle.control.specs.ControlBytes.{Serial, Setting, controlByte, controlOf, tailByte}
+use Rattle.control.specs.ControlBytes.{Part, Serial, Setting, controlByte, controlOf, tailByte}
+use Rattle.control.specs.Serials.{serialMost}
+use Rattle.control.specs.Stamps.{Stamp, noStamp, sameStamp, stampByte, stampIn, stampOf}
 use Rattle.control_form.specs.ControlForm.{formOk}
-use Rattle.cabinet_rules.specs.Places.{PlaceArgument, argumentInRange, argumentRows, placementOf}
+use Rattle.cabinet_rules.specs.Places.{PlaceArgument, argumentInRange, argumentRows, isSpent, placementOf}
 
 -- How an image keeps a store: the layout, the control bytes that are written, at the front and behind the tables, the
 -- control part that such bytes show, and their control form.
@@ -64,44 +67,49 @@ brokenWire = 65535
 abbrev pub storable : ℕ → Bool
 storable n = ltb n brokenWire
 
--- ---- A.6, the delivery in force
--- The control bytes are those of the code, before and behind the tables; a card has no stamp.
-abbrev pub tableMemory : Memory Placement Serial
-tableMemory = record {
+-- ---- A.7, the delivery in force
+-- The control bytes are those of the code, before and behind the tables, and so are the four bytes of a card's stamp.
+abbrev pub stampMemory : Memory Placement Serial
+stampMemory = record {
   layout = currentLayout;
   bytes = controlByte;
   tail = tailByte;
   part = controlOf;
   form = formOk;
-  Stamp = Unit {0};
-  noStamp = tt;
-  stampOf = λ k. tt;
-  stampBytes = λ m j. 0;
-  stampIn = λ g. tt;
-  sameStamp = λ m n. true;
+  Stamp = Stamp;
+  noStamp = noStamp;
+  stampOf = stampOf;
+  stampBytes = stampByte;
+  stampIn = stampIn;
+  sameStamp = sameStamp;
 }
 
+-- What the control form asks of the serial.
+pub record Numbered (k : Part) : Type 0 where
+  pub counted : suc (length (k .older)) ≤ k .serial
+  pub few : k .serial + size (k .newest .mask) ≤ serialMost
+
 -- Sites are by the placement's own choice. Start and fail place by rails; place does so with a mask, and by table with
--- lines.
-abbrev pub byTables : Delivery
-byTables = record {
+-- lines. A store that stopped marks cards that fail, and goes on with cards that are returned.
+abbrev pub resuming : Delivery
+resuming = record {
   Placement = Placement;
   mask = λ p. p .mask;
   sites = sitesOf;
   usable = Usable;
   fromMask = fromMask;
   Serial = Serial;
-  firstSerial = tt;
-  nextSerial = λ ν. tt;
-  numbered = λ k. Unit {0};
+  firstSerial = 1;
+  nextSerial = suc;
+  numbered = Numbered;
   PlaceArgument = PlaceArgument;
   places = λ newest a. placementOf a;
   placeInRange = argumentInRange;
-  placeRefusal = argumentRows;
-  marksWhileStopped = false;
+  placeRefusal = argumentRows isSpent;
+  marksWhileStopped = true;
   valueInRange = storable;
-  memory = tableMemory;
+  memory = stampMemory;
 }
 
 abbrev pub current : Delivery
-current = byTables
+current = resuming

@@ -16,9 +16,9 @@ use Rattle.control_form.specs.ControlForm.{formRefusal}
 use Rattle.cabinet_rules.specs.Cabinet.{cabinet, rulesOf}
 use Rattle.cabinet_rules.specs.Claims.{NoStopBy, NoisyCall, NoisyCallBy, imageAfter, imageAfterBy, imageCalls}
 use Rattle.cabinet_rules.specs.Claims.{imageCallsBy, runImage}
-use Rattle.cabinet_rules.specs.Converting.{convertRefusal, longer}
-use Rattle.cabinet_rules.specs.Delivery.{Delivery, PartOf, byTables, current}
-use Rattle.cabinet_rules.specs.Retired.{base, belowWire, twoRails}
+use Rattle.cabinet_rules.specs.Converting.{convertRefusal, firstStamps, longer, pairsImageSize, stampedImage}
+use Rattle.cabinet_rules.specs.Delivery.{Delivery, PartOf, current, resuming}
+use Rattle.cabinet_rules.specs.Retired.{base, belowWire, byTables, convertedSerial, twoRails}
 use Rattle.cabinet_rules.specs.Images.{Image, answerBy, nextBy}
 
 -- ---- a store by a delivery
@@ -129,16 +129,42 @@ fromWire = record { older = placed; olderSerial = λ ν. ν; olderStamps = λ k 
 abbrev pub BeforeTables : StoreBy byTables → Type 0
 BeforeTables = TakenOver belowWire byTables fromWire LeftByWire
 
+-- Those that calls by A.6 left.
+abbrev pub LeftByTables : StoreBy byTables → Type 0
+LeftByTables = LeftBy byTables BeforeTables
+
+-- Those that A.7 has from the earlier ones: their control part has a serial and their working cards have stamps, since the
+-- converter wrote them.
+abbrev pub fromTables : Succession byTables resuming
+fromTables = record {
+  older = λ p. p;
+  olderSerial = λ ν. convertedSerial;
+  olderStamps = λ k m. firstStamps k;
+  carry = stampedImage;
+}
+
+abbrev pub BeforeStamps : StoreBy resuming → Type 0
+BeforeStamps = TakenOver byTables resuming fromTables LeftByTables
+
 -- Those that the delivery in force has from the earlier ones.
 abbrev pub Store : Type 0
 Store = StoreBy current
 
 abbrev pub Earlier : Store → Type 0
-Earlier = BeforeTables
+Earlier = BeforeStamps
 
--- The images that the earlier ones left, of running and of stopped stores.
+-- ---- images that the earlier ones left, of running and of stopped stores
+abbrev pub WireImage : Image → Type 0
+WireImage = ImageLeftBy belowWire (ImageLeftBy twoRails (ImageLeftBy base (λ g. ⊥)))
+
+-- An image that a converter made of one of these.
+pub record CarriedImage (carry : Image → Image) (Left : Image → Type 0) (g : Image) : Type 0 where
+  pub was : Image
+  pub left : Left was
+  pub is : g ≡ carry was
+
 abbrev pub EarlierImage : Image → Type 0
-EarlierImage = ImageLeftBy belowWire (ImageLeftBy twoRails (ImageLeftBy base (λ g. ⊥)))
+EarlierImage = ImageLeftBy byTables (CarriedImage longer WireImage)
 
 -- DEMAND 3, going on from a store that earlier deliveries left: the calls since are answered as by the plain record list
 -- that was fed all calls.
@@ -148,8 +174,10 @@ GoesOnFromEarlier = (s : Store) → Earlier s → (l : List NoisyCall)
 
 -- There too refusals 1 and 2 never come again, whether the store runs or has stopped, by earlier calls or since.
 unfoldable pub FormStaysFromEarlier : Type 0
-FormStaysFromEarlier = (g : Image) → EarlierImage g → (l : List NoisyCall) → formRefusal (imageAfter l (longer g)) ≡ 0
+FormStaysFromEarlier = (g : Image) → EarlierImage g → (l : List NoisyCall) → formRefusal (imageAfter l (stampedImage g)) ≡ 0
 
--- And the converter takes them all.
+-- And each converter takes them all.
 unfoldable pub ConvertsEarlier : Type 0
-ConvertsEarlier = (g buffer : Image) → EarlierImage g → length buffer ≡ imageSize → convertRefusal g buffer ≡ 0
+ConvertsEarlier =
+    ((g buffer : Image) → WireImage g → length buffer ≡ pairsImageSize → convertRefusal belowWire byTables longer g buffer ≡ 0)
+    × ((g buffer : Image) → EarlierImage g → length buffer ≡ imageSize → convertRefusal byTables resuming stampedImage g buffer ≡ 0)

@@ -12,3 +12,6 @@ pub mod BrokenWire
 pub mod Protection
 pub mod MoveLists
 pub mod Twins
+pub mod Returns
+pub mod ThroughStops
+pub mod ComesBack

@@ -10,7 +10,7 @@ use Rattle.slot.specs.Blocks.{isHeld}
 use Rattle.method.specs.Rules.{ok, start}
 use Rattle.cabinet_rules.specs.Cabinet.{slotSeen}
 use Rattle.cabinet_rules.specs.Claims.{NoisyCall, imageAfter}
-use Rattle.cabinet_rules.specs.Converting.{longer}
+use Rattle.cabinet_rules.specs.Converting.{stampedImage}
 use Rattle.cabinet_rules.specs.GoesOn.{EarlierImage}
 use Rattle.cabinet_rules.specs.Images.{Image, answer, blockIn, controlIn, next}
 
@@ -27,4 +27,4 @@ TwinsAgreeOnImages = (m : Byte) (before : Image) → answer (start m) before ≡
 
 -- After any list of calls on a converted image that earlier deliveries left, of a running or of a stopped store.
 unfoldable pub TwinsAgreeFromEarlier : Type 0
-TwinsAgreeFromEarlier = (g : Image) → EarlierImage g → (l : List NoisyCall) → TwinsOn (imageAfter l (longer g))
+TwinsAgreeFromEarlier = (g : Image) → EarlierImage g → (l : List NoisyCall) → TwinsOn (imageAfter l (stampedImage g))

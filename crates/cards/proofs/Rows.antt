@@ -21,7 +21,8 @@ use Rattle.control.proofs.Front.{active-front}
 use Rattle.control.specs.Meaning.{Counted, meaning, placementIn}
 use Rattle.control.proofs.Struct.{active-is, length-placements}
 use Rattle.cabinet_rules.specs.Cabinet.{cabinet, placeRows}
-use Rattle.cabinet_rules.specs.Places.{againByRails, byMask, placedRow}
+use Rattle.control.specs.Serials.{serialLimit}
+use Rattle.cabinet_rules.specs.Places.{againByRails, byMask, isSpent, placedRow}
 use Rattle.promise.specs.Rows.{cardRows}
 use Rattle.promise.proofs.SharedRows.{card-accepted}
 use Rattle.tables.specs.Tables.{setOf}
@@ -73,7 +74,7 @@ module _ (k : Part) where
   pub place-front : (m : Byte) → rowsOf (place (byMask m)) (frontPart k) ≡ rowsOf (place (byMask m)) k
   unfolding refusal placeRows placedRow
   place-front m = ap₂ (λ (r : Bool) (n : ℕ). row 4 (k .stopped)
-      (row 9 (ltb (size m) leastMembers || (not (isWithin m (k .working)) || (r && eqb (m .0) (k .newest .mask .0)))) (row 10 (leb mostPlaced n) 0)))
+      (row 9 (ltb (size m) leastMembers || (not (isWithin m (k .working)) || (r && eqb (m .0) (k .newest .mask .0)))) (row 10 (leb mostPlaced n) (row 20 (isSpent (k .serial)) 0))))
       (rails-front (k .newest .choice)) count-front
 
 -- ---- by the code's tests
@@ -118,38 +119,41 @@ module _ (k : Struct) (c : Counted k) (m : ℕ) where
   few = ltb (size (byte m)) leastMembers
 
   -- the rows over the tests in the code's values
-  by-tests : row 4 (k .stopped) (row 9 (few || (not works || again)) (row 10 (leb mostPlaced (k .count)) 0)) ≡ rowsOf (place (byMask (byte m))) (meaning k)
+  by-tests : row 4 (k .stopped) (row 9 (few || (not works || again)) (row 10 (leb mostPlaced (k .count)) (row 20 (isSpent (k .serial)) 0))) ≡ rowsOf (place (byMask (byte m))) (meaning k)
   unfolding refusal placeRows placedRow meaning
   by-tests =
-      ap (λ (n : ℕ). row 4 (k .stopped) (row 9 (few || (not works || again)) (row 10 (leb mostPlaced n) 0))) (sym count-is)
+      ap (λ (n : ℕ). row 4 (k .stopped) (row 9 (few || (not works || again)) (row 10 (leb mostPlaced n) (row 20 (isSpent (k .serial)) 0)))) (sym count-is)
     where
       count-is : length (placementsIn (placementIn k) (k .count - 1) ++ (placementIn k (k .count - 1) ∷ [])) ≡ k .count
       count-is = ap length (active-is k c) ∙ length-placements (placementIn k) (k .count)
 
-  tests-at : (s u w a f : Bool) → k .stopped ≡ s → few ≡ u → works ≡ w → again ≡ a → leb mostPlaced (k .count) ≡ f
-      → row 4 s (row 9 (u || (not w || a)) (row 10 f 0)) ≡ rowsOf (place (byMask (byte m))) (meaning k)
-  tests-at s u w a f es eu ew ea ef = rw (sym es, sym eu, sym ew, sym ea, sym ef) by-tests
+  tests-at : (s u w a f p : Bool) → k .stopped ≡ s → few ≡ u → works ≡ w → again ≡ a → leb mostPlaced (k .count) ≡ f → isSpent (k .serial) ≡ p
+      → row 4 s (row 9 (u || (not w || a)) (row 10 f (row 20 p 0))) ≡ rowsOf (place (byMask (byte m))) (meaning k)
+  tests-at s u w a f p es eu ew ea ef ep = rw (sym es, sym eu, sym ew, sym ea, sym ef, sym ep) by-tests
 
   pub says-4 : k .stopped ≡ true → 4 ≡ rowsOf (place (byMask (byte m))) (meaning k)
-  says-4 es = tests-at true few works again _ es refl refl refl refl
+  says-4 es = tests-at true few works again _ _ es refl refl refl refl refl
 
   module _ (run : k .stopped ≡ false) where
     pub few-says-9 : few ≡ true → 9 ≡ rowsOf (place (byMask (byte m))) (meaning k)
-    few-says-9 eu = tests-at false true works again _ run eu refl refl refl
+    few-says-9 eu = tests-at false true works again _ _ run eu refl refl refl refl
 
     module _ (eu : few ≡ false) where
       pub idle-says-9 : works ≡ false → 9 ≡ rowsOf (place (byMask (byte m))) (meaning k)
-      idle-says-9 ew = tests-at false false false again _ run eu ew refl refl
+      idle-says-9 ew = tests-at false false false again _ _ run eu ew refl refl refl
 
       module _ (ew : works ≡ true) where
         pub again-says-9 : again ≡ true → 9 ≡ rowsOf (place (byMask (byte m))) (meaning k)
-        again-says-9 ea = tests-at false false true true _ run eu ew ea refl
+        again-says-9 ea = tests-at false false true true _ _ run eu ew ea refl refl
 
         pub full-says-10 : again ≡ false → mostPlaced ≤ k .count → 10 ≡ rowsOf (place (byMask (byte m))) (meaning k)
-        full-says-10 ea h = tests-at false false true false true run eu ew ea (le-leb mostPlaced (k .count) h)
+        full-says-10 ea h = tests-at false false true false true _ run eu ew ea (le-leb mostPlaced (k .count) h) refl
 
-        pub room-says-0 : again ≡ false → k .count < mostPlaced → 0 ≡ rowsOf (place (byMask (byte m))) (meaning k)
-        room-says-0 ea h = tests-at false false true false false run eu ew ea (lt-leb mostPlaced (k .count) h)
+        pub spent-says-20 : again ≡ false → k .count < mostPlaced → serialLimit ≤ k .serial → 20 ≡ rowsOf (place (byMask (byte m))) (meaning k)
+        spent-says-20 ea h l = tests-at false false true false false true run eu ew ea (lt-leb mostPlaced (k .count) h) (le-leb serialLimit (k .serial) l)
+
+        pub room-says-0 : again ≡ false → k .count < mostPlaced → k .serial < serialLimit → 0 ≡ rowsOf (place (byMask (byte m))) (meaning k)
+        room-says-0 ea h l = tests-at false false true false false false run eu ew ea (lt-leb mostPlaced (k .count) h) (lt-leb serialLimit (k .serial) l)
 
 -- ---- what an accepted call has shown
 pub fit-range : (k : Part) (c : ℕ) → 0 ≡ rowsOf (fit c) k → c < cardCount

@@ -3,7 +3,7 @@ ghost use mathlib.Core.Path.{_≡_};
 ghost use Prim.Native.Nat.{_<_};
 ghost use Rattle.image.specs.Layout.{cardCount};
 ghost use Rattle.image.specs.Parts.{Whole};
-ghost use Rattle.method.specs.Rules.{clearCard, inActive, refusal, fit, withdraw, place};
+ghost use Rattle.method.specs.Rules.{inActive, refusal, fit, withdraw, place};
 ghost use Rattle.method.specs.PlainList.{noBlocks};
 ghost use Rattle.mask.specs.Masks.{byte};
 ghost use Rattle.control.specs.Meaning.{Counted, meaning, putControl};
@@ -11,14 +11,16 @@ ghost use Rattle.cabinet_rules.specs.Cabinet.{cabinet};
 ghost use Rattle.cabinet_rules.specs.Places.{againByRails, byMask};
 ghost use Rattle.promise.specs.Promise.{Done, asked};
 ghost use Rattle.promise.specs.declared.Call.{Call};
-ghost use Rattle.promise.specs.Laid.{laid};
+ghost use Rattle.cards.specs.Emptied.{emptied};
 use control::Control;
 use control::codec;
+use control::serials;
+use control::stamps;
 use image::Card;
 use mask::Placement;
 use promise::Answer;
 
-// All zero, then the mask's cards work and are the one placement. Older contents are not examined.
+// All zero, then the mask's cards work, are the one placement and have its stamp. Older contents are not examined.
 pub fn start(image: &mut [u8], mask: u8) -> Answer
     ensures { λ r. ⌜ Done (asked (Call.Start mask)) (now (image .entry)) r (now (image .exit)) ⌝ }
 {
@@ -29,7 +31,9 @@ pub fn start(image: &mut [u8], mask: u8) -> Answer
         return Answer::Refused(9);
     }
     image::clear(image);
-    codec::write(image, Control::started(mask));
+    let k = Control::started(mask);
+    codec::write(image, k);
+    stamps::put_all(image, k.working, k.serial, mask);
     Answer::Ok
 }
 
@@ -49,12 +53,11 @@ fn in_active(k: Control, card: Card) -> bool
     false
 }
 
-// The card's table is zeroed, and then the control part is written.
+// The card's table is zeroed, its stamp too, and then the control part is written.
 fn empty_card(image: &mut [u8], card: Card, after: Control)
     requires { ⌜ Whole (now image) × (card .0 < cardCount) ⌝ }
     requires { ⌜ Counted after ⌝ }
-    ensures { λ _. ⌜ now (image .exit)
-        ≡ putControl (laid (clearCard cabinet (card .0)) (now (image .entry))) (meaning after) ⌝ }
+    ensures { λ _. ⌜ now (image .exit) ≡ putControl (emptied (card .0) (now (image .entry))) (meaning after) ⌝ }
 {
     image::clear_table(image, card);
     codec::write(image, after);
@@ -163,10 +166,13 @@ fn place_refusal(k: Control, mask: u8) -> u8
     if k.count >= image::MOST_PLACED {
         return 10;
     }
+    if k.serial >= serials::LIMIT {
+        return 20;
+    }
     0
 }
 
-// The mask becomes the newest placement, by rails.
+// The mask becomes the newest placement, by rails, and every working card gets its stamp.
 pub fn place(image: &mut [u8], mask: u8) -> Answer
     ensures { λ r. ⌜ Done (asked (Call.Place mask)) (now (image .entry)) r (now (image .exit)) ⌝ }
 {
@@ -179,6 +185,8 @@ pub fn place(image: &mut [u8], mask: u8) -> Answer
     if refusal != 0 {
         return Answer::Refused(refusal);
     }
-    codec::write(image, k.add(mask));
+    let added = k.add(mask);
+    codec::write(image, added);
+    stamps::put_all(image, added.working, added.serial, mask);
     Answer::Ok
 }

@@ -14,7 +14,8 @@ use Rattle.promise.specs.Promise.{Done, shown}
 use Rattle.promise.specs.declared.Answer.{Answer as AnswerValue}
 use Rattle.promise.specs.declared.Answer.the-variants.{Placed}
 use Rattle.command.specs.Meaning.{Obeyed}
-use Rattle.codes.specs.Codes.{Coded, CodedCommand, OneNumberEach, answerNumber, codeOf, coded, kindOf, numberRange}
+use Rattle.returns.specs.Promise.{ReturnDone}
+use Rattle.codes.specs.Codes.{Coded, CodedCommand, CodedReturn, OneNumberEach, answerNumber, codeOf, coded, kindOf, numberRange}
 
 -- ---- codes
 kind-back : (k n : ℕ) → n < numberRange → coded k n / numberRange ≡ k
@@ -80,6 +81,9 @@ placed-code m h =
 -- ---- the functions
 pub coded-done : {c : Call cabinet} {g h : Image} {a : AnswerValue} {n : ℕ} → Done c g a h → n ≡ codeOf (shown a) → Coded c g n h
 coded-done d e = record { answers = e ∙ ap codeOf (d .answers); leaves = d .leaves }
+
+pub coded-return : {c : ℕ} {g h : Image} {a : AnswerValue} {n : ℕ} → ReturnDone c g a h → n ≡ codeOf (shown a) → CodedReturn c g n h
+coded-return d e = record { answers = e ∙ ap codeOf (d .answers); leaves = d .leaves }
 
 pub coded-obeyed : {l : List ℕ} {g h : Image} {a : AnswerValue} {n : ℕ} → Obeyed l g a h → n ≡ codeOf (shown a) → CodedCommand l g n h
 coded-obeyed d e = record { answers = e ∙ ap codeOf (d .answers); leaves = d .leaves }

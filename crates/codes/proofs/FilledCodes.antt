@@ -3,6 +3,7 @@ use Prim.Native.Nat.{ℕ}
 use mathlib.Core.Path.{_∙_, _≡_, ap}
 use native.Mathlib.Omega.{arith}
 use Rattle.cabinet_rules.specs.Converting.{Filling, unfilled, written}
+use Rattle.cabinet_rules.specs.Delivery.{Delivery}
 use Rattle.cabinet_rules.specs.Images.{Image}
 use Rattle.converter.specs.Promise.{ConvertDone}
 use Rattle.promise.specs.Promise.{shownFilled}
@@ -20,6 +21,6 @@ same (unfilled n) (unfilled m) k e = ap (λ (x : ℕ). unfilled x) e
 pub one-filled-code-each : OneFilledCodeEach
 one-filled-code-each a b h k e = same a b (omega (arith, e, h, k)) (omega (arith, e, h, k))
 
-pub coded-conversion : {older lent left : Image} {a : FilledValue} {code : ℕ} → ConvertDone older lent a left → code ≡ filledCode (shownFilled a)
-    → CodedConversion older lent code left
+pub coded-conversion : {E D : Delivery} {carry : Image → Image} {older lent left : Image} {a : FilledValue} {code : ℕ} → ConvertDone E D carry older lent a left
+    → code ≡ filledCode (shownFilled a) → CodedConversion E D carry older lent code left
 coded-conversion d e = record { answers = e ∙ ap filledCode (d .answers); leaves = d .leaves }

@@ -6,6 +6,7 @@ use Rattle.method.specs.Rules.{Answer, Call, absent, copied, loaded, ok, placed
 use Rattle.method.specs.Rules.{unplaced, unprotected, value}
 use Rattle.cabinet_rules.specs.Cabinet.{cabinet}
 use Rattle.cabinet_rules.specs.Images.{Image, answer, next}
+use Rattle.cabinet_rules.specs.Returns.{afterReturnOn, answerToReturn}
 use Rattle.command.specs.Meaning.{commandAnswer, commandNext}
 
 -- The kind of each answer, and its number: 0 where it has none. Kinds 11 and 12 are of the move list (ListCodes), 12 and 13 of
@@ -57,6 +58,11 @@ OneNumberEach =
 pub record Coded (c : Call cabinet) (before : Image) (code : ℕ) (behind : Image) : Type 0 where
   pub answers : code ≡ codeOf (answer c before)
   pub leaves : behind ≡ next c before
+
+-- The return of a card on an image was answered with this code and left the image behind.
+pub record CodedReturn (c : ℕ) (before : Image) (code : ℕ) (behind : Image) : Type 0 where
+  pub answers : code ≡ codeOf (answerToReturn c before)
+  pub leaves : behind ≡ afterReturnOn c before
 
 -- The bytes of a command on an image were answered with this code and left the image behind.
 pub record CodedCommand (l : List ℕ) (before : Image) (code : ℕ) (behind : Image) : Type 0 where

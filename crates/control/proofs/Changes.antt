@@ -16,7 +16,7 @@ use Rattle.image.specs.Layout.{cardCount, mostActive, tranBound, tranCount}
 use Rattle.mask.specs.Masks.{Byte, bitOf, byte, noCards}
 use Rattle.mask.specs.Pairs.{noPairs}
 use Rattle.mask.specs.Placements.{Choice, Placement, byTable, fromMask, isByRails}
-use Rattle.method.specs.ControlPart.{active, isCard, begunAt, started, withHome, withCards, withPlacements, opened, closed, added, onlyNewest, halted}
+use Rattle.method.specs.ControlPart.{active, isCard, begunAt, started, withHome, withCards, withPlacements, opened, closed, added, onlyNewest, halted, part}
 use Rattle.control.specs.ControlBytes.{chosenBy, field, fieldBound, homeIn, homeOf, keptAs, markIn, openBit, placementsIn, tableMarkIn}
 use Rattle.control.specs.Meaning.{cleanMarks, placementIn, meaning, newestMask, keptHome, Counted, Is}
 use Rattle.control.specs.declared.Control.{Control}
@@ -53,7 +53,7 @@ kept-home c b = go (isCard (homeIn b) c)
 
 -- Other homes; other working and failed cards: all else as it was.
 abbrev pub withHomes : Control → List ℕ → Control
-withHomes k l = record { stopped = k .stopped; count = k .count; masks = k .masks; working = k .working; failed = k .failed; marks = k .marks; homes = l }
+withHomes k l = record { stopped = k .stopped; count = k .count; masks = k .masks; working = k .working; failed = k .failed; marks = k .marks; homes = l; serial = k .serial }
 
 module _ (k : Control) (w : Counted k) where
   homes-are : (l : List ℕ) (f : ℕ → Option ℕ) → ((t : ℕ) → homeOf t (getD l (t - 1) 0) ≡ f t) → Is (withHomes k l) (withHome (meaning k) f)
@@ -90,8 +90,8 @@ module _ (k : Control) (w : Counted k) where
           let b : t < tranBound = ltb-true t tranBound (and-r (ltb 0 t) (ltb t tranBound) e) in
           rw e (ap homeIn (same (t - 1) (omega arith)) ∙ kept-home c (getD (k .homes) (t - 1) 0))
 
-  -- a placement is added: its mask and its marks, which keep the kinds of the others
-  module _ (m marks : ℕ) (n : length (k .masks) ≡ mostActive) (h : k .count < mostActive) (p : Placement)
+  -- a placement is added: its mask, its marks, which keep the kinds of the others, and its serial
+  module _ (m marks ν : ℕ) (next : ν ≡ suc (k .serial)) (n : length (k .masks) ≡ mostActive) (h : k .count < mostActive) (p : Placement)
       (new : keptAs (k .count) m marks noPairs ≡ p)
       (same : (i : ℕ) → i < k .count → chosenBy (tableMarkIn marks i) (markIn marks i) noPairs ≡ chosenBy (tableMarkIn (k .marks) i) (markIn (k .marks) i) noPairs) where
     masks : List ℕ
@@ -122,12 +122,18 @@ module _ (k : Control) (w : Counted k) where
       failed = k .failed;
       marks = marks;
       homes = k .homes;
+      serial = ν;
     })
-        (added (meaning k) p tt)
+        (added (meaning k) p (suc (k .serial)))
     unfolding meaning masks
-    more-is = record { counted = record { some = omega arith; few = omega arith }; means = ap₂ (withPlacements (meaning k)) old last }
+    more-is = record {
+      counted = record { some = omega arith; few = omega arith };
+      means = ap₂ (λ (o : List Placement) (n : Placement). part (k .stopped) o n (byte (k .working)) (byte (k .failed)) (meaning k .home) tt ν) old last
+          ∙ ap (added (meaning k) p) next;
+    }
 
-  module _ (m marks : ℕ) (n : length (k .masks) ≡ mostActive) (h : k .count < mostActive) (byte-marks : k .marks < 256) (clean : marks ≡ cleanMarks (k .count) (k .marks)) where
+  module _ (m marks ν : ℕ) (next : ν ≡ suc (k .serial)) (n : length (k .masks) ≡ mostActive) (h : k .count < mostActive)
+      (byte-marks : k .marks < 256) (clean : marks ≡ cleanMarks (k .count) (k .marks)) where
     abbrev pub with : ℕ → Control
     with b = record {
       stopped = k .stopped;
@@ -137,18 +143,19 @@ module _ (k : Control) (w : Counted k) where
       failed = k .failed;
       marks = bitOr marks b;
       homes = k .homes;
+      serial = ν;
     }
 
-    pub add-is : Is (with (bitOf (k .count))) (added (meaning k) (fromMask (byte m)) tt)
-    add-is = more-is m (bitOr marks (bitOf (k .count))) n h (fromMask (byte m))
+    pub add-is : Is (with (bitOf (k .count))) (added (meaning k) (fromMask (byte m)) (suc (k .serial)))
+    add-is = more-is m (bitOr marks (bitOf (k .count))) ν next n h (fromMask (byte m))
         (ap (λ (x : ℕ). keptAs (k .count) m (bitOr x (bitOf (k .count))) noPairs) clean
         ∙ ap (λ (c : Choice). record { mask = byte m; choice = c })
         (marked-is (bitOr (cleanMarks (k .count) (k .marks)) (bitOf (k .count))) (k .count) false true noPairs (rails-added (k .count) (k .marks) h byte-marks)))
         (λ i p. ap (λ (x : ℕ). chosenBy (tableMarkIn (bitOr x (bitOf (k .count))) i) (markIn (bitOr x (bitOf (k .count))) i) noPairs) clean
         ∙ marked-same (bitOr (cleanMarks (k .count) (k .marks)) (bitOf (k .count))) (k .marks) i noPairs (rails-kept (k .count) (k .marks) h byte-marks i p))
 
-    pub add-table-is : Is (with (bitOf (mostActive + k .count))) (added (meaning k) (record { mask = byte m; choice = byTable noPairs }) tt)
-    add-table-is = more-is m (bitOr marks (bitOf (mostActive + k .count))) n h (record { mask = byte m; choice = byTable noPairs })
+    pub add-table-is : Is (with (bitOf (mostActive + k .count))) (added (meaning k) (record { mask = byte m; choice = byTable noPairs }) (suc (k .serial)))
+    add-table-is = more-is m (bitOr marks (bitOf (mostActive + k .count))) ν next n h (record { mask = byte m; choice = byTable noPairs })
         (ap (λ (x : ℕ). keptAs (k .count) m (bitOr x (bitOf (mostActive + k .count))) noPairs) clean
         ∙ ap (λ (c : Choice). record { mask = byte m; choice = c })
         (marked-is (bitOr (cleanMarks (k .count) (k .marks)) (bitOf (mostActive + k .count))) (k .count) true false noPairs (table-added (k .count) (k .marks) h byte-marks)))
@@ -162,7 +169,7 @@ module _ (k : Control) (w : Counted k) where
 
   pub retire-is : (m marks : ℕ) (table rails : Bool) → m ≡ newestMask k → table ≡ tableMarkIn (k .marks) (k .count - 1)
       → rails ≡ isByRails (meaning k .newest .choice) → marks ≡ cond table (bitOf mostActive) (cond rails (bitOf 0) 0)
-      → Is (record { stopped = k .stopped; count = 1; masks = m ∷ 0 ∷ 0 ∷ 0 ∷ []; working = k .working; failed = k .failed; marks = marks; homes = k .homes })
+      → Is (record { stopped = k .stopped; count = 1; masks = m ∷ 0 ∷ 0 ∷ 0 ∷ []; working = k .working; failed = k .failed; marks = marks; homes = k .homes; serial = k .serial })
       (onlyNewest (meaning k))
   unfolding meaning
   retire-is m marks table rails em et er e = record {
@@ -180,12 +187,12 @@ module _ (k : Control) (w : Counted k) where
           settled true r = refl
           settled false r = refl
 
-      means : meaning (record { stopped = k .stopped; count = 1; masks = m ∷ 0 ∷ 0 ∷ 0 ∷ []; working = k .working; failed = k .failed; marks = marks; homes = k .homes })
+      means : meaning (record { stopped = k .stopped; count = 1; masks = m ∷ 0 ∷ 0 ∷ 0 ∷ []; working = k .working; failed = k .failed; marks = marks; homes = k .homes; serial = k .serial })
           ≡ onlyNewest (meaning k)
       means = ap (withPlacements (meaning k) []) (ap₂ (λ (x : ℕ) (c : Choice). record { mask = byte x; choice = c }) em choice)
 
   pub cards-are : (x y : ℕ) (p q : Byte) → byte x ≡ p → byte y ≡ q
-      → Is (record { stopped = k .stopped; count = k .count; masks = k .masks; working = x; failed = y; marks = k .marks; homes = k .homes }) (withCards (meaning k) p q)
+      → Is (record { stopped = k .stopped; count = k .count; masks = k .masks; working = x; failed = y; marks = k .marks; homes = k .homes; serial = k .serial }) (withCards (meaning k) p q)
   unfolding meaning
   cards-are x y p q ep eq = record { counted = record { some = w .some; few = w .few }; means = ap₂ (withCards (meaning k)) ep eq }
 
@@ -203,15 +210,22 @@ none-open t = rw (at-zeros tranCount (t - 1)) (go (ltb 0 t && ltb t tranBound))
     go false = refl
 
 pub halt-is : (k : Control) → Counted k
-    → Is (record { stopped = true; count = k .count; masks = k .masks; working = k .working; failed = k .failed; marks = k .marks; homes = replicate tranCount 0 }) (halted (meaning k))
+    → Is (record { stopped = true; count = k .count; masks = k .masks; working = k .working; failed = k .failed; marks = k .marks; homes = replicate tranCount 0; serial = k .serial })
+    (halted (meaning k))
 unfolding meaning
 halt-is k w = record { counted = record { some = w .some; few = w .few }; means = ap (withHome (halted (meaning k))) (fun-ext none-open) }
 
+pub rest-is : (k : Control) → Counted k → (s : Bool)
+    → Is (record { stopped = s; count = k .count; masks = k .masks; working = k .working; failed = k .failed; marks = k .marks; homes = k .homes; serial = k .serial })
+    (part s (meaning k .older) (meaning k .newest) (meaning k .working) (meaning k .failed) (meaning k .home) (meaning k .setting) (meaning k .serial))
+unfolding meaning
+rest-is k w s = record { counted = record { some = w .some; few = w .few }; means = refl }
+
 pub start-is : (m : ℕ)
-    → Is (record { stopped = false; count = 1; masks = m ∷ 0 ∷ 0 ∷ 0 ∷ []; working = m; failed = 0; marks = bitOf 0; homes = replicate tranCount 0 })
-    (started (fromMask (byte m)) (byte m) noCards tt tt)
+    → Is (record { stopped = false; count = 1; masks = m ∷ 0 ∷ 0 ∷ 0 ∷ []; working = m; failed = 0; marks = bitOf 0; homes = replicate tranCount 0; serial = 1 })
+    (started (fromMask (byte m)) (byte m) noCards tt 1)
 unfolding meaning
 start-is m = record {
   counted = record { some = omega arith; few = omega arith };
-  means = ap (withHome (started (fromMask (byte m)) (byte m) noCards tt tt)) (fun-ext none-open);
+  means = ap (withHome (started (fromMask (byte m)) (byte m) noCards tt 1)) (fun-ext none-open);
 }

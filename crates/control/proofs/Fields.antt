@@ -12,8 +12,9 @@ use Rattle.image.specs.Layout.{mostActive, tranCount}
 use Rattle.mask.specs.Masks.{byte}
 use Rattle.mask.specs.Placements.{Placement}
 use Rattle.method.specs.ControlPart.{active}
-use Rattle.control.specs.ControlBytes.{Part, controlByte, controlOf, countIn, failedAt, firstByte, homeAt, homeByte, homeOf, homesAt, homesEnd}
+use Rattle.control.specs.ControlBytes.{Part, controlByte, controlOf, countIn, failedAt, firstByte, homeAt, homeByte, homeOf, homesAt, homesEnd, serialAt, serialEnd, serialSize}
 use Rattle.control.specs.ControlBytes.{keptAs, lastMaskAt, marksAt, marksFrom, maskBytes, masksAt, pairsIn, placementAt, placementsIn, stoppedIn, workingAt}
+use Rattle.control.specs.Serials.{serialByte, serialIn}
 
 -- ---- what is written
 module _ (k : Part) where
@@ -56,7 +57,24 @@ module _ (k : Part) where
       e : homesAt + i - homesAt ≡ i
       e = omega arith
 
-  pub at-rest : (n : ℕ) → homesEnd ≤ n → controlByte k n ≡ 0
+  pub at-serial : (i : ℕ) → i < serialSize → controlByte k (serialAt + i) ≡ serialByte (k .serial) i
+  unfolding controlByte
+  at-serial i h =
+      rw (
+        le-ltb (serialAt + i) masksAt (omega arith),
+        le-ltb (serialAt + i) workingAt (omega arith),
+        le-ltb (serialAt + i) failedAt (omega arith),
+        le-ltb (serialAt + i) marksAt (omega arith),
+        le-ltb (serialAt + i) homesAt (omega arith),
+        le-ltb (serialAt + i) homesEnd (omega arith),
+        lt-ltb (serialAt + i) serialEnd (omega arith),
+      )
+      (ap (λ (j : ℕ). serialByte (k .serial) j) e)
+    where
+      e : serialAt + i - serialAt ≡ i
+      e = omega arith
+
+  pub at-rest : (n : ℕ) → serialEnd ≤ n → controlByte k n ≡ 0
   unfolding controlByte
   at-rest n h =
       rw (
@@ -65,7 +83,8 @@ module _ (k : Part) where
         le-ltb n failedAt (omega arith),
         le-ltb n marksAt (omega arith),
         le-ltb n homesAt (omega arith),
-        le-ltb n homesEnd h,
+        le-ltb n homesEnd (omega arith),
+        le-ltb n serialEnd h,
       )
 
 -- ---- what is read
@@ -95,6 +114,10 @@ module _ (g t : ℕ → ℕ) where
   unfolding controlOf
   shown-home x = refl
 
+  pub shown-serial : controlOf g t .serial ≡ serialIn (λ j. g (serialAt + j))
+  unfolding controlOf
+  shown-serial = refl
+
   -- where the count is not 0, the newest is the last of the placements that the bytes show
   module _ (some : 1 ≤ countIn (g 0)) where
     pub shown-newest : controlOf g t .newest ≡ placementAt g t (countIn (g 0) - 1)
@@ -115,12 +138,13 @@ module _ (g t : ℕ → ℕ) where
 -- ---- every byte
 -- What holds of each field's bytes, and of the rest, holds of all.
 pub each-field : (q : ℕ → Type 0) → q 0 → ((i : ℕ) → i < mostActive → q (masksAt + i)) → q workingAt → q failedAt → q marksAt
-    → ((i : ℕ) → i < tranCount → q (homesAt + i)) → ((n : ℕ) → homesEnd ≤ n → q n) → (n : ℕ) → q n
-each-field q first mask working failed marks home rest n =
+    → ((i : ℕ) → i < tranCount → q (homesAt + i)) → ((i : ℕ) → i < serialSize → q (serialAt + i)) → ((n : ℕ) → serialEnd ≤ n → q n) → (n : ℕ) → q n
+each-field q first mask working failed marks home serial rest n =
     ⊎-elim (λ (h : n < masksAt). let e : 0 ≡ n = omega arith in subst q e first)
     (λ (a : masksAt ≤ n). ⊎-elim (λ (h : n < workingAt). let e : masksAt + (n - masksAt) ≡ n = omega arith in subst q e (mask (n - masksAt) (omega arith)))
     (λ (b : workingAt ≤ n). ⊎-elim (λ (h : n < failedAt). let e : workingAt ≡ n = omega arith in subst q e working)
     (λ (c : failedAt ≤ n). ⊎-elim (λ (h : n < marksAt). let e : failedAt ≡ n = omega arith in subst q e failed)
     (λ (d : marksAt ≤ n). ⊎-elim (λ (h : n < homesAt). let e : marksAt ≡ n = omega arith in subst q e marks)
     (λ (f : homesAt ≤ n). ⊎-elim (λ (h : n < homesEnd). let e : homesAt + (n - homesAt) ≡ n = omega arith in subst q e (home (n - homesAt) (omega arith)))
-    (rest n) (lt-or-ge n homesEnd)) (lt-or-ge n homesAt)) (lt-or-ge n marksAt)) (lt-or-ge n failedAt)) (lt-or-ge n workingAt)) (lt-or-ge n masksAt)
+    (λ (g : homesEnd ≤ n). ⊎-elim (λ (h : n < serialEnd). let e : serialAt + (n - serialAt) ≡ n = omega arith in subst q e (serial (n - serialAt) (omega arith)))
+    (rest n) (lt-or-ge n serialEnd)) (lt-or-ge n homesEnd)) (lt-or-ge n homesAt)) (lt-or-ge n marksAt)) (lt-or-ge n failedAt)) (lt-or-ge n workingAt)) (lt-or-ge n masksAt)

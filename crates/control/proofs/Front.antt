@@ -10,9 +10,9 @@ use Rattle.image.specs.Layout.{controlSize, mostActive}
 use Rattle.mask.specs.Masks.{bitOf}
 use Rattle.mask.specs.Placements.{Choice, Placement, byRails, byTable, chained, isByRails, isByTable, pairless, pairlessChoice}
 use Rattle.method.specs.ControlPart.{active, added, part}
-use Rattle.control.specs.ControlBytes.{Part, controlByte, firstByte, frontPart, marksFrom, maskBytes}
+use Rattle.control.specs.ControlBytes.{Part, Serial, controlByte, firstByte, frontPart, marksFrom, maskBytes}
 use Rattle.control.specs.Meaning.{putControl}
-use Rattle.control.proofs.Fields.{at-failed, at-first, at-home, at-marks, at-mask, at-rest, at-working, each-field}
+use Rattle.control.proofs.Fields.{at-failed, at-first, at-home, at-marks, at-mask, at-rest, at-serial, at-working, each-field}
 
 pub map-append : {A B : Type 0} (f : A → B) (l m : List A) → map f (l ++ m) ≡ map f l ++ map f m
 map-append f [] m = refl
@@ -44,6 +44,7 @@ front-byte k = each-field (λ n. controlByte (frontPart k) n ≡ controlByte k n
     (at-failed (frontPart k) ∙ sym (at-failed k))
     (at-marks (frontPart k) ∙ ap (marksFrom 0) (sym (active-front k)) ∙ marks-front 0 (active k) ∙ sym (at-marks k))
     (λ i h. at-home (frontPart k) i h ∙ sym (at-home k i h))
+    (λ i h. at-serial (frontPart k) i h ∙ sym (at-serial k i h))
     (λ n h. at-rest (frontPart k) n h ∙ sym (at-rest k n h))
 
 pub front-put : (image : List ℕ) (k : Part) → putControl image (frontPart k) ≡ putControl image k
@@ -51,5 +52,5 @@ unfolding putControl
 front-put image k = ap (λ (f : ℕ → ℕ). splice image 0 (tabulate controlSize f)) (fun-ext (front-byte k))
 
 -- one placement more
-pub added-front : (k : Part) (p : Placement) → added (frontPart k) (pairless p) tt ≡ frontPart (added k p tt)
-added-front k p = ap (λ (l : List Placement). part (k .stopped) l (pairless p) (k .working) (k .failed) (k .home) (k .setting) tt) (sym (active-front k))
+pub added-front : (k : Part) (p : Placement) (ν : Serial) → added (frontPart k) (pairless p) ν ≡ frontPart (added k p ν)
+added-front k p ν = ap (λ (l : List Placement). part (k .stopped) l (pairless p) (k .working) (k .failed) (k .home) (k .setting) ν) (sym (active-front k))

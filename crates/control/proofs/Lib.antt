@@ -1,6 +1,8 @@
 pub mod Marks
 pub mod Fields
 pub mod Struct
+pub mod SerialLaws
+pub mod StampLaws
 pub mod Active
 pub mod Changes
 pub mod Written

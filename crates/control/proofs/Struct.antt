@@ -12,17 +12,20 @@ use lib.ListN.{getD, length, length-map}
 use borrow.Author.Tests.{ltb-true, lt-ltb, le-ltb}
 use Rattle.lists.proofs.Bools.{split, and-l, and-r}
 use Rattle.lists.proofs.Cases.{lt-or-ge}
+use Rattle.lists.specs.Tabulate.{tabulate}
+use Rattle.lists.proofs.Tabulate.{at-tabulate}
 use Rattle.image.specs.Layout.{mostActive, tranBound, tranCount}
 use Rattle.mask.specs.Masks.{byte}
 use Rattle.mask.specs.Pairs.{Pairs, noPairs}
 use Rattle.mask.specs.Placements.{Choice, Placement, pairless}
 use Rattle.method.specs.Slots.{isSome}
 use Rattle.control.specs.ControlBytes.{Part, controlByte, controlOf, countIn, failedAt, field, fieldBound, firstByte, homeAt, homeByte, homeIn}
-use Rattle.control.specs.ControlBytes.{homeOf, homesAt, homesEnd, keptAs, lastMaskAt, marksAt, marksFrom, maskBytes, masksAt, openBit}
-use Rattle.control.specs.ControlBytes.{frontPart, markIn, pairsIn, placementAt, placementsIn, stoppedBit, stoppedIn, tableMarkIn, workingAt}
-use Rattle.control.specs.Meaning.{rowOf, structOf, cleanMarks, maskIn, newestMask, placementIn, meaning, Counted}
+use Rattle.control.specs.ControlBytes.{homeOf, homesAt, keptAs, lastMaskAt, marksAt, marksFrom, maskBytes, masksAt, openBit}
+use Rattle.control.specs.ControlBytes.{frontPart, markIn, pairsIn, placementAt, placementsIn, serialAt, serialEnd, serialSize, stoppedBit, stoppedIn, tableMarkIn, workingAt}
+use Rattle.control.specs.Serials.{serialByte, serialIn}
+use Rattle.control.specs.Meaning.{rowOf, structOf, cleanMarks, maskIn, newestMask, placementIn, meaning, Counted, Is}
 use Rattle.control.specs.declared.Control.{Control}
-use Rattle.control.proofs.Fields.{at-failed, at-first, at-home, at-marks, at-mask, at-rest, at-working, placements-more}
+use Rattle.control.proofs.Fields.{at-failed, at-first, at-home, at-marks, at-mask, at-rest, at-serial, at-working, placements-more}
 use Rattle.control.proofs.Marks.{chosen-pairless, kind-kept, marks-kept}
 
 -- The highest bit of a transaction's byte says that it is open.
@@ -74,6 +77,30 @@ map-placements : (h : Placement → Placement) (f : ℕ → Placement) (n : ℕ)
 map-placements h f zero = refl
 map-placements h f (suc n) = ap (λ (l : List Placement). h (f 0) ∷ l) (map-placements h (λ i. f (suc i)) n)
 
+-- What the code reads is the struct, once the serial is.
+pub decoded : (l : List ℕ) (ν : ℕ) → ν ≡ serialIn (λ j. getD l (serialAt + j) 0)
+    → record {
+      stopped = stoppedIn (getD l 0 0);
+      count = countIn (getD l 0 0);
+      masks = rowOf l masksAt mostActive;
+      working = getD l workingAt 0;
+      failed = getD l failedAt 0;
+      marks = getD l marksAt 0;
+      homes = rowOf l homesAt tranCount;
+      serial = ν;
+    } ≡ structOf l
+unfolding structOf
+decoded l ν e = λ i. record {
+  stopped = stoppedIn (getD l 0 0);
+  count = countIn (getD l 0 0);
+  masks = rowOf l masksAt mostActive;
+  working = getD l workingAt 0;
+  failed = getD l failedAt 0;
+  marks = getD l marksAt 0;
+  homes = rowOf l homesAt tranCount;
+  serial = e i;
+}
+
 -- The struct that is read off bytes with a count of 1 to 4 means the control part that they show, without its pairs.
 pub read-means : (l : List ℕ) (t : ℕ → ℕ) → 1 ≤ countIn (getD l 0 0) → countIn (getD l 0 0) ≤ mostActive → meaning (structOf l) ≡ frontPart (controlOf (λ n. getD l n 0) t)
 unfolding meaning structOf controlOf
@@ -85,7 +112,7 @@ read-means l t lo hi = λ i. record {
   failed = byte (getD l failedAt 0);
   home = fun-ext homes i;
   setting = tt;
-  serial = tt;
+  serial = serialIn (λ j. getD l (serialAt + j) 0);
 }
   where
     n : ℕ
@@ -132,6 +159,14 @@ shown-count g t lo k w e =
 pub newest-mask-is : (k : Control) (m : ℕ) → m ≡ newestMask k → byte m ≡ meaning k .newest .mask
 unfolding meaning
 newest-mask-is k m e = ap byte e
+
+-- Its serial, and that of the control part that the struct is.
+pub serial-is : (k : Control) → k .serial ≡ meaning k .serial
+unfolding meaning
+serial-is k = refl
+
+pub is-serial : (k : Control) (p : Part) → Is k p → k .serial ≡ p .serial
+is-serial k p w = serial-is k ∙ ap (λ (q : Part). q .serial) (w .means)
 
 -- ---- the bytes of a struct, each as the rules give it
 module _ (k : Control) (w : Counted k) where
@@ -187,7 +222,15 @@ module _ (k : Control) (w : Counted k) where
       e : suc i - 1 ≡ i
       e = omega arith
 
-  pub byte-rest : (n : ℕ) → homesEnd ≤ n → 0 ≡ controlByte (meaning k) n
+  pub byte-serial : (i : ℕ) → i < serialSize → serialByte (k .serial) i ≡ controlByte (meaning k) (serialAt + i)
+  unfolding meaning
+  byte-serial i h = sym (at-serial (meaning k) i h)
+
+  -- as three bytes that were made of it
+  pub written-serial : (xs : List ℕ) → xs ≡ tabulate serialSize (serialByte (k .serial)) → (i : ℕ) → i < serialSize → getD xs i 0 ≡ controlByte (meaning k) (serialAt + i)
+  written-serial xs e i h = ap (λ (l : List ℕ). getD l i 0) e ∙ at-tabulate serialSize (serialByte (k .serial)) i h ∙ byte-serial i h
+
+  pub byte-rest : (n : ℕ) → serialEnd ≤ n → 0 ≡ controlByte (meaning k) n
   byte-rest n h = sym (at-rest (meaning k) n h)
 
 pub bit-le : (b : Bool) → cond b stoppedBit 0 ≤ stoppedBit

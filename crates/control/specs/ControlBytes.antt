@@ -6,7 +6,8 @@
 --   5, 6       masks of working cards, of failed cards
 --   7          marks of the active placements, oldest first, highest bits first: by rails 4 bits, by table 4
 --   8 to 22    transactions 1 to 15, each: open 1 bit, home card 3, zero 4; all zero when not open
---   23 to 31   zero
+--   23 to 25   serial of the newest placement, most significant byte first
+--   26 to 31   zero
 --
 -- Behind the tables are the pairs of the active placements that are by table, oldest first, 48 bytes a placement; zero
 -- for one that is not by table or not there. Assumes nothing.
@@ -21,14 +22,15 @@ use Rattle.mask.specs.Masks.{Byte, bitOf, byte}
 use Rattle.mask.specs.Pairs.{Pairs, pairsByte, pairsOf}
 use Rattle.mask.specs.Placements.{Choice, Placement, byRails, byTable, chained, isByRails, isByTable, pairless}
 use Rattle.method.specs.ControlPart.{ControlPart, active, partBy}
+use Rattle.control.specs.Serials.{serialByte, serialIn}
 
 -- This cabinet has one setting: two copies, 64 blocks.
 abbrev pub Setting : Type 0
 Setting = Unit {0}
 
--- Placements have no serial.
+-- The newest placement's serial, 24 bits.
 abbrev pub Serial : Type 0
-Serial = Unit {0}
+Serial = ℕ
 
 abbrev pub Part : Type 0
 Part = ControlPart Byte Placement Setting Serial
@@ -54,9 +56,18 @@ marksAt = failedAt + 1
 abbrev pub homesAt : ℕ
 homesAt = marksAt + 1
 
--- The bytes from here on are zero.
 abbrev pub homesEnd : ℕ
 homesEnd = homesAt + tranCount
+
+abbrev pub serialAt : ℕ
+serialAt = homesEnd
+
+abbrev pub serialSize : ℕ
+serialSize = 3
+
+-- The bytes from here on are zero.
+abbrev pub serialEnd : ℕ
+serialEnd = serialAt + serialSize
 
 -- The byte of transaction t.
 abbrev pub homeAt : ℕ → ℕ
@@ -106,7 +117,8 @@ controlByte k n =
     cond (ltb n failedAt) (k .working .0) (
     cond (ltb n marksAt) (k .failed .0) (
     cond (ltb n homesAt) (marksFrom 0 (active k)) (
-    cond (ltb n homesEnd) (homeByte (k .home (suc (n - homesAt)))) 0)))))
+    cond (ltb n homesEnd) (homeByte (k .home (suc (n - homesAt)))) (
+    cond (ltb n serialEnd) (serialByte (k .serial) (n - serialAt)) 0))))))
 
 -- Byte j of what is kept for a placement: of its pairs, if it has a table.
 abbrev pub keptByte : Choice → ℕ → ℕ
@@ -193,5 +205,5 @@ controlOf g t = record {
   failed = byte (g failedAt);
   home = λ t. homeOf t (g (homeAt t));
   setting = tt;
-  serial = tt;
+  serial = serialIn (λ j. g (serialAt + j));
 }

@@ -1,2 +1,4 @@
+pub mod Serials
 pub mod ControlBytes
+pub mod Stamps
 pub mod Meaning

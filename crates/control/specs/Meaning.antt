@@ -14,7 +14,8 @@ use Rattle.mask.specs.Pairs.{noPairs}
 use Rattle.mask.specs.Placements.{Placement}
 use Rattle.method.specs.ControlPart.{isCard}
 use Rattle.control.specs.ControlBytes.{Part, controlByte, countIn, failedAt, homeIn, homeOf, homesAt, keptAs}
-use Rattle.control.specs.ControlBytes.{marksAt, masksAt, placementsIn, stoppedIn, workingAt}
+use Rattle.control.specs.ControlBytes.{marksAt, masksAt, placementsIn, serialAt, stoppedIn, workingAt}
+use Rattle.control.specs.Serials.{serialIn}
 use Rattle.control.specs.declared.Control.{Control}
 
 -- The n elements of l from index a, written out.
@@ -32,6 +33,7 @@ structOf l = record {
   failed = getD l failedAt 0;
   marks = getD l marksAt 0;
   homes = rowOf l homesAt tranCount;
+  serial = serialIn (λ j. getD l (serialAt + j) 0);
 }
 
 -- Mask i, and the mask of the newest placement: the last that counts.
@@ -56,7 +58,7 @@ meaning k = record {
   failed = byte (k .failed);
   home = λ t. homeOf t (getD (k .homes) (t - 1) 0);
   setting = tt;
-  serial = tt;
+  serial = k .serial;
 }
 
 -- The count is 1 to 4.

@@ -13,12 +13,13 @@ ghost use Rattle.control.specs.ControlBytes.{controlByte, controlOf, hom
 ghost use Rattle.control.specs.Meaning.{cleanMarks, freeMarks, structOf, meaning, Counted, putControl};
 use crate::Control;
 use crate::MASK_COUNT;
+use crate::serials;
 use image::Card;
 use image::TRAN_COUNT;
 use image::Tran;
 
 // Where the fields start, each behind the one before; the first byte, 0, has the stopped bit and the count. Those from
-// HOMES_END on are zero.
+// SERIAL_END on are zero.
 pub const MASKS_AT: usize = 1;
 
 pub const WORKING_AT: usize = MASKS_AT + MASK_COUNT;
@@ -30,6 +31,10 @@ pub const MARKS_AT: usize = FAILED_AT + 1;
 pub const HOMES_AT: usize = MARKS_AT + 1;
 
 pub const HOMES_END: usize = HOMES_AT + TRAN_COUNT;
+
+pub const SERIAL_AT: usize = HOMES_END;
+
+pub const SERIAL_END: usize = SERIAL_AT + serials::SIZE;
 
 // All bits of the marks; those for tables; by how much a mark for rails outweighs that for a table; both halves of a
 // byte.
@@ -134,6 +139,10 @@ pub fn encode(k: Control) -> [u8; image::CONTROL_SIZE]
         bytes[HOMES_AT + t] = home_byte(k.homes[t]);
         t += 1;
     }
+    let serial = serials::bytes(k.serial);
+    bytes[SERIAL_AT] = serial[0];
+    bytes[SERIAL_AT + 1] = serial[1];
+    bytes[SERIAL_AT + 2] = serial[2];
     bytes
 }
 
@@ -181,6 +190,7 @@ pub fn decode(s: &[u8]) -> Control
             s[HOMES_AT + 13],
             s[HOMES_AT + 14],
         ],
+        serial: serials::read(s, SERIAL_AT),
     }
 }
 

@@ -1,7 +1,7 @@
 // The control part, as a struct by value: every change yields a whole new one.
 ghost use mathlib.Core.Path.{_≡_};
 ghost use mathlib.Core.Bool.{cond, true};
-ghost use Prim.Native.Nat.{_+_, _-_, _<_};
+ghost use Prim.Native.Nat.{suc, _+_, _-_, _<_};
 ghost use lib.Dec.{eqb};
 ghost use Rattle.image.specs.Layout.{cardCount, tranBound, mostActive};
 ghost use Rattle.mask.specs.Masks.{bitOf, byte, noCards, withCard, withoutCard};
@@ -17,13 +17,17 @@ ghost use Rattle.method.specs.ControlPart.{
   onlyNewest,
   halted,
   isOpen,
+  part,
 };
 ghost use Rattle.control.specs.ControlBytes.{tableMarkIn};
 ghost use Rattle.control.specs.Meaning.{meaning, newestMask, keptHome, Counted, Is};
+ghost use Rattle.control.specs.Serials.{serialBound};
 
 pub mod codec;
 pub mod pairs;
+pub mod serials;
 pub mod sites;
+pub mod stamps;
 
 use codec::FIELD;
 use codec::OPEN;
@@ -40,7 +44,7 @@ pub const FIRST_MARK: u8 = 0x80;
 pub const FIRST_TABLE_MARK: u8 = FIRST_MARK >> MASK_COUNT;
 
 // The masks are of the active placements, oldest first, and so are the marks, highest bit first. The pairs of placements
-// by table stay in the image. A home is the transaction's byte, transaction 1 first.
+// by table stay in the image. A home is the transaction's byte, transaction 1 first. The serial is the newest placement's.
 pub struct Control {
     pub stopped: bool,
     pub count: u8,
@@ -49,12 +53,13 @@ pub struct Control {
     pub failed: u8,
     pub marks: u8,
     pub homes: [u8; TRAN_COUNT],
+    pub serial: u32,
 }
 
 impl Control {
-    // The mask's cards work and are the one placement, by rails; none failed, none open.
+    // The mask's cards work and are the one placement, by rails, with the first serial; none failed, none open.
     pub fn started(mask: u8) -> Control
-        ensures { λ r. ⌜ Is r (started (fromMask (byte mask)) (byte mask) noCards tt tt) ⌝ }
+        ensures { λ r. ⌜ Is r (started (fromMask (byte mask)) (byte mask) noCards tt 1) ⌝ }
     {
         Control {
             stopped: false,
@@ -64,6 +69,7 @@ impl Control {
             failed: 0,
             marks: FIRST_MARK,
             homes: [0u8; TRAN_COUNT],
+            serial: serials::FIRST,
         }
     }
 
@@ -142,16 +148,18 @@ impl Control {
         self
     }
 
-    // A placement of the mask by rails becomes the newest.
+    // A placement of the mask by rails becomes the newest, with the next serial.
     pub fn add(mut self, mask: u8) -> Self
         requires { ⌜ Counted self ⌝ }
         requires { ⌜ self .count < mostActive ⌝ }
-        ensures { λ r. ⌜ Is r (added (meaning self) (fromMask (byte mask)) tt) ⌝ }
+        requires { ⌜ self .serial < serialBound ⌝ }
+        ensures { λ r. ⌜ Is r (added (meaning self) (fromMask (byte mask)) (suc (self .serial))) ⌝ }
     {
         let i = self.count as usize;
         self.masks[i] = mask;
         self.marks = codec::clean_marks(self.count, self.marks) | (FIRST_MARK >> self.count);
         self.count = self.count + 1;
+        self.serial = serials::next(self.serial);
         self
     }
 
@@ -159,13 +167,15 @@ impl Control {
     pub fn add_table(mut self, mask: u8) -> Self
         requires { ⌜ Counted self ⌝ }
         requires { ⌜ self .count < mostActive ⌝ }
+        requires { ⌜ self .serial < serialBound ⌝ }
         ensures { λ r.
-            ⌜ Is r (added (meaning self) (record { mask = byte mask; choice = byTable noPairs }) tt) ⌝ }
+            ⌜ Is r (added (meaning self) (record { mask = byte mask; choice = byTable noPairs }) (suc (self .serial))) ⌝ }
     {
         let i = self.count as usize;
         self.masks[i] = mask;
         self.marks = codec::clean_marks(self.count, self.marks) | (FIRST_TABLE_MARK >> self.count);
         self.count = self.count + 1;
+        self.serial = serials::next(self.serial);
         self
     }
 
@@ -225,6 +235,16 @@ impl Control {
     {
         self.stopped = true;
         self.homes = [0u8; TRAN_COUNT];
+        self
+    }
+
+    // The store stops or runs, and all else is as it was.
+    pub fn rest(mut self, stopped: bool) -> Self
+        requires { ⌜ Counted self ⌝ }
+        ensures { λ r. ⌜ Is r (part stopped (meaning self .older) (meaning self .newest) (meaning self .working)
+            (meaning self .failed) (meaning self .home) (meaning self .setting) (meaning self .serial)) ⌝ }
+    {
+        self.stopped = stopped;
         self
     }
 }

@@ -5,23 +5,23 @@ use mathlib.Core.Bool.{Bool, true, false, _&&_, _||_}
 use mathlib.Core.List.{List, _∷_, reverse}
 use Prim.Native.Nat.{ℕ, zero, suc, _+_, _-_, _%_, _≤_, _<_}
 use native.Mathlib.Omega.{arith}
-use lib.Dec.{eqb}
+use lib.Dec.{eqb, leb}
 use lib.ListN.{getD}
-use borrow.Author.Tests.{eqb-true}
 use Rattle.lists.specs.Tests.{allIn, allBelow}
-use Rattle.lists.proofs.Bools.{and-r, same-test}
+use Rattle.lists.proofs.Bools.{same-test}
 use Rattle.lists.proofs.Counts.{all-below, below-all, below-ext}
 use Rattle.image.specs.Layout.{controlSize, mostActive, mostPlaced, tranBound, tranCount}
-use Rattle.mask.specs.Masks.{Byte, areApart, byte, isWithin}
+use Rattle.mask.specs.Masks.{Byte, areApart, byte, isWithin, size}
 use Rattle.method.specs.ControlPart.{active}
-use Rattle.control.specs.ControlBytes.{controlOf, countIn, failedAt, field, homeByte, homeIn}
-use Rattle.control.specs.ControlBytes.{homesAt, homesEnd, lastMaskAt, marksAt, masksAt, stoppedIn, workingAt}
-use Rattle.control.specs.Meaning.{Counted, maskIn, meaning, rowOf, structOf}
+use Rattle.control.specs.ControlBytes.{controlOf, countIn, failedAt, field, homeIn}
+use Rattle.control.specs.ControlBytes.{homesAt, homesEnd, lastMaskAt, marksAt, masksAt, serialEnd, stoppedIn, workingAt}
+use Rattle.control.specs.Meaning.{Counted, maskIn, meaning, placementIn, rowOf, structOf}
+use Rattle.control.specs.Serials.{serialMost}
 use Rattle.control.proofs.Active.{every-active, maskPasses}
-use Rattle.control.proofs.Struct.{at-row}
-use Rattle.control_form.specs.ControlForm.{allSafe, chainOk, countOk, frontOk, homeOk, isSafe, masksOf, membersOk, partOk, zeroFieldsOk}
+use Rattle.control.proofs.Struct.{at-row, length-placements}
+use Rattle.control_form.specs.ControlForm.{allSafe, chainOk, countOk, frontOk, homeOk, isSafe, masksOf, membersOk, partOk, serialOk, zeroFieldsOk}
 use Rattle.control_form.specs.Reading.{allFrom, chainIn, homeFitsAt, homeOkAt, isHomeAt, isZeroAt, marksOk}
-use Rattle.control_form.specs.Reading.{maskAt, maskTest, masksBack, newestIn, otherZeros, placementOk, wordsEnd}
+use Rattle.control_form.specs.Reading.{maskAt, maskTest, masksBack, newestIn, otherZeros, placementOk, serialOf, serialsIn}
 use Rattle.control_form.proofs.Checks.{chain-is, count-counted, home-none, home-test, homeTest, homes-are}
 use Rattle.control_form.proofs.Checks.{means-is}
 use Rattle.control_form.proofs.FrontPart.{front-part}
@@ -38,13 +38,10 @@ tail-four true true false e h = refl
 tail-four true false c e h = refl
 tail-four false b c e h = refl
 
-last-of : (a b c d : Bool) → (a && (b && (c && d))) ≡ true → d ≡ true
-last-of a b c d t = and-r c d (and-r b (c && d) (and-r a (b && (c && d)) t))
-
--- The transactions' bytes h and the homes t go last; members m and safety s go together.
-order : (z h a m f n s t : Bool) → ((z && h) && (a && (m && (f && (n && (s && t)))))) ≡ (z && (a && ((m && s) && (f && (n && (h && t))))))
-order false h a m f n s t = refl
-order true true a m f n s t = last a m f n s t
+-- The transactions' bytes h and the homes t go last but for the serial u; members m and safety s go together.
+order : (z h a m f n s t u : Bool) → ((z && h) && (a && (m && (f && (n && (s && (t && u))))))) ≡ (z && (a && ((m && s) && (f && (n && ((h && t) && u))))))
+order false h a m f n s t u = refl
+order true true a m f n s t u = last a m f n s (t && u)
   where
     last : (a m f n s t : Bool) → (a && (m && (f && (n && (s && t))))) ≡ (a && ((m && s) && (f && (n && t))))
     last false m f n s t = refl
@@ -53,7 +50,7 @@ order true true a m f n s t = last a m f n s t
     last true true false n false t = refl
     last true true true false false t = refl
     last true true true true false t = refl
-order true false a m f n s t = none a m f n s
+order true false a m f n s t u = none a m f n s
   where
     none : (a m f n s : Bool) → false ≡ (a && ((m && s) && (f && (n && false))))
     none false m f n s = refl
@@ -81,8 +78,11 @@ pair (suc n) stopped f g = step (f n) (g n) (allBelow n f) (allBelow n g) stoppe
     step true b true d false = refl
 
 -- The clauses in the code's order, from each of them on.
+abbrev pub fromHomes : List ℕ → Bool
+fromHomes l = allFrom homesAt homesEnd (homeFitsAt l) && serialsIn l
+
 abbrev pub fromNewest : List ℕ → Bool
-fromNewest l = newestIn l && allFrom homesAt wordsEnd (homeFitsAt l)
+fromNewest l = newestIn l && fromHomes l
 
 abbrev pub fromChain : List ℕ → Bool
 fromChain l = chainIn l && fromNewest l
@@ -108,15 +108,6 @@ others-left t rest e p = e ∙ rw p
 
 pub all-fail : (t rest : Bool) {x : Bool} → x ≡ (t && rest) → t ≡ false → false ≡ x
 all-fail t rest e p = sym (e ∙ rw p)
-
-zero-out : (l : List ℕ) (n : ℕ) → isZeroAt l n ≡ true → getD l n 0 ≡ 0
-unfolding isZeroAt
-zero-out l n t = eqb-true (getD l n 0) 0 t
-
--- The byte behind the transactions' fits where it is zero.
-zero-fits : (w : Byte) (stopped : Bool) (b : ℕ) → b ≡ 0 → (eqb b (homeByte (homeIn b)) && homeOk stopped w (homeIn b)) ≡ true
-unfolding homeOk
-zero-fits w stopped b e = rw e
 
 module _ (l : List ℕ) (t : ℕ → ℕ) (ok : countOk (λ n. getD l n 0) ≡ true) (bytes : (n : ℕ) → getD l n 0 < 256) where
   w : Counted (structOf l)
@@ -157,6 +148,16 @@ module _ (l : List ℕ) (t : ℕ → ℕ) (ok : countOk (λ n. getD l n 0) ≡ t
       ap (λ (m : ℕ). stoppedIn (getD l 0 0) || isWithin (byte m) (byte (getD l workingAt 0)))
       (at-row l mostActive masksAt (countIn (getD l 0 0) - 1) (omega (arith, counted)) ∙ ap (λ (j : ℕ). getD l j 0) at)
 
+  serial-as : serialOk (meaning (structOf l)) ≡ serialsIn l
+  unfolding serialOk serialsIn meaning structOf
+  serial-as =
+      let some : 1 ≤ countIn (getD l 0 0) = w .some in
+      let at : masksAt + (countIn (getD l 0 0) - 1) ≡ lastMaskAt (countIn (getD l 0 0)) = omega arith in
+      let all : suc (countIn (getD l 0 0) - 1) ≡ countIn (getD l 0 0) = omega arith in
+      ap₂ (λ (n m : ℕ). leb n (serialOf l) && leb (serialOf l + size (byte m)) serialMost)
+      (ap suc (length-placements (placementIn (structOf l)) (countIn (getD l 0 0) - 1)) ∙ all)
+      (at-row l mostActive masksAt (countIn (getD l 0 0) - 1) (omega (arith, counted)) ∙ ap (λ (j : ℕ). getD l j 0) at)
+
   safe-as : (meaning (structOf l) .stopped || allSafe (meaning (structOf l)))
       ≡ (stoppedIn (getD l 0 0) || allBelow (countIn (getD l 0 0)) (maskTest isSafe l))
   safe-as = ap (λ (t : Bool). meaning (structOf l) .stopped || t) (masks-are isSafe) ∙ unfold meaning structOf in refl
@@ -193,14 +194,7 @@ module _ (l : List ℕ) (t : ℕ → ℕ) (ok : countOk (λ n. getD l n 0) ≡ t
   unfolding otherZeros
   zeros-as = zero-fields-by l t ok bytes
       ∙ tail-four (eqb (getD l 0 0 % field) 0) (allFrom (masksAt + countIn (getD l 0 0)) workingAt (isZeroAt l)) (marksOk (countIn (getD l 0 0)) (getD l marksAt 0))
-      (allFrom homesEnd controlSize (isZeroAt l)) (allFrom homesAt homesEnd (isHomeAt l))
-
-  zero-behind : otherZeros l ≡ true → getD l homesEnd 0 ≡ 0
-  unfolding otherZeros
-  zero-behind t =
-      let z : allFrom homesEnd controlSize (isZeroAt l) ≡ true = last-of (eqb (getD l 0 0 % field) 0) (allFrom (masksAt + countIn (getD l 0 0)) workingAt (isZeroAt l))
-      (marksOk (countIn (getD l 0 0)) (getD l marksAt 0)) (allFrom homesEnd controlSize (isZeroAt l)) t in
-      zero-out l homesEnd (from-all homesEnd (isZeroAt l) controlSize homesEnd z (omega arith) (omega arith))
+      (allFrom serialEnd controlSize (isZeroAt l)) (allFrom homesAt homesEnd (isHomeAt l))
 
   apart-as : areApart (meaning (structOf l) .working) (meaning (structOf l) .failed) ≡ areApart (byte (getD l workingAt 0)) (byte (getD l failedAt 0))
   unfolding meaning structOf
@@ -210,10 +204,10 @@ module _ (l : List ℕ) (t : ℕ → ℕ) (ok : countOk (λ n. getD l n 0) ≡ t
       && (allBelow (countIn (getD l 0 0)) (maskTest membersOk l)
       && (chainIn l
       && (newestIn l
-      && ((stoppedIn (getD l 0 0) || allBelow (countIn (getD l 0 0)) (maskTest isSafe l)) && homesOpen)))))
+      && ((stoppedIn (getD l 0 0) || allBelow (countIn (getD l 0 0)) (maskTest isSafe l)) && (homesOpen && serialsIn l))))))
   unfolding partOk
   part-as = sym (front-part (controlOf (λ n. getD l n 0) t)) ∙ ap partOk (sym (means-is l (structOf l) refl t w))
-      ∙ ap₂ _&&_ apart-as (ap₂ _&&_ (masks-are membersOk) (ap₂ _&&_ chain-as (ap₂ _&&_ newest-as (ap (λ (t : Bool). t && homesOpen) safe-as))))
+      ∙ ap₂ _&&_ apart-as (ap₂ _&&_ (masks-are membersOk) (ap₂ _&&_ chain-as (ap₂ _&&_ newest-as (ap₂ (λ (t u : Bool). t && (homesOpen && u)) safe-as serial-as))))
 
   placements-as : (allBelow (countIn (getD l 0 0)) (maskTest membersOk l) && (stoppedIn (getD l 0 0) || allBelow (countIn (getD l 0 0)) (maskTest isSafe l)))
       ≡ allBelow (countIn (getD l 0 0)) (maskTest (placementOk (stoppedIn (getD l 0 0))) l)
@@ -221,24 +215,12 @@ module _ (l : List ℕ) (t : ℕ → ℕ) (ok : countOk (λ n. getD l n 0) ≡ t
       ∙ below-ext (countIn (getD l 0 0)) (λ i. maskTest membersOk l i && (stoppedIn (getD l 0 0) || maskTest isSafe l i)) (maskTest (placementOk (stoppedIn (getD l 0 0))) l)
       (λ i h. unfold maskTest placementOk in refl)
 
-  -- with the byte behind them, which the other clauses ask to be zero
-  sixteen : (x : Bool → Bool) → (otherZeros l && x (allFrom homesAt homesEnd (homeFitsAt l))) ≡ (otherZeros l && x (allFrom homesAt wordsEnd (homeFitsAt l)))
-  sixteen x = go (otherZeros l) refl
-    where
-      last : otherZeros l ≡ true → homeFitsAt l homesEnd ≡ true
-      last t = unfold homeFitsAt isHomeAt homeOkAt in (zero-fits (byte (getD l workingAt 0)) (stoppedIn (getD l 0 0)) (getD l homesEnd 0) (zero-behind t))
-
-      go : (b : Bool) → otherZeros l ≡ b → (b && x (allFrom homesAt homesEnd (homeFitsAt l))) ≡ (b && x (allFrom homesAt wordsEnd (homeFitsAt l)))
-      go false e = refl
-      go true e = ap x (unfold allFrom in (rw (last e)))
-
   pub form-by : frontOk (controlOf (λ n. getD l n 0) t) (λ n. getD l n 0) ≡ clauses l
   unfolding frontOk
   form-by = ap (λ (b : Bool). b && (zeroFieldsOk (controlOf (λ n. getD l n 0) t) (λ n. getD l n 0) && partOk (controlOf (λ n. getD l n 0) t))) ok
       ∙ ap₂ _&&_ zeros-as part-as
       ∙ order (otherZeros l) (allFrom homesAt homesEnd (isHomeAt l)) (areApart (byte (getD l workingAt 0)) (byte (getD l failedAt 0)))
       (allBelow (countIn (getD l 0 0)) (maskTest membersOk l)) (chainIn l) (newestIn l)
-      (stoppedIn (getD l 0 0) || allBelow (countIn (getD l 0 0)) (maskTest isSafe l)) homesOpen
-      ∙ ap₂ (λ (p h : Bool). otherZeros l && (areApart (byte (getD l workingAt 0)) (byte (getD l failedAt 0)) && (p && (chainIn l && (newestIn l && h))))) placements-as homes-as
-      ∙ sixteen (λ h. areApart (byte (getD l workingAt 0)) (byte (getD l failedAt 0))
-      && (allBelow (countIn (getD l 0 0)) (maskTest (placementOk (stoppedIn (getD l 0 0))) l) && (chainIn l && (newestIn l && h))))
+      (stoppedIn (getD l 0 0) || allBelow (countIn (getD l 0 0)) (maskTest isSafe l)) homesOpen (serialsIn l)
+      ∙ ap₂ (λ (p h : Bool). otherZeros l && (areApart (byte (getD l workingAt 0)) (byte (getD l failedAt 0)) && (p && (chainIn l && (newestIn l && (h && serialsIn l))))))
+      placements-as homes-as

@@ -13,7 +13,7 @@ use Rattle.mask.specs.Masks.{hasCard, withCard, size, common, isWithin, areApar
 use Rattle.mask.specs.Pairs.{arePairsOf, isPairOf, pairAt}
 use Rattle.method.specs.ControlPart.{active}
 use Rattle.control.specs.ControlBytes.{Part, controlByte, controlOf, tailOf}
-use Rattle.control_form.specs.ControlForm.{allSafe, chainOk, countOk, formOk, frontOk, homeOk, isSafe, keptOk, masksOf, membersOk, partOk, tablesOk, zeroFieldsOk}
+use Rattle.control_form.specs.ControlForm.{allSafe, chainOk, countOk, formOk, frontOk, homeOk, isSafe, keptOk, masksOf, membersOk, partOk, serialOk, tablesOk, zeroFieldsOk}
 
 -- A clause of the control form.
 pub data Clause : Type 0 where
@@ -33,6 +33,8 @@ pub data Clause : Type 0 where
   safe : Clause
   -- in a running store the homes work; in a stopped one no transaction is open
   homes : Clause
+  -- the serial is not below the count, and with the newest placement's members added not above 16,777,008
+  serials : Clause
   -- nothing is kept for a placement that is not by table or not there
   kept : Clause
   -- the pairs of a placement by table are two different members each
@@ -49,7 +51,8 @@ faultsOf k = fault (areApart (k .working) (k .failed)) apart
     ++ (fault (chainOk mostPlaced (k .failed) (k .newest .mask) (masksOf (reverse (k .older)))) chain
     ++ (fault (k .stopped || isWithin (k .newest .mask) (k .working)) newestWorks
     ++ (fault (k .stopped || allSafe k) safe
-    ++ fault (allBelow tranBound (λ t. homeOk (k .stopped) (k .working) (k .home t))) homes))))
+    ++ (fault (allBelow tranBound (λ t. homeOk (k .stopped) (k .working) (k .home t))) homes
+    ++ fault (serialOk k) serials)))))
 
 abbrev pub faultsBy : Part → (ℕ → ℕ) → (ℕ → ℕ) → List Clause
 faultsBy k g t =
@@ -58,12 +61,16 @@ faultsBy k g t =
 abbrev pub faults : (ℕ → ℕ) → (ℕ → ℕ) → List Clause
 faults g t = faultsBy (controlOf g t) g t
 
--- 32 bytes by their first ones, the rest zero; and with byte n changed.
-abbrev pub bytes : List ℕ → ℕ → ℕ
-bytes l n = getD l n 0
-
+-- Bytes with byte n changed.
 abbrev pub changed : ℕ → ℕ → (ℕ → ℕ) → ℕ → ℕ
 changed n x g i = cond (eqb i n) x (g i)
+
+-- 32 bytes by their first ones and a serial of 7, which is below no count that three bits have; the rest zero. And with another serial.
+abbrev pub bytes : List ℕ → ℕ → ℕ
+bytes l = changed 25 7 (λ n. getD l n 0)
+
+abbrev pub with-serial : ℕ → ℕ → ℕ → (ℕ → ℕ) → ℕ → ℕ
+with-serial a b c g = changed 23 a (changed 24 b (changed 25 c g))
 
 -- A row: the bytes before the tables, those behind them, and the clauses that they break.
 pub record Row : Type 0 where
@@ -111,6 +118,22 @@ good =
     -- one placement, by table; four of all three kinds, the second by table
     ∷ with-tail (changed 7 0x08 running) (zeroOne 0) []
     ∷ with-tail (changed 7 0x94 four) (zeroOne 1) []
+    -- a serial that is the count, of one and of four; the greatest with three members
+    ∷ (with-serial 0 0 1 running breaks [])
+    ∷ (with-serial 0 0 4 four breaks [])
+    ∷ (with-serial 0xff 0xff 0x2d running breaks [])
+    ∷ []
+
+-- ---- serials
+abbrev pub badSerials : List Row
+badSerials =
+    -- below the count: of one, of four, and where the store has stopped
+    (with-serial 0 0 0 running breaks (serials ∷ []))
+    ∷ (with-serial 0 0 3 four breaks (serials ∷ []))
+    ∷ (with-serial 0 0 0 stopped breaks (serials ∷ []))
+    -- one more than the greatest with three members; the greatest of three bytes
+    ∷ (with-serial 0xff 0xff 0x2e running breaks (serials ∷ []))
+    ∷ (with-serial 0xff 0xff 0xff running breaks (serials ∷ []))
     ∷ []
 
 -- ---- tables
@@ -136,8 +159,8 @@ badTables =
 abbrev pub badCount : List Row
 badCount =
     -- Before the first start. A count of 0 is read as one placement with byte 0 for its mask, so the bytes are not those of what
-    -- they show, and that placement has no member.
-    (bytes [] breaks (count ∷ zeroFields ∷ members ∷ safe ∷ []))
+    -- they show, and that placement has no member; there is no serial either.
+    ((λ n. 0) breaks (count ∷ zeroFields ∷ members ∷ safe ∷ serials ∷ []))
     -- count 0, and byte 0 a mask of two working cards: zero fields must still fall
     ∷ (bytes (0x83 ∷ 0 ∷ 0 ∷ 0 ∷ 0 ∷ 0x83 ∷ 0 ∷ []) breaks (count ∷ zeroFields ∷ []))
     -- count 5, byte 5 read as the newest mask: each of the last three is the next plus one failed card
@@ -164,8 +187,8 @@ badZeros =
     ∷ (changed 8 0x81 running breaks (zeroFields ∷ []))
     ∷ (changed 9 0x20 running breaks (zeroFields ∷ []))
     ∷ (changed 22 0x01 running breaks (zeroFields ∷ []))
-    -- the first and the last byte behind the transactions
-    ∷ (changed 23 0x80 running breaks (zeroFields ∷ []))
+    -- the first and the last byte behind the serial
+    ∷ (changed 26 0x80 running breaks (zeroFields ∷ []))
     ∷ (changed 31 0x01 running breaks (zeroFields ∷ []))
     ∷ []
 
@@ -205,7 +228,7 @@ badRuns =
 
 -- ---- the table
 abbrev pub table : List Row
-table = good ++ (badCount ++ (badZeros ++ (badPlacements ++ (badRuns ++ badTables))))
+table = good ++ (badCount ++ (badZeros ++ (badPlacements ++ (badRuns ++ (badSerials ++ badTables)))))
 
 abbrev broken-in : List Row → List (List Clause)
 broken-in [] = []
@@ -226,11 +249,11 @@ none-broken (r ∷ l) = elim (r .broken) [ [] ↦ true | x ∷ m ↦ false ] ∷
 -- The clauses that each row's bytes break are those that it names.
 pub table-faults : faults-in table ≡ broken-in table
 unfolding tabulate keptOk tablesOk tailOf arePairsOf isPairOf pairAt
-    countOk zeroFieldsOk areApart membersOk size isWithinEither chainOk isOneMore withCard isWithin isSafe common homeOk hasCard controlOf controlByte
+    countOk zeroFieldsOk areApart membersOk size isWithinEither chainOk isOneMore withCard isWithin isSafe common homeOk serialOk hasCard controlOf controlByte
 table-faults = refl
 
 -- The control form holds of a row's bytes exactly where the row names no clause.
 pub table-forms : forms-in table ≡ none-broken table
 unfolding tabulate keptOk tablesOk tailOf arePairsOf isPairOf pairAt
-    formOk frontOk partOk countOk zeroFieldsOk areApart membersOk size isWithinEither chainOk isOneMore withCard isWithin isSafe common homeOk hasCard controlOf controlByte
+    formOk frontOk partOk countOk zeroFieldsOk areApart membersOk size isWithinEither chainOk isOneMore withCard isWithin isSafe common homeOk serialOk hasCard controlOf controlByte
 table-forms = refl

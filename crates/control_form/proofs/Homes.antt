@@ -18,9 +18,9 @@ use Rattle.lists.proofs.Bytes.{AreBytes, bytes-add, bytes-and, bytes-ext, bytes
 use Rattle.lists.proofs.Counts.{at-pair, below-all, below-ext}
 use Rattle.image.specs.Layout.{cardCount}
 use Rattle.method.specs.ControlPart.{isCard}
-use Rattle.control.specs.ControlBytes.{field, fieldBound, homeByte, homeIn, homesAt, openBit, stoppedIn}
-use Rattle.control_form.specs.Reading.{allFrom, homeFitsAt, homeOkAt, isHomeAt, secondAt, wordSize, wordsEnd}
-use Rattle.control_form.proofs.Ranges.{from-all, from-below, from-both, from-split}
+use Rattle.control.specs.ControlBytes.{field, fieldBound, homeByte, homeIn, homesAt, homesEnd, openBit, stoppedIn}
+use Rattle.control_form.specs.Reading.{allFrom, firstEnd, homeFitsAt, homeOkAt, isHomeAt, secondAt, wordSize}
+use Rattle.control_form.proofs.Ranges.{from-all, from-below, from-both, from-cover}
 
 -- The code's constants: four bits; the byte 1 eight times, and over it the highest bits, four bits and the bit behind them.
 abbrev pub nibble : ℕ
@@ -151,12 +151,14 @@ module _ (l : List ℕ) (small : (n : ℕ) → getD l n 0 < 256) (at : ℕ) wher
       ∙ lack-by (λ i. getD l (at + i) 0) (λ i. small (at + i)) (formed t) c hc
       ∙ from-below at (λ n. not (isCard (homeIn (getD l n 0)) c)) wordSize (at + wordSize) refl
 
--- ---- all sixteen bytes
-pub all-homes : (l : List ℕ) → allFrom homesAt secondAt (isHomeAt l) ≡ true → allFrom secondAt wordsEnd (isHomeAt l) ≡ true → allFrom homesAt wordsEnd (isHomeAt l) ≡ true
-all-homes l s t = from-split homesAt secondAt wordsEnd (isHomeAt l) (omega arith) (omega arith) ∙ and-in (allFrom homesAt secondAt (isHomeAt l)) (allFrom secondAt wordsEnd (isHomeAt l)) s t
+-- ---- all of them
+pub all-homes : (l : List ℕ) → allFrom homesAt firstEnd (isHomeAt l) ≡ true → allFrom secondAt homesEnd (isHomeAt l) ≡ true → allFrom homesAt homesEnd (isHomeAt l) ≡ true
+all-homes l s t = from-cover homesAt secondAt firstEnd homesEnd (isHomeAt l) (omega arith) (omega arith) (omega arith)
+    ∙ and-in (allFrom homesAt firstEnd (isHomeAt l)) (allFrom secondAt homesEnd (isHomeAt l)) s t
 
-pub fits-by : (l : List ℕ) → allFrom homesAt wordsEnd (homeFitsAt l)
-    ≡ ((allFrom homesAt secondAt (isHomeAt l) && allFrom secondAt wordsEnd (isHomeAt l)) && allFrom homesAt wordsEnd (homeOkAt (stoppedIn (getD l 0 0)) l))
+pub fits-by : (l : List ℕ) → allFrom homesAt homesEnd (homeFitsAt l)
+    ≡ ((allFrom homesAt firstEnd (isHomeAt l) && allFrom secondAt homesEnd (isHomeAt l)) && allFrom homesAt homesEnd (homeOkAt (stoppedIn (getD l 0 0)) l))
 unfolding homeFitsAt
-fits-by l = from-both homesAt wordsEnd (isHomeAt l) (homeOkAt (stoppedIn (getD l 0 0)) l)
-    ∙ ap (λ (t : Bool). t && allFrom homesAt wordsEnd (homeOkAt (stoppedIn (getD l 0 0)) l)) (from-split homesAt secondAt wordsEnd (isHomeAt l) (omega arith) (omega arith))
+fits-by l = from-both homesAt homesEnd (isHomeAt l) (homeOkAt (stoppedIn (getD l 0 0)) l)
+    ∙ ap (λ (t : Bool). t && allFrom homesAt homesEnd (homeOkAt (stoppedIn (getD l 0 0)) l))
+    (from-cover homesAt secondAt firstEnd homesEnd (isHomeAt l) (omega arith) (omega arith) (omega arith))

@@ -18,10 +18,10 @@ use Rattle.mask.specs.Masks.{AreMembers, Byte, byte, hasCard, members, withoutC
 use Rattle.mask.proofs.FirstMember.{first-in, some-members}
 use Rattle.mask.proofs.Masks.{has-none, has-without}
 use Rattle.method.specs.ControlPart.{isCard}
-use Rattle.control.specs.ControlBytes.{field, fieldBound, homeIn, homesAt, openBit, workingAt}
+use Rattle.control.specs.ControlBytes.{field, fieldBound, homeIn, homesAt, homesEnd, openBit, workingAt}
 use Rattle.control_form.specs.ControlForm.{homeOk}
-use Rattle.control_form.specs.Reading.{allFrom, homeOkAt, secondAt, wordsEnd}
-use Rattle.control_form.proofs.Ranges.{all-from, from-all, from-split}
+use Rattle.control_form.specs.Reading.{allFrom, firstEnd, homeOkAt, secondAt}
+use Rattle.control_form.proofs.Ranges.{all-from, from-all, from-cover}
 
 test-all : allBelow cardCount (λ c. hasCard (byte 255) c) ≡ true
 unfolding hasCard
@@ -55,7 +55,7 @@ not-works w b h true d = go (split (hasCard w h))
 -- ---- all of them
 -- No open transaction has the home c.
 abbrev pub Lacking : List ℕ → ℕ → Type 0
-Lacking l c = allFrom homesAt wordsEnd (λ n. not (isCard (homeIn (getD l n 0)) c)) ≡ true
+Lacking l c = allFrom homesAt homesEnd (λ n. not (isCard (homeIn (getD l n 0)) c)) ≡ true
 
 -- The cards that do not work and are not left have been tried.
 abbrev pub Tried : List ℕ → ℕ → Type 0
@@ -103,28 +103,28 @@ module _ (l : List ℕ) where
         left-too false b e f = refl
 
         go : (eqb x c ≡ true) ⊎ (eqb x c ≡ false) → Lacking l x
-        go (inl e) = ap (λ (y : ℕ). allFrom homesAt wordsEnd (λ n. not (isCard (homeIn (getD l n 0)) y))) (eqb-true x c e) ∙ k
+        go (inl e) = ap (λ (y : ℕ). allFrom homesAt homesEnd (λ n. not (isCard (homeIn (getD l n 0)) y))) (eqb-true x c e) ∙ k
         go (inr e) = h x p d (left-too (hasCard (byte left) x) (eqb x c) e (sym (left-of x) ∙ gone))
 
   -- a card that does not work, and is a home: among the first eight bytes or the others
-  pub lacking : (c : ℕ) → allFrom homesAt secondAt (λ n. not (isCard (homeIn (getD l n 0)) c)) ≡ true → allFrom secondAt wordsEnd (λ n. not (isCard (homeIn (getD l n 0)) c)) ≡ true → Lacking l c
-  lacking c s t = from-split homesAt secondAt wordsEnd (λ n. not (isCard (homeIn (getD l n 0)) c)) (omega arith) (omega arith) ∙ and-in _ _ s t
+  pub lacking : (c : ℕ) → allFrom homesAt firstEnd (λ n. not (isCard (homeIn (getD l n 0)) c)) ≡ true → allFrom secondAt homesEnd (λ n. not (isCard (homeIn (getD l n 0)) c)) ≡ true → Lacking l c
+  lacking c s t = from-cover homesAt secondAt firstEnd homesEnd (λ n. not (isCard (homeIn (getD l n 0)) c)) (omega arith) (omega arith) (omega arith) ∙ and-in _ _ s t
 
-  pub begun-there : (c a e : ℕ) → hasCard (byte (getD l workingAt 0)) c ≡ false → homesAt ≤ a → e ≤ wordsEnd
-      → allFrom a e (λ n. not (isCard (homeIn (getD l n 0)) c)) ≡ false → false ≡ allFrom homesAt wordsEnd (homeOkAt false l)
-  begun-there c a e d lo hi f = go (split (allFrom homesAt wordsEnd (homeOkAt false l)))
+  pub begun-there : (c a e : ℕ) → hasCard (byte (getD l workingAt 0)) c ≡ false → homesAt ≤ a → e ≤ homesEnd
+      → allFrom a e (λ n. not (isCard (homeIn (getD l n 0)) c)) ≡ false → false ≡ allFrom homesAt homesEnd (homeOkAt false l)
+  begun-there c a e d lo hi f = go (split (allFrom homesAt homesEnd (homeOkAt false l)))
     where
-      all-not : allFrom homesAt wordsEnd (homeOkAt false l) ≡ true → allFrom a e (λ n. not (isCard (homeIn (getD l n 0)) c)) ≡ true
+      all-not : allFrom homesAt homesEnd (homeOkAt false l) ≡ true → allFrom a e (λ n. not (isCard (homeIn (getD l n 0)) c)) ≡ true
       all-not t = all-from a (λ n. not (isCard (homeIn (getD l n 0)) c)) e (λ n p q.
-          works-not (byte (getD l workingAt 0)) c d (homeIn (getD l n 0)) (unfold homeOkAt in (from-all homesAt (homeOkAt false l) wordsEnd n t (omega arith) (omega arith))))
+          works-not (byte (getD l workingAt 0)) c d (homeIn (getD l n 0)) (unfold homeOkAt in (from-all homesAt (homeOkAt false l) homesEnd n t (omega arith) (omega arith))))
 
-      go : (allFrom homesAt wordsEnd (homeOkAt false l) ≡ true) ⊎ (allFrom homesAt wordsEnd (homeOkAt false l) ≡ false) → false ≡ allFrom homesAt wordsEnd (homeOkAt false l)
+      go : (allFrom homesAt homesEnd (homeOkAt false l) ≡ true) ⊎ (allFrom homesAt homesEnd (homeOkAt false l) ≡ false) → false ≡ allFrom homesAt homesEnd (homeOkAt false l)
       go (inl t) = tf false (sym f ∙ all-not t) refl
       go (inr t) = sym t
 
   -- none is left
-  pub all-work : (left : ℕ) → left ≡ 0 → Tried l left → true ≡ allFrom homesAt wordsEnd (homeOkAt false l)
-  all-work left z h = sym (all-from homesAt (homeOkAt false l) wordsEnd (λ n p q. unfold homeOkAt in
+  pub all-work : (left : ℕ) → left ≡ 0 → Tried l left → true ≡ allFrom homesAt homesEnd (homeOkAt false l)
+  all-work left z h = sym (all-from homesAt (homeOkAt false l) homesEnd (λ n p q. unfold homeOkAt in
       (not-works (byte (getD l workingAt 0)) (getD l n 0) (getD l n 0 / field % fieldBound) (leb openBit (getD l n 0))
-      (λ d. from-all homesAt (λ n'. not (isCard (homeIn (getD l n' 0)) (getD l n 0 / field % fieldBound))) wordsEnd n
+      (λ d. from-all homesAt (λ n'. not (isCard (homeIn (getD l n' 0)) (getD l n 0 / field % fieldBound))) homesEnd n
       (h (getD l n 0 / field % fieldBound) (omega arith) d (ap (λ (m : ℕ). hasCard (byte m) (getD l n 0 / field % fieldBound)) z ∙ has-none (getD l n 0 / field % fieldBound))) p q))))

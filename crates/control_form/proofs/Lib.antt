@@ -9,4 +9,6 @@ pub mod Clauses
 pub mod Put
 pub mod FormTable
 pub mod FrontPart
+pub mod FrontBytes
+pub mod SerialForm
 pub mod Kept

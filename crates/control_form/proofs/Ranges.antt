@@ -3,7 +3,7 @@
 use mathlib.Core.Path.{_≡_, sym, ap, _∙_}
 use mathlib.Core.Logic.{⊎-elim}
 use mathlib.Core.Bool.{Bool, true, false, _&&_, _||_}
-use Prim.Native.Nat.{ℕ, suc, _+_, _-_, _≤_, _<_}
+use Prim.Native.Nat.{ℕ, _+_, _-_, _≤_, _<_}
 use native.Mathlib.Omega.{arith}
 use lib.Dec.{ltb}
 use borrow.Author.Tests.{lt-ltb, le-ltb}
@@ -40,21 +40,15 @@ module _ (a : ℕ) (f : ℕ → Bool) where
   pub from-each : (k e : ℕ) → e ≡ a + k → ((i : ℕ) → i < k → f (a + i) ≡ true) → allFrom a e f ≡ true
   from-each k e s h = sym (from-below k e s) ∙ all-below k (λ i. f (a + i)) h
 
--- A first number that passes.
-pub from-first : (a e : ℕ) (f : ℕ → Bool) → f a ≡ true → allFrom (suc a) e f ≡ allFrom a e f
-from-first a e f h = same-test (allFrom (suc a) e f) (allFrom a e f)
-    (λ t. all-from a f e (λ n p q. ⊎-elim (λ s. let m : a ≡ n = omega arith in ap f (sym m) ∙ h) (λ s. from-all (suc a) f e n t s q) (lt-or-ge n (suc a))))
-    (λ t. all-from (suc a) f e (λ n p q. from-all a f e n t (omega arith) q))
-
--- In two parts.
-pub from-split : (a m e : ℕ) (f : ℕ → Bool) → a ≤ m → m ≤ e → allFrom a e f ≡ (allFrom a m f && allFrom m e f)
-from-split a m e f lo hi = same-test (allFrom a e f) (allFrom a m f && allFrom m e f)
-    (λ t. and-in (allFrom a m f) (allFrom m e f)
-    (all-from a f m (λ n p q. from-all a f e n t p (omega arith)))
+-- In two parts that may overlap.
+pub from-cover : (a m b e : ℕ) (f : ℕ → Bool) → a ≤ m → m ≤ b → b ≤ e → allFrom a e f ≡ (allFrom a b f && allFrom m e f)
+from-cover a m b e f lo mid hi = same-test (allFrom a e f) (allFrom a b f && allFrom m e f)
+    (λ t. and-in (allFrom a b f) (allFrom m e f)
+    (all-from a f b (λ n p q. from-all a f e n t p (omega arith)))
     (all-from m f e (λ n p q. from-all a f e n t (omega arith) q)))
     (λ t. all-from a f e (λ n p q. ⊎-elim
-    (λ s. from-all a f m n (and-l (allFrom a m f) (allFrom m e f) t) p s)
-    (λ s. from-all m f e n (and-r (allFrom a m f) (allFrom m e f) t) s q) (lt-or-ge n m)))
+    (λ s. from-all a f b n (and-l (allFrom a b f) (allFrom m e f) t) p s)
+    (λ (s : b ≤ n). from-all m f e n (and-r (allFrom a b f) (allFrom m e f) t) (omega arith) q) (lt-or-ge n b)))
 
 -- Two tests that agree there, and two at once.
 pub from-ext : (a e : ℕ) (f g : ℕ → Bool) → ((n : ℕ) → a ≤ n → n < e → f n ≡ g n) → allFrom a e f ≡ allFrom a e g

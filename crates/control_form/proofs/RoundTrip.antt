@@ -22,11 +22,13 @@ use Rattle.mask.proofs.Masks.{byte-path}
 use Rattle.method.specs.ControlPart.{active, isOpen}
 use Rattle.control.specs.ControlBytes.{Part, maskBytes, marksFrom, homeByte, controlByte, countIn, homeOf, keptAs, markIn, pairsIn, placementAt, tableMarkIn}
 use Rattle.control.specs.ControlBytes.{controlOf, failedAt, field, fieldBound, firstByte, homeAt, lastMaskAt}
-use Rattle.control.specs.ControlBytes.{chosenBy, keptByte, marksAt, masksAt, openBit, placementsIn, stoppedBit, stoppedIn, tailByte, workingAt}
-use Rattle.control_form.specs.ControlForm.{allSafe, chainOk, countOk, formOk, frontOk, homeOk, keptOk, masksOf, membersOk, partOk, tablesOk, zeroFieldsOk}
+use Rattle.control.specs.ControlBytes.{chosenBy, keptByte, marksAt, masksAt, openBit, placementsIn, serialAt, stoppedBit, stoppedIn, tailByte, workingAt}
+use Rattle.control.specs.Serials.{serialBound, serialByte, serialIn}
+use Rattle.control_form.specs.ControlForm.{allSafe, chainOk, countOk, formOk, frontOk, homeOk, keptOk, masksOf, membersOk, partOk, serialOk, tablesOk, zeroFieldsOk}
 use Rattle.control.proofs.Marks.{chosen-back}
 use Rattle.control.proofs.Tail.{kept-at, pairs-in, tail-at}
-use Rattle.control.proofs.Fields.{at-failed, at-first, at-home, at-marks, at-mask, at-working}
+use Rattle.control.proofs.Fields.{at-failed, at-first, at-home, at-marks, at-mask, at-serial, at-working}
+use Rattle.control.proofs.SerialLaws.{serial-back, serial-same}
 
 -- ---- what is written is read again
 byte-back : (n : ℕ) (m : Byte) → n ≡ m .0 → byte n ≡ m
@@ -117,10 +119,14 @@ module _
             same : (h : ℕ) → h < cardCount → (openBit + h * field) / field % fieldBound ≡ h
             same h b = omega arith
 
-    -- The control part that the bytes show is the one that was written.
-    pub read-control : controlOf g t ≡ k
+    read-serial : k .serial < serialBound → serialIn (λ j. g (serialAt + j)) ≡ k .serial
+    read-serial small = serial-same (λ j. g (serialAt + j)) (serialByte (k .serial)) (λ j h. wrote (serialAt + j) (omega arith) ∙ at-serial k j h)
+        ∙ serial-back (k .serial) small
+
+    -- The control part that the bytes show is the one that was written, where its serial has three bytes.
+    pub read-control : k .serial < serialBound → controlOf g t ≡ k
     unfolding controlOf
-    read-control = λ i. record {
+    read-control small = λ i. record {
       stopped = read-stopped i;
       older = old i;
       newest = new i;
@@ -128,7 +134,7 @@ module _
       failed = byte-back (g failedAt) (k .failed) (wrote failedAt (omega arith) ∙ at-failed k) i;
       home = fun-ext read-home i;
       setting = tt;
-      serial = tt;
+      serial = read-serial small i;
     }
       where
         both : (placementsIn (placementAt g t) (length (k .older)) ≡ k .older) × (placementAt g t (length (k .older)) ≡ k .newest)
@@ -195,24 +201,26 @@ pub record Clauses (k : Part) : Type 0 where
   pub newest-works : (k .stopped || isWithin (k .newest .mask) (k .working)) ≡ true
   pub safe : (k .stopped || allSafe k) ≡ true
   pub home : (t : ℕ) → t < tranBound → homeOk (k .stopped) (k .working) (k .home t) ≡ true
+  pub serials : serialOk k ≡ true
 
--- Six tests that all hold.
-six : (a b c d e f : Bool) → (a && (b && (c && (d && (e && f))))) ≡ true
-    → (a ≡ true) × (b ≡ true) × (c ≡ true) × (d ≡ true) × (e ≡ true) × (f ≡ true)
-six a b c d e f h =
-    let p = and-r a (b && (c && (d && (e && f)))) h in
-    let q = and-r b (c && (d && (e && f))) p in
-    let r = and-r c (d && (e && f)) q in
-    let s = and-r d (e && f) r in
-    (and-l a _ h, and-l b _ p, and-l c _ q, and-l d _ r, and-l e f s, and-r e f s)
+-- Seven tests that all hold.
+seven : (a b c d e f g : Bool) → (a && (b && (c && (d && (e && (f && g)))))) ≡ true
+    → (a ≡ true) × (b ≡ true) × (c ≡ true) × (d ≡ true) × (e ≡ true) × (f ≡ true) × (g ≡ true)
+seven a b c d e f g h =
+    let p = and-r a (b && (c && (d && (e && (f && g))))) h in
+    let q = and-r b (c && (d && (e && (f && g)))) p in
+    let r = and-r c (d && (e && (f && g))) q in
+    let s = and-r d (e && (f && g)) r in
+    let t = and-r e (f && g) s in
+    (and-l a _ h, and-l b _ p, and-l c _ q, and-l d _ r, and-l e _ s, and-l f g t, and-r f g t)
 
 pub part-clauses : (k : Part) → partOk k ≡ true → Clauses k
 unfolding partOk
 part-clauses k h =
-    let r = six (areApart (k .working) (k .failed)) (allIn (λ p. membersOk (k .working) (k .failed) (p .mask)) (active k))
+    let r = seven (areApart (k .working) (k .failed)) (allIn (λ p. membersOk (k .working) (k .failed) (p .mask)) (active k))
     (chainOk mostPlaced (k .failed) (k .newest .mask) (masksOf (reverse (k .older))))
     (k .stopped || isWithin (k .newest .mask) (k .working)) (k .stopped || allSafe k)
-    (allBelow tranBound (λ t. homeOk (k .stopped) (k .working) (k .home t))) h in
+    (allBelow tranBound (λ t. homeOk (k .stopped) (k .working) (k .home t))) (serialOk k) h in
     record {
       apart = r .0;
       members = r .1;
@@ -220,4 +228,5 @@ part-clauses k h =
       newest-works = r .3;
       safe = r .4;
       home = λ t b. below-all tranBound (λ t. homeOk (k .stopped) (k .working) (k .home t)) t (r .5) b;
+      serials = r .6;
     }

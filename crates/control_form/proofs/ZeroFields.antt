@@ -14,7 +14,7 @@ use Rattle.lists.proofs.Cases.{lt-or-ge}
 use Rattle.lists.proofs.Counts.{all-below, below-all, eqb-same}
 use Rattle.image.specs.Layout.{controlSize, mostActive, tranCount}
 use Rattle.control.specs.ControlBytes.{Part, controlByte, controlOf, countIn, failedAt, field, firstByte, homeByte, homeIn}
-use Rattle.control.specs.ControlBytes.{homesAt, homesEnd, marksAt, masksAt, stoppedBit, stoppedIn, workingAt}
+use Rattle.control.specs.ControlBytes.{homesAt, homesEnd, marksAt, masksAt, serialAt, serialEnd, serialSize, stoppedBit, stoppedIn, workingAt}
 use Rattle.control_form.specs.ControlForm.{countOk, zeroFieldsOk}
 use Rattle.control.specs.Meaning.{structOf, meaning, Counted}
 use Rattle.control_form.specs.Reading.{allFrom, isZeroAt, isHomeAt, marksOk}
@@ -23,8 +23,9 @@ use Rattle.control_form.proofs.Ranges.{all-from, from-all, from-each}
 use Rattle.control.proofs.Front.{front-byte}
 use Rattle.control.proofs.Marks.{marks-clean}
 use Rattle.control.proofs.Struct.{at-row, byte-first, byte-mask, byte-unused, byte-working, byte-failed, byte-marks}
-use Rattle.control.proofs.Struct.{byte-home, byte-rest}
+use Rattle.control.proofs.Struct.{byte-home, byte-rest, byte-serial}
 use Rattle.control.proofs.Fields.{each-field}
+use Rattle.control.proofs.SerialLaws.{serial-byte-back}
 
 -- ---- each byte, with the struct that was read off all
 unfoldable byteTest : List ℕ → ℕ → Bool
@@ -51,7 +52,7 @@ parts l = eqb (getD l 0 0 % field) 0
     && (allFrom (masksAt + countIn (getD l 0 0)) workingAt (isZeroAt l)
     && (marksOk (countIn (getD l 0 0)) (getD l marksAt 0)
     && (allFrom homesAt homesEnd (isHomeAt l)
-    && allFrom homesEnd controlSize (isZeroAt l))))
+    && allFrom serialEnd controlSize (isZeroAt l))))
 
 -- Five tests that hold together, each.
 five : (a b c d e : Bool) → (a && (b && (c && (d && e)))) ≡ true → (a ≡ true) × (b ≡ true) × (c ≡ true) × (d ≡ true) × (e ≡ true)
@@ -97,7 +98,12 @@ module _ (l : List ℕ) (w : Counted (structOf l)) (bytes : (n : ℕ) → getD l
   test-home i h = ap (eqb (getD l (homesAt + i) 0))
       (sym (byte-home (structOf l) w i h) ∙ ap (λ (b : ℕ). homeByte (homeIn b)) (at-row l tranCount homesAt i h))
 
-  test-rest : (m : ℕ) → homesEnd ≤ m → byteTest l m ≡ isZeroAt l m
+  test-serial : (i : ℕ) → i < serialSize → byteTest l (serialAt + i) ≡ true
+  unfolding byteTest structOf
+  test-serial i h = eq-eqb (getD l (serialAt + i) 0) (controlByte (meaning (structOf l)) (serialAt + i))
+      (sym (serial-byte-back (λ j. getD l (serialAt + j) 0) (λ j. bytes (serialAt + j)) i h) ∙ byte-serial (structOf l) w i h)
+
+  test-rest : (m : ℕ) → serialEnd ≤ m → byteTest l m ≡ isZeroAt l m
   unfolding byteTest isZeroAt
   test-rest m h = ap (eqb (getD l m 0)) (sym (byte-rest (structOf l) w m h))
 
@@ -115,16 +121,17 @@ module _ (l : List ℕ) (w : Counted (structOf l)) (bytes : (n : ℕ) → getD l
       (and-in _ _ (from-each (masksAt + n) (isZeroAt l) (mostActive - n) workingAt (omega (arith, few)) (λ i b. sym (unused-at i b) ∙ h _ (omega (arith, few))))
       (and-in _ _ (sym test-marks ∙ h marksAt (omega arith))
       (and-in _ _ (from-each homesAt (isHomeAt l) tranCount homesEnd refl (λ i b. sym (test-home i b) ∙ h _ (omega arith)))
-      (all-from homesEnd (isZeroAt l) controlSize (λ m p q. sym (test-rest m p) ∙ h m q)))))
+      (all-from serialEnd (isZeroAt l) controlSize (λ m p q. sym (test-rest m p) ∙ h m q)))))
 
   every-byte : parts l ≡ true → (m : ℕ) → m < controlSize → byteTest l m ≡ true
   every-byte t = each-field (λ m. m < controlSize → byteTest l m ≡ true)
       (λ b. test-first ∙ r .0) mask (λ b. test-working) (λ b. test-failed) (λ b. test-marks ∙ r .2)
       (λ i h b. test-home i h ∙ from-all homesAt (isHomeAt l) homesEnd (homesAt + i) (r .3) (omega arith) (omega arith))
-      (λ m h b. test-rest m h ∙ from-all homesEnd (isZeroAt l) controlSize m (r .4) h b)
+      (λ i h b. test-serial i h)
+      (λ m h b. test-rest m h ∙ from-all serialEnd (isZeroAt l) controlSize m (r .4) h b)
     where
       r : (eqb (getD l 0 0 % field) 0 ≡ true) × (allFrom (masksAt + n) workingAt (isZeroAt l) ≡ true) × (marksOk n (getD l marksAt 0) ≡ true)
-          × (allFrom homesAt homesEnd (isHomeAt l) ≡ true) × (allFrom homesEnd controlSize (isZeroAt l) ≡ true)
+          × (allFrom homesAt homesEnd (isHomeAt l) ≡ true) × (allFrom serialEnd controlSize (isZeroAt l) ≡ true)
       r = five _ _ _ _ _ t
 
       mask : (i : ℕ) → i < mostActive → masksAt + i < controlSize → byteTest l (masksAt + i) ≡ true
@@ -153,4 +160,4 @@ zero-fields-by l t c bytes = zeros-are l t w ∙ same-test (allBelow controlSize
 pub marks-are : (l : List ℕ) (t : ℕ → ℕ) → countOk (λ n. getD l n 0) ≡ true → ((n : ℕ) → getD l n 0 < 256)
     → zeroFieldsOk (controlOf (λ n. getD l n 0) t) (λ n. getD l n 0) ≡ true → marksOk (countIn (getD l 0 0)) (getD l marksAt 0) ≡ true
 marks-are l t c bytes z = five (eqb (getD l 0 0 % field) 0) (allFrom (masksAt + countIn (getD l 0 0)) workingAt (isZeroAt l)) (marksOk (countIn (getD l 0 0)) (getD l marksAt 0))
-    (allFrom homesAt homesEnd (isHomeAt l)) (allFrom homesEnd controlSize (isZeroAt l)) (sym (zero-fields-by l t c bytes) ∙ z) .2
+    (allFrom homesAt homesEnd (isHomeAt l)) (allFrom serialEnd controlSize (isZeroAt l)) (sym (zero-fields-by l t c bytes) ∙ z) .2

@@ -1,5 +1,5 @@
 -- The control form: RULES, "The control form", a clause a definition. Assumes nothing.
-use Prim.Native.Nat.{suc, ℕ}
+use Prim.Native.Nat.{suc, ℕ, _+_}
 use lib.Dec.{eqb, leb, ltb}
 use lib.ListN.{getD, length}
 use mathlib.Core.Bool.{Bool, _&&_, _||_, cond, false, not, true}
@@ -12,6 +12,7 @@ use Rattle.mask.specs.Placements.{Placement, pairsOk}
 use Rattle.method.specs.ControlPart.{active}
 use Rattle.method.specs.Rules.{row}
 use Rattle.control.specs.ControlBytes.{Part, controlByte, controlOf, countIn, tailAt, tailByte}
+use Rattle.control.specs.Serials.{serialMost}
 
 -- Count is 1 to 4.
 unfoldable pub countOk : (ℕ → ℕ) → Bool
@@ -48,6 +49,11 @@ unfoldable pub homeOk : Bool → Byte → Option ℕ → Bool
 homeOk stopped working none = true
 homeOk stopped working (some h) = not stopped && hasCard working h
 
+-- The serial is not below the count of active placements, and with the newest placement's members added not above
+-- 16,777,008.
+unfoldable pub serialOk : Part → Bool
+serialOk k = leb (suc (length (k .older))) (k .serial) && leb (k .serial + size (k .newest .mask)) serialMost
+
 -- The masks of placements.
 abbrev pub masksOf : List Placement → List Byte
 masksOf [] = []
@@ -63,7 +69,8 @@ partOk k =
     -- in a running store all members of the newest placement work
     && ((k .stopped || isWithin (k .newest .mask) (k .working))
     && ((k .stopped || allSafe k)
-    && allBelow tranBound (λ t. homeOk (k .stopped) (k .working) (k .home t))))))
+    && (allBelow tranBound (λ t. homeOk (k .stopped) (k .working) (k .home t))
+    && serialOk k)))))
 
 -- What is asked of the bytes before the tables.
 unfoldable pub frontOk : Part → (ℕ → ℕ) → Bool

@@ -5,16 +5,17 @@ use mathlib.Core.Logic.{_≢_}
 use mathlib.Core.List.{List, [], _∷_}
 use Prim.Native.Nat.{ℕ, zero, suc, _%_, _*_, _/_, _+_, _-_}
 use lib.Bits.{bitAnd}
-use lib.Dec.{eqb, ltb}
+use lib.Dec.{eqb, leb, ltb}
 use lib.ListN.{getD}
 use Rattle.lists.specs.Tests.{allBelow}
 use Rattle.image.specs.Layout.{controlSize, mostPlaced, pairsSize}
-use Rattle.mask.specs.Masks.{Byte, byte, isWithin, noCards}
+use Rattle.mask.specs.Masks.{Byte, byte, isWithin, noCards, size}
 use Rattle.mask.specs.Pairs.{arePairsOf}
 use Rattle.mask.specs.Placements.{fromMask}
 use Rattle.method.specs.ControlPart.{started}
 use Rattle.control.specs.ControlBytes.{Part, controlOf, countIn, failedAt, field, frontPart, homeByte, homeIn, homesAt, homesEnd}
-use Rattle.control.specs.ControlBytes.{lastMaskAt, marksAt, masksAt, pairsIn, stoppedIn, tableMarkIn, tailAt, workingAt}
+use Rattle.control.specs.ControlBytes.{lastMaskAt, marksAt, masksAt, pairsIn, serialAt, serialEnd, stoppedIn, tableMarkIn, tailAt, workingAt}
+use Rattle.control.specs.Serials.{serialIn, serialMost}
 use Rattle.control.specs.Meaning.{Is, freeMarks}
 use Rattle.control_form.specs.ControlForm.{chainOk, formRefusal, homeOk, isSafe, membersOk}
 use Rattle.control_form.specs.declared.Found.{Found}
@@ -26,12 +27,16 @@ wordSize = 8
 abbrev pub halfSize : ℕ
 halfSize = 4
 
--- The transactions' bytes and the one behind them fill two words: where the second starts, and where it ends.
-abbrev pub secondAt : ℕ
-secondAt = homesAt + wordSize
+-- The transactions' bytes fill two words that share a byte: where the first ends, and where the second starts.
+abbrev pub firstEnd : ℕ
+firstEnd = homesAt + wordSize
 
-abbrev pub wordsEnd : ℕ
-wordsEnd = secondAt + wordSize
+abbrev pub secondAt : ℕ
+secondAt = homesEnd - wordSize
+
+-- The last word: its first bytes are the serial's.
+abbrev pub lastAt : ℕ
+lastAt = controlSize - wordSize
 
 -- Every number from a on and below e passes the test.
 unfoldable pub allFrom : ℕ → ℕ → (ℕ → Bool) → Bool
@@ -62,7 +67,7 @@ unfoldable pub otherZeros : List ℕ → Bool
 otherZeros l = eqb (getD l 0 0 % field) 0
     && (allFrom (masksAt + countIn (getD l 0 0)) workingAt (isZeroAt l)
     && (marksOk (countIn (getD l 0 0)) (getD l marksAt 0)
-    && allFrom homesEnd controlSize (isZeroAt l)))
+    && allFrom serialEnd controlSize (isZeroAt l)))
 
 -- The clauses on a mask: its members, and, if the store is not stopped, that it is safe.
 unfoldable pub placementOk : Bool → Byte → Byte → Byte → Bool
@@ -90,15 +95,24 @@ chainIn l =
 unfoldable pub newestIn : List ℕ → Bool
 newestIn l = stoppedIn (getD l 0 0) || isWithin (byte (getD l (lastMaskAt (countIn (getD l 0 0))) 0)) (byte (getD l workingAt 0))
 
--- What is kept behind the tables for placement i is zero where it has no mark for a table, and else such pairs.
-unfoldable pub keptOkAt : List ℕ → ℕ → Bool
-keptOkAt l i =
-    cond (tableMarkIn (getD l marksAt 0) i) (arePairsOf (maskAt l i) (pairsIn (tailAt l) i))
-    (allBelow pairsSize (λ j. eqb (tailAt l (i * pairsSize + j)) 0))
+-- The serial that bytes show, and the clause on it.
+abbrev pub serialOf : List ℕ → ℕ
+serialOf l = serialIn (λ j. getD l (serialAt + j) 0)
+
+unfoldable pub serialsIn : List ℕ → Bool
+serialsIn l = leb (countIn (getD l 0 0)) (serialOf l)
+    && leb (serialOf l + size (byte (getD l (lastMaskAt (countIn (getD l 0 0))) 0))) serialMost
+
+-- What the bytes t behind the tables keep for placement i of the bytes l before them is zero where it has no mark for a
+-- table, and else such pairs.
+unfoldable pub keptOkAt : List ℕ → (ℕ → ℕ) → ℕ → Bool
+keptOkAt l t i =
+    cond (tableMarkIn (getD l marksAt 0) i) (arePairsOf (maskAt l i) (pairsIn t i))
+    (allBelow pairsSize (λ j. eqb (t (i * pairsSize + j)) 0))
 
 -- No control part: that of a start with no cards, which stands where none can be read.
 abbrev pub noPart : Part
-noPart = started (fromMask noCards) noCards noCards tt tt
+noPart = started (fromMask noCards) noCards noCards tt 1
 
 -- What reading an image finds: row 1 or 2 of the refusal table and no control part, or else 0 and the control part that
 -- the bytes show, without its pairs.

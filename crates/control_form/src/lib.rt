@@ -4,10 +4,10 @@ ghost use mathlib.Core.Bool.{true, false};
 ghost use Prim.Native.Nat.{_+_, _≤_, _<_, ℕ};
 ghost use lib.ListN.{length, getD};
 ghost use Rattle.lists.specs.Tests.{allBelow};
-ghost use Rattle.image.specs.Layout.{controlSize, mostActive};
+ghost use Rattle.image.specs.Layout.{controlSize, mostActive, tailSize};
 ghost use Rattle.image.specs.Parts.{Whole};
 ghost use Rattle.mask.specs.Masks.{byte};
-ghost use Rattle.control.specs.ControlBytes.{controlOf, countIn, homesAt, homesEnd, masksAt, stoppedIn, workingAt};
+ghost use Rattle.control.specs.ControlBytes.{controlOf, countIn, homesAt, homesEnd, masksAt, serialEnd, stoppedIn, workingAt};
 ghost use Rattle.control_form.specs.ControlForm.{allSafe, controlForm, countOk, frontOk, isSafe, membersOk};
 ghost use Rattle.control.specs.Meaning.{meaning, Counted, Is};
 ghost use Rattle.control_form.specs.Reading.{
@@ -25,7 +25,7 @@ ghost use Rattle.control_form.specs.Reading.{
   noPart,
   otherZeros,
   placementOk,
-  wordsEnd,
+  serialsIn,
 };
 
 mod words;
@@ -41,10 +41,12 @@ use control::codec::HOMES_END;
 use control::codec::MARKS_AT;
 use control::codec::MASKS_AT;
 use control::codec::RAIL_WEIGHT;
+use control::codec::SERIAL_AT;
 use control::codec::STOPPED;
 use control::codec::WORKING_AT;
 use control::codec::decode;
 use control::codec::free_marks;
+use control::serials;
 use image::MOST_ACTIVE;
 use words::WORD_SIZE;
 
@@ -64,6 +66,14 @@ const THIRD_AT: usize = FOURTH_AT - 1;
 
 // Bits of a byte.
 const BYTE_BITS: u8 = 8;
+
+// The transactions' bytes are those of two words, of which the second starts at the last byte of the first.
+const SECOND_AT: usize = HOMES_END - WORD_SIZE;
+
+// The last word, and the weight of its bytes behind the serial's.
+const LAST_AT: usize = image::CONTROL_SIZE - WORD_SIZE;
+
+const BEHIND_SERIAL: u64 = 0x1_0000;
 
 // Every record lies on as many cards.
 pub const COPIES: u32 = image::COPY_COUNT as u32;
@@ -89,15 +99,12 @@ fn masks_end(s: &[u8], count: u8) -> bool
     words::half(s, MASKS_AT) >> (count * BYTE_BITS) == 0
 }
 
-// The bytes behind the transactions' are zero.
+// The bytes behind the serial are zero.
 fn tail_ok(s: &[u8]) -> bool
     requires { ⌜ controlSize ≤ length (now s) ⌝ }
-    ensures { λ r. ⌜ r ≡ allFrom homesEnd controlSize (isZeroAt (now (s .entry))) ⌝ }
+    ensures { λ r. ⌜ r ≡ allFrom serialEnd controlSize (isZeroAt (now (s .entry))) ⌝ }
 {
-    if s[HOMES_END] != 0 {
-        return false;
-    }
-    words::word(s, HOMES_END + 1) == 0
+    words::word(s, LAST_AT) / BEHIND_SERIAL == 0
 }
 
 // No placement that is not there has a mark, and none has both.
@@ -228,20 +235,20 @@ fn placements_ok(s: &[u8]) -> bool
 // No transaction is open.
 fn none_open(s: &[u8]) -> bool
     requires { ⌜ controlSize ≤ length (now s) ⌝ }
-    requires { ⌜ allFrom homesAt wordsEnd (isHomeAt (now s)) ≡ true ⌝ }
-    ensures { λ r. ⌜ r ≡ allFrom homesAt wordsEnd (homeOkAt true (now (s .entry))) ⌝ }
+    requires { ⌜ allFrom homesAt homesEnd (isHomeAt (now s)) ≡ true ⌝ }
+    ensures { λ r. ⌜ r ≡ allFrom homesAt homesEnd (homeOkAt true (now (s .entry))) ⌝ }
 {
     if words::word(s, HOMES_AT) != 0 {
         return false;
     }
-    words::word(s, HOMES_AT + WORD_SIZE) == 0
+    words::word(s, SECOND_AT) == 0
 }
 
 // Each open transaction's home works: none is a card that does not.
 fn homes_work(s: &[u8]) -> bool
     requires { ⌜ controlSize ≤ length (now s) ⌝ }
-    requires { ⌜ allFrom homesAt wordsEnd (isHomeAt (now s)) ≡ true ⌝ }
-    ensures { λ r. ⌜ r ≡ allFrom homesAt wordsEnd (homeOkAt false (now (s .entry))) ⌝ }
+    requires { ⌜ allFrom homesAt homesEnd (isHomeAt (now s)) ≡ true ⌝ }
+    ensures { λ r. ⌜ r ≡ allFrom homesAt homesEnd (homeOkAt false (now (s .entry))) ⌝ }
 {
     let mut idle = mask::without(ALL_CARDS, s[WORKING_AT]);
     while idle != 0 {
@@ -249,7 +256,7 @@ fn homes_work(s: &[u8]) -> bool
         if !words::lack_home(s, HOMES_AT, card) {
             return false;
         }
-        if !words::lack_home(s, HOMES_AT + WORD_SIZE, card) {
+        if !words::lack_home(s, SECOND_AT, card) {
             return false;
         }
         idle = mask::without_first(idle);
@@ -258,21 +265,38 @@ fn homes_work(s: &[u8]) -> bool
 }
 
 // Every transaction's byte is all zero when not open, and else zero behind the home card; where it is open, the store is
-// not stopped and its home works. The byte behind them, which is zero, fills the second word.
+// not stopped and its home works.
 fn homes_ok(s: &[u8]) -> bool
     requires { ⌜ controlSize ≤ length (now s) ⌝ }
-    ensures { λ r. ⌜ r ≡ allFrom homesAt wordsEnd (homeFitsAt (now (s .entry))) ⌝ }
+    ensures { λ r. ⌜ r ≡ allFrom homesAt homesEnd (homeFitsAt (now (s .entry))) ⌝ }
 {
     if !words::are_homes(s, HOMES_AT) {
         return false;
     }
-    if !words::are_homes(s, HOMES_AT + WORD_SIZE) {
+    if !words::are_homes(s, SECOND_AT) {
         return false;
     }
     if s[0] >= STOPPED {
         return none_open(s);
     }
     homes_work(s)
+}
+
+// The serial is not below the count, and with the newest placement's members added not above the most. Up to the limit
+// they need not be counted, as there are no more members than cards.
+fn serial_ok(s: &[u8]) -> bool
+    requires { ⌜ controlSize ≤ length (now s) ⌝ }
+    ensures { λ r. ⌜ r ≡ serialsIn (now (s .entry)) ⌝ }
+{
+    let serial = serials::read(s, SERIAL_AT);
+    let count = s[0] / FIELD % FIELD_BOUND;
+    if serial < count as u32 {
+        return false;
+    }
+    if serial <= serials::LIMIT {
+        return true;
+    }
+    serial + mask::members(s[MASKS_AT + count as usize - 1]) <= serials::MOST
 }
 
 // What the control form asks of the bytes before the tables; it does not look at the bytes t behind them.
@@ -299,35 +323,36 @@ pub fn front_ok(s: &[u8]) -> bool
     if !newest_works(s) {
         return false;
     }
-    homes_ok(s)
+    if !homes_ok(s) {
+        return false;
+    }
+    serial_ok(s)
 }
 
-// What is kept behind the tables for placement i is zero where it has no mark for a table, and else pairs of different
-// members.
-fn kept_ok(image: &[u8], i: usize) -> bool
-    requires { ⌜ Whole (now image) × (i < mostActive) ⌝ }
-    ensures { λ r. ⌜ r ≡ keptOkAt (now (image .entry)) i ⌝ }
+// What the bytes behind the tables keep for placement i is zero where it has no mark for a table, and else pairs of
+// different members.
+fn kept_ok(front: &[u8], tail: &[u8], i: usize) -> bool
+    requires { ⌜ (controlSize ≤ length (now front)) × (length (now tail) ≡ tailSize) × (i < mostActive) ⌝ }
+    ensures { λ r. ⌜ r ≡ keptOkAt (now (front .entry)) (λ n. getD (now (tail .entry)) n 0) i ⌝ }
 {
-    let start = image::TAIL_START + i * image::PAIRS_SIZE;
+    let start = i * image::PAIRS_SIZE;
     let end = start + image::PAIRS_SIZE;
     let mark = FIRST_TABLE_MARK >> i;
-    if (image[MARKS_AT] & mark) != 0 {
-        return mask::pairs::are_pairs_of(&image[start..end], image[MASKS_AT + i]);
+    if (front[MARKS_AT] & mark) != 0 {
+        return mask::pairs::are_pairs_of(&tail[start..end], front[MASKS_AT + i]);
     }
-    image::all_zero(&image[start..end])
+    image::all_zero(&tail[start..end])
 }
 
-// So it is for each placement. Where none has a mark for a table, all bytes are tested at once.
-fn tables_ok(image: &[u8]) -> bool
-    requires { ⌜ Whole (now image) ⌝ }
-    ensures { λ r. ⌜ r ≡ allBelow mostActive (keptOkAt (now (image .entry))) ⌝ }
+// What the control form asks of the bytes behind the tables, which an image of an earlier length has elsewhere: so it is
+// for each placement.
+pub fn behind_ok(front: &[u8], tail: &[u8]) -> bool
+    requires { ⌜ (controlSize ≤ length (now front)) × (length (now tail) ≡ tailSize) ⌝ }
+    ensures { λ r. ⌜ r ≡ allBelow mostActive (keptOkAt (now (front .entry)) (λ n. getD (now (tail .entry)) n 0)) ⌝ }
 {
-    if image[MARKS_AT] % RAIL_WEIGHT == 0 {
-        return image::all_zero(&image[image::TAIL_START..image::IMAGE_SIZE]);
-    }
     let mut i = 0;
     while i < MASK_COUNT {
-        if !kept_ok(image, i) {
+        if !kept_ok(front, tail, i) {
             return false;
         }
         i += 1;
@@ -335,7 +360,7 @@ fn tables_ok(image: &[u8]) -> bool
     true
 }
 
-// The control form of an image.
+// The control form of an image. Where no placement has a mark for a table, all bytes behind the tables are tested at once.
 fn form_ok(image: &[u8]) -> bool
     requires { ⌜ Whole (now image) ⌝ }
     ensures { λ r. ⌜ r ≡ controlForm (now (image .entry)) ⌝ }
@@ -343,7 +368,10 @@ fn form_ok(image: &[u8]) -> bool
     if !front_ok(image) {
         return false;
     }
-    tables_ok(image)
+    if image[MARKS_AT] % RAIL_WEIGHT == 0 {
+        return image::all_zero(&image[image::TAIL_START..image::IMAGE_SIZE]);
+    }
+    behind_ok(image, &image[image::TAIL_START..image::IMAGE_SIZE])
 }
 
 // No control part, and why.

@@ -1,2 +1,7 @@
-pub mod OlderForm
-pub mod Conversion
+pub mod Front
+pub mod TableForm
+pub mod WireForm
+pub mod Refusals
+pub mod Longer
+pub mod Tables
+pub mod Stamped

@@ -1,6 +1,6 @@
 -- The store goes on: what the rollback of the card's own transactions, their closing and the placement without the card leave is the image of
 -- the rules' plan, and there is room for that placement. Assumes nothing.
-use Prim.Native.Nat.{_-_, _<_, ℕ}
+use Prim.Native.Nat.{_-_, _<_, suc, ℕ}
 use lib.ListN.{getD, length, length-map, length-reverse}
 use mathlib.Core.Bool.{Bool, false, true}
 use mathlib.Core.List.{[], _∷_, reverse}
@@ -8,7 +8,7 @@ use mathlib.Core.Path.{_∙_, _≡_, ap, ap₂, refl, sym}
 use native.Mathlib.Omega.{arith}
 use Rattle.lists.specs.Tests.{In}
 use Rattle.lists.proofs.Lists.{in-left, in-reverse}
-use Rattle.image.specs.Layout.{mostActive, mostPlaced}
+use Rattle.image.specs.Layout.{cardCount, mostActive, mostPlaced}
 use Rattle.image.specs.Parts.{Whole}
 use Rattle.mask.specs.Masks.{Byte, byte, hasCard, withoutCard}
 use Rattle.mask.specs.Placements.{Placement, fromMask, pairless}
@@ -19,17 +19,22 @@ use Rattle.method.specs.Rules.{dropHeld, fail, placed, stampAll, stamping, stop
 use Rattle.control.specs.ControlBytes.{Part, frontPart}
 use Rattle.control.proofs.Front.{added-front}
 use Rattle.control.specs.Meaning.{Is, meaning, newestMask, placementIn, putControl}
+use Rattle.control.specs.Serials.{serialBound}
+use Rattle.control.specs.Stamps.{putStamps, stampOf}
 use Rattle.control.specs.declared.Control.{Control as Struct}
 use Rattle.control.proofs.Struct.{length-placements, newest-mask-is}
+use Rattle.control_form.proofs.Put.{length-put}
 use Rattle.control_form.proofs.RoundTrip.{form-part, part-clauses}
 use Rattle.cabinet_rules.specs.Cabinet.{cabinet}
+use Rattle.cabinet_rules.proofs.FormLaws.{numbered-in}
 use Rattle.cabinet_rules.specs.Images.{Image, controlIn, planOn, tailIn}
 use Rattle.promise.specs.Given.{viewOf}
 use Rattle.promise.specs.Promise.{Done}
 use Rattle.promise.specs.declared.Answer.the-variants.{Placed, Unplaced}
 use Rattle.promise.proofs.Finish.{by-both, by-plan, form-good}
 use Rattle.promise.specs.Laid.{laid}
-use Rattle.promise.proofs.Laid.{KeepsTail, more-tail, no-ends, same-tail, whole-laid, write-control}
+use Rattle.promise.proofs.Laid.{KeepsTail, more-tail, same-tail, whole-laid, write-control, write-stamps}
+use Rattle.promise.proofs.Stamping.{byte-number, stamped-as}
 use Rattle.tables.specs.Tables.{endWrites, setOf}
 use Rattle.failure.specs.Failing.{Failing}
 use Rattle.failure.proofs.Room.{room-for}
@@ -88,22 +93,44 @@ module _ {m x : Struct} {g out : Image} {c : ℕ} (f : Failing m g c) (s : stopp
 
   -- ---- the card was in it
   abbrev addedPart : Part
-  addedPart = added closedPart (fromMask (withoutCard newest c)) tt
+  addedPart = added closedPart (fromMask (withoutCard newest c)) (suc (controlIn g .serial))
 
   placed-plan : hasCard newest c ≡ true
       → planOn (fail c) g ≡ stamping cabinet (writing cabinet (placed (withoutCard newest c)) addedPart (dropHeld cabinet (begunAt (controlIn g) c) c (viewOf g)))
       (stampAll cabinet addedPart)
   placed-plan h = in-run f (rw (s, h))
 
-  pub placed-done : {n mask : ℕ} {b : Bool} {y : Struct} → n ≡ newestMask m → b ≡ hasCard (byte n) c → b ≡ true → byte mask ≡ withoutCard (byte n) c
-      → Is y (added (meaning x) (fromMask (byte mask)) tt) → (behind : Image) → behind ≡ putControl out (meaning y) → Done (fail c) g (Placed mask) behind
-  placed-done {mask = mask} {y = y} e h z without iy behind l =
-      let w = dropHeld cabinet (begunAt (controlIn g) c) c (viewOf g) in
-      let q : byte mask ≡ withoutCard newest c = without ∙ ap (λ (b : Byte). withoutCard b c) (newest-is e) in
-      let is : meaning y ≡ frontPart addedPart = iy .means ∙ ap₂ (λ (k : Part) (b : Byte). added k (fromMask b) tt) closed-is q ∙ added-front closedPart (fromMask (withoutCard newest c)) in
-      let keeps : KeepsTail addedPart g = more-tail g closedPart (fromMask (withoutCard newest c)) (form-good g (f .formed)) refl refl in
-      by-plan (fail c) refl g (f .formed) (Placed mask) _ behind (f .accepted) (placed-plan (had e h ∙ z)) (ap (λ (b : Byte). placed b) q)
-      (l ∙ ap₂ putControl out-dropped is ∙ write-control w g addedPart keeps ∙ no-ends addedPart w _ g refl)
+  -- the struct that is written, and where
+  module _ {n : ℕ} (mask : ℕ) {y : Struct} (e : n ≡ newestMask m) (without : byte mask ≡ withoutCard (byte n) c)
+      (iy : Is y (added (meaning x) (fromMask (byte mask)) (suc (x .serial)))) where
+    mask-is : byte mask ≡ withoutCard newest c
+    mask-is = without ∙ ap (λ (b : Byte). withoutCard b c) (newest-is e)
+
+    serial-closed : x .serial ≡ controlIn g .serial
+    unfolding meaning
+    serial-closed = ap (λ (p : Part). p .serial) closed-is
+
+    added-means : meaning y ≡ frontPart addedPart
+    added-means = iy .means ∙ ap₂ (λ (k : Part) (ν : ℕ). added k (fromMask (byte mask)) (suc ν)) closed-is serial-closed
+        ∙ ap (λ (b : Byte). added (frontPart closedPart) (fromMask b) (suc (controlIn g .serial))) mask-is ∙ added-front closedPart (fromMask (withoutCard newest c)) (suc (controlIn g .serial))
+
+    pub whole-added : (written : Image) → written ≡ putControl out (meaning y) → Whole written
+    whole-added written l = let w : Whole out = out-whole in ap length l ∙ length-put out (meaning y) (omega arith) ∙ w
+
+    pub placed-done : {b : Bool} → b ≡ hasCard (byte n) c → b ≡ true → mask < 256 → (written behind : Image) → written ≡ putControl out (meaning y)
+        → behind ≡ putStamps written (byte (y .working)) (record { serial = y .serial; mask = mask }) cardCount → Done (fail c) g (Placed mask) behind
+    placed-done h z small written behind l st =
+        let w = dropHeld cabinet (begunAt (controlIn g) c) c (viewOf g) in
+        let keeps : KeepsTail addedPart g = more-tail g closedPart (fromMask (withoutCard newest c)) (form-good g (f .formed)) refl refl (suc (controlIn g .serial)) in
+        by-plan (fail c) refl g (f .formed) (Placed mask) _ behind (f .accepted) (placed-plan (had e h ∙ z)) (ap (λ (b : Byte). placed b) mask-is)
+        (st ∙ stamped-as y addedPart mask added-means (byte-number mask small ∙ ap (λ (b : Byte). b .0) mask-is) written
+        ∙ ap (λ (i : Image). putStamps i (addedPart .working) (stampOf addedPart) cardCount) (l ∙ ap₂ putControl out-dropped added-means ∙ write-control w g addedPart keeps)
+        ∙ write-stamps w g addedPart)
+
+  -- there is a serial for the placement
+  pub serial-closing : x .serial < serialBound
+  unfolding meaning
+  serial-closing = let n = numbered-in g (form-good g (f .formed)) .few in omega (arith, ap (λ (p : Part). p .serial) closed-is)
 
   older-active : (p : Placement) → In p (reverse (controlIn g .older)) → In p (active (controlIn g))
   older-active p i = in-left (controlIn g .older) (controlIn g .newest ∷ []) p (in-reverse (controlIn g .older) p i)

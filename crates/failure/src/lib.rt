@@ -1,4 +1,4 @@
-// fail: a card is lost, and the store goes on without it or stops.
+// fail: a card is lost, and the store goes on without it or stops; one that has stopped marks it.
 ghost use mathlib.Core.Bool.{false};
 ghost use mathlib.Core.Path.{_≡_};
 ghost use Rattle.image.specs.Parts.{Whole};
@@ -8,11 +8,26 @@ ghost use Rattle.cabinet_rules.specs.Cabinet.{cabinet};
 ghost use Rattle.cabinet_rules.specs.Images.{controlIn};
 ghost use Rattle.promise.specs.Promise.{Done, asked};
 ghost use Rattle.promise.specs.declared.Call.{Call};
-ghost use Rattle.failure.specs.Failing.{Failing, stoppedOn};
+ghost use Rattle.failure.specs.Failing.{Failing, failRows, stoppedOn};
 use control::Control;
 use control::codec;
+use control::stamps;
 use image::Card;
+use mask::Placement;
 use promise::Answer;
+
+// Rows 3 and 8. There is no row 4: a store that has stopped marks cards too.
+fn refusal(k: Control, card: Card) -> u8
+    ensures { λ r. ⌜ r ≡ failRows (meaning k) (card .0) ⌝ }
+{
+    if card.0 >= Placement::MOST_CARDS {
+        return 3;
+    }
+    if !mask::has(k.working, card) {
+        return 8;
+    }
+    0
+}
 
 // An active placement is lost: the store stops, with what was open rolled back on the cards that work.
 fn stop(image: &mut [u8], marked: Control)
@@ -25,7 +40,7 @@ fn stop(image: &mut [u8], marked: Control)
 }
 
 // No active placement is lost: what was begun at the card is rolled back, and if the card was in the newest placement
-// one without it is added, by rails.
+// one without it is added, by rails, and every card that still works gets its stamp.
 fn go_on(image: &mut [u8], marked: Control, card: Card) -> Answer
     requires { ⌜ Failing marked (now image) (card .0) ⌝ }
     requires { ⌜ stopping cabinet (controlIn (now image)) (card .0) ≡ false ⌝ }
@@ -36,14 +51,17 @@ fn go_on(image: &mut [u8], marked: Control, card: Card) -> Answer
     let newest = marked.newest_mask();
     if mask::has(newest, card) {
         let mask = mask::without_card(newest, card);
-        codec::write(image, closed.add(mask));
+        let added = closed.add(mask);
+        codec::write(image, added);
+        stamps::put_all(image, added.working, added.serial, mask);
         return Answer::Placed(mask);
     }
     codec::write(image, closed);
     Answer::Unplaced
 }
 
-// The card no longer works and is marked failed; where an active placement is then lost, the store stops.
+// The card no longer works and is marked failed. Where the store has stopped that is all; where an active placement is then
+// lost, the store stops.
 pub fn fail(image: &mut [u8], card: Card) -> Answer
     ensures { λ r. ⌜ Done (asked (Call.Fail card)) (now (image .entry)) r (now (image .exit)) ⌝ }
 {
@@ -52,11 +70,15 @@ pub fn fail(image: &mut [u8], card: Card) -> Answer
         return Answer::Refused(found.refusal);
     }
     let k = found.control;
-    let refusal = promise::rows::card_refusal(k, card);
+    let refusal = refusal(k, card);
     if refusal != 0 {
         return Answer::Refused(refusal);
     }
     let marked = k.mark_failed(card);
+    if k.stopped {
+        codec::write(image, marked);
+        return Answer::Stopped;
+    }
     if !control_form::all_safe(marked) {
         stop(image, marked);
         return Answer::Stopped;

@@ -1,3 +1,4 @@
 pub mod Parts
 pub mod Zeros
 pub mod Blocks
+pub mod Ends

@@ -3,8 +3,9 @@
 --
 --   offset in the image      size     what
 --   0                        32       control part
---   32 + card × 2,624        2,624    the card's table: 64 blocks of 41 bytes, block 0 first
---   21,024 + i × 48          48       of active placement i, oldest first: its pairs, if it is by table; else zero
+--   32 + card × 2,628        2,624    the card's table: 64 blocks of 41 bytes, block 0 first
+--   2,656 + card × 2,628     4        behind them its stamp: a placement's serial 24 bits and mask 8; zero after a fit
+--   21,056 + i × 48          48       of active placement i, oldest first: its pairs, if it is by table; else zero
 --
 --   offset in a block        size     what
 --   0                        1        highest bit: held
@@ -67,6 +68,10 @@ blockSize = 1 + slotCount * slotSize
 abbrev pub blocksSize : ℕ
 blocksSize = blockCount * blockSize
 
+-- Behind a table's blocks: the stamp, a serial of three bytes and a mask.
+abbrev pub stampSize : ℕ
+stampSize = 4
+
 -- The pairs of a placement by table: of each block two cards, in six bits.
 abbrev pub pairsSize : ℕ
 pairsSize = 48
@@ -109,7 +114,7 @@ module _ (y : Layout) where
 
 -- ---- the layout in force
 abbrev pub layout : Layout
-layout = record { tableTail = 0; imageTail = tailSize }
+layout = record { tableTail = stampSize; imageTail = tailSize }
 
 abbrev pub tableSize : ℕ
 tableSize = tableSizeOf layout
@@ -122,6 +127,9 @@ tableStart = tableStartOf layout
 
 abbrev pub blockAddress : ℕ → ℕ → ℕ
 blockAddress = blockAddressOf layout
+
+abbrev pub endStart : ℕ → ℕ
+endStart = endStartOf layout
 
 abbrev pub tailStart : ℕ
 tailStart = tailStartOf layout

@@ -6,7 +6,17 @@ ghost use lib.Dec.{eqb};
 ghost use lib.ListN.{getD, length};
 ghost use Rattle.lists.specs.Segments.{segment, splice};
 ghost use Rattle.lists.specs.Tests.{allBelow};
-ghost use Rattle.image.specs.Layout.{blockAddress, blockCount, blockSize, blockStart, cardCount, tableSize, tableStart};
+ghost use Rattle.image.specs.Layout.{
+  blockAddress,
+  blockCount,
+  blockSize,
+  blockStart,
+  blocksSize,
+  cardCount,
+  endStart,
+  tableSize,
+  tableStart,
+};
 ghost use Rattle.image.specs.Parts.{Whole, blockAt, putBlock, putTable, zeros};
 
 // Counts: cards, blocks of a table, slots of a block, copies of a record, transactions.
@@ -39,7 +49,12 @@ pub const SLOT_SIZE: usize = 5;
 
 pub const BLOCK_SIZE: usize = 1 + SLOT_COUNT * SLOT_SIZE;
 
-pub const TABLE_SIZE: usize = BLOCK_COUNT * BLOCK_SIZE;
+// A card's table: its blocks, and behind them its stamp.
+pub const BLOCKS_SIZE: usize = BLOCK_COUNT * BLOCK_SIZE;
+
+pub const STAMP_SIZE: usize = 4;
+
+pub const TABLE_SIZE: usize = BLOCKS_SIZE + STAMP_SIZE;
 
 // The pairs of a placement by table, and those of all active placements, behind the tables.
 pub const PAIRS_SIZE: usize = 48;
@@ -95,12 +110,12 @@ pub fn read_at(s: &[u8], at: usize) -> [u8; BLOCK_SIZE]
     bytes
 }
 
-// The block writer: writes a whole block of a card's table.
-pub fn write_block(table: &mut [u8], block: Block, bytes: [u8; BLOCK_SIZE])
-    requires { ⌜ (length (now table) ≡ tableSize) × (block .0 < blockCount) ⌝ }
-    ensures { λ _. ⌜ now (table .exit) ≡ splice (now (table .entry)) (blockStart (block .0)) bytes ⌝ }
+// The block writer: writes a whole block among those of a card's table.
+pub fn write_block(blocks: &mut [u8], block: Block, bytes: [u8; BLOCK_SIZE])
+    requires { ⌜ (length (now blocks) ≡ blocksSize) × (block .0 < blockCount) ⌝ }
+    ensures { λ _. ⌜ now (blocks .exit) ≡ splice (now (blocks .entry)) (blockStart (block .0)) bytes ⌝ }
 {
-    write_at(table, block.0 as usize * BLOCK_SIZE, &bytes);
+    write_at(blocks, block.0 as usize * BLOCK_SIZE, &bytes);
 }
 
 // Where the card's table starts in the image.
@@ -119,13 +134,22 @@ pub fn block_address(card: Card, block: Block) -> usize
     table_start(card) + block.0 as usize * BLOCK_SIZE
 }
 
-// Writes a whole block of a card: the card's table, a part from the middle of the image, is lent on to the block writer.
+// Where the bytes behind the card's blocks start in the image.
+pub fn end_start(card: Card) -> usize
+    requires { ⌜ card .0 < cardCount ⌝ }
+    ensures { λ r. ⌜ r ≡ endStart (card .0) ⌝ }
+{
+    table_start(card) + BLOCKS_SIZE
+}
+
+// Writes a whole block of a card: the card's blocks, a part from the middle of the image, are lent on to the block writer,
+// which so can reach no stamp.
 pub fn put_block(image: &mut [u8], card: Card, block: Block, bytes: [u8; BLOCK_SIZE])
     requires { ⌜ Whole (now image) × (card .0 < cardCount) × (block .0 < blockCount) ⌝ }
     ensures { λ _. ⌜ now (image .exit) ≡ putBlock (now (image .entry)) (card .0) (block .0) bytes ⌝ }
 {
     let start = table_start(card);
-    let end = start + TABLE_SIZE;
+    let end = start + BLOCKS_SIZE;
     write_block(&mut image[start..end], block, bytes);
 }
 
@@ -148,7 +172,7 @@ pub fn clear(s: &mut [u8])
     }
 }
 
-// Writes zeros over a card's table.
+// Writes zeros over a card's table, its stamp too.
 pub fn clear_table(image: &mut [u8], card: Card)
     requires { ⌜ Whole (now image) × (card .0 < cardCount) ⌝ }
     ensures { λ _. ⌜ now (image .exit) ≡ putTable (now (image .entry)) (card .0) (zeros tableSize) ⌝ }

@@ -14,11 +14,11 @@ use Rattle.lists.proofs.Bools.{and-in, and-l, and-r, eqb-self, nor-r, not-not-i
 use Rattle.lists.proofs.Counts.{below-none, but, count-but, count-mono}
 use Rattle.lists.proofs.Lists.{any-none, in-left, in-reverse, in-right}
 use Rattle.method.specs.Changes.{Control, addedBy, marked, startedBy}
-use Rattle.method.specs.ControlPart.{active, begunAt, closed, halted, isOpen, onlyNewest, opened}
+use Rattle.method.specs.ControlPart.{active, begunAt, closed, isOpen, onlyNewest, opened}
 use Rattle.method.specs.ControlPart.{withCards}
 use Rattle.method.specs.OneRecordList.{isLast, isStop, observe}
 use Rattle.method.specs.Parameters.{Parameters}
-use Rattle.method.specs.Rules.{Call, Plan, View, absent, act, begin, commit, delete, dropHeld, fail, failPlan, stopPlan}
+use Rattle.method.specs.Rules.{Call, Plan, View, absent, act, begin, commit, delete, fail, failPlan, stopPlan}
 use Rattle.method.specs.Rules.{fit, get, guarded, inActive, load, lockHolders, move, ok, place, plan, refusal}
 use Rattle.method.specs.Rules.{rollback, seenSlot, settle, start, state, stopping, stops, store, unwritten}
 use Rattle.method.specs.Rules.{withdraw, writing}

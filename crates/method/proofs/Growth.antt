@@ -3,7 +3,7 @@
 use Prim.Native.Nat.{_+_, _<_, _≤_, suc, zero, ℕ}
 use lib.Dec.{ltb}
 use lib.ListN.{length, length-map}
-use mathlib.Core.Bool.{_&&_, cond}
+use mathlib.Core.Bool.{Bool, _&&_, cond}
 use mathlib.Core.List.{List, [], _∷_, map, map-append, reverse}
 use mathlib.Core.Logic.{_⊎_, inl, inr}
 use mathlib.Core.Path.{_∙_, _≡_, ap, fun-ext, refl, subst, sym}
@@ -119,16 +119,17 @@ module _ (P : Parameters) (L : Laws P) (G : Growth P) (E : GrowthLaws P G) (M : 
       site-of-older : (q : Placement) (b c : ℕ) → elem c (G .sites (G .olderSetting (k .setting)) (G .older q) b) ≡ elem c (sites (k .setting) q b)
       site-of-older q b c = ap (elem c) (same-sites (k .setting) q b)
 
-      block-grown : (b : ℕ) → BlockInv P (k .setting) (active k) (has (k .working)) v records b
-          → BlockInv (grown P G) (G .olderSetting (k .setting)) (active (grownControl P G k)) (has (k .working)) v records b
-      block-grown b o = record {
+      -- over any cards that count
+      pub block-grown : (w : ℕ → Bool) (b : ℕ) → BlockInv P (k .setting) (active k) w v records b
+          → BlockInv (grown P G) (G .olderSetting (k .setting)) (active (grownControl P G k)) w v records b
+      block-grown w b o = record {
         trailed = λ c h. let t = o .trailed c h in (G .older (t .0), still-active (t .0) (t .1), site-of-older (t .0) b c ∙ t .2);
         same = o .same;
         cover = go (o .cover);
       }
         where
-          go : Cover P (k .setting) (active k) (has (k .working)) v b ⊎ Blank P v records b
-              → Cover (grown P G) (G .olderSetting (k .setting)) (active (grownControl P G k)) (has (k .working)) v b ⊎ Blank (grown P G) v records b
+          go : Cover P (k .setting) (active k) w v b ⊎ Blank P v records b
+              → Cover (grown P G) (G .olderSetting (k .setting)) (active (grownControl P G k)) w v b ⊎ Blank (grown P G) v records b
           go (inl (p, m, h)) = inl (G .older p, still-active p m, λ c e w. h c (sym (site-of-older p b c) ∙ e) w)
           go (inr n) = inr n
 
@@ -136,7 +137,7 @@ module _ (P : Parameters) (L : Laws P) (G : Growth P) (E : GrowthLaws P G) (M : 
       invariant-grown i = record {
         form = form-grown (i .form);
         idle = λ c b e. i .idle c b (sym (same-visible c b) ∙ e);
-        each = λ b e. block-grown b (i .each b (sym (ap (ltb b) (same-blocks (k .setting))) ∙ e));
+        each = λ b e. block-grown (has (k .working)) b (i .each b (sym (ap (ltb b) (same-blocks (k .setting))) ∙ e));
       }
 
     pub beside-grown : (s : State P) (v : View P) → Beside P L s k v → Beside (grown P G) M (grownState P G s) (grownControl P G k) v

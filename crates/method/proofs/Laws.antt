@@ -16,7 +16,7 @@ module _ (P : Parameters) where
   open Parameters P using (Mask, Placement, Setting, Serial, Block, StartArgument, PlaceArgument, cards, transactions, slots)
   open Parameters P using (copies, blocks, tranInRange, recInRange, valueInRange, blockOf, placeOf, has, noCards)
   open Parameters P using (insert, remove, mask, sites, without, usable, starts, startSetting, startRefusal, places)
-  open Parameters P using (placeRefusal, placeLimit, numbered, empty, fresh, held, slot, lockSlot, endSlots)
+  open Parameters P using (placeRefusal, placeLimit, numbered, empty, fresh, held, slot, lockSlot, endSlots, Stamp, sameStamp, stampOf)
 
   abbrev Control : Type 0
   Control = ControlPart Mask Placement Setting Serial
@@ -58,6 +58,9 @@ module _ (P : Parameters) where
     pub numbered-place : (k : Control) (a : PlaceArgument) → placeRefusal k a ≡ 0 → numbered k → numbered (addedBy P k (places (k .newest) a))
     pub numbered-fail : (k : Control) (c : ℕ) → has (mask (k .newest)) c ≡ true → numbered k → numbered (addedBy P k (without (k .newest) c))
     pub numbered-settle : (k : Control) → numbered k → numbered (onlyNewest k)
+    -- stamps: a stamp is the same as itself, and newest placement and serial tell it
+    pub same-refl : (m : Stamp) → sameStamp m m ≡ true
+    pub stamp-same : (j k : Control) → j .newest ≡ k .newest → j .serial ≡ k .serial → stampOf j ≡ stampOf k
     -- blocks: the empty one is not held, a fresh one is held and blank, and a change of slots is seen slot by slot
     pub held-empty : held empty ≡ false
     pub held-fresh : held fresh ≡ true

@@ -14,7 +14,6 @@ use Rattle.lists.proofs.Counts.{all-below}
 use Rattle.lists.proofs.Lists.{elem-keep}
 use Rattle.method.specs.Rules.{settledBy}
 use Rattle.method.specs.Changes.{Control, marked, replaced, startedBy}
-use Rattle.method.specs.ControlPart.{halted, isOpen}
 use Rattle.method.specs.OneRecordList.{isLast, observe}
 use Rattle.method.specs.Parameters.{Parameters}
 use Rattle.method.specs.Rules.{Call, Plan, View, absent, act, begin, clearCard, clearStamp, commit, delete, dropHeld, endHeld}

@@ -21,3 +21,14 @@ pub mod MoveCounts
 pub mod Protection
 pub mod ProtectionCounts
 pub mod Twins
+pub mod Tidy
+pub mod Returning
+pub mod Stamps
+pub mod Resting
+pub mod RunsAgain
+pub mod CallKinds
+pub mod RestingSteps
+pub mod StepsThrough
+pub mod ThroughStops
+pub mod ComesBack
+pub mod GrownThrough

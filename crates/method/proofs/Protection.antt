@@ -9,13 +9,12 @@ use mathlib.Core.Path.{_∙_, _≡_, ap, fun-ext, refl, sym}
 use Rattle.lists.specs.Tests.{allBelow}
 use Rattle.lists.proofs.Bools.{and-when, split, tf}
 use Rattle.method.specs.Changes.{Control, marked}
-use Rattle.method.specs.ControlPart.{halted, isOpen}
 use Rattle.method.specs.OneRecordList.{plainAfter, rulesAfter, stateAfter, callsOf, disturb, isStop, zeroed}
 use Rattle.method.specs.Parameters.{Parameters}
 use Rattle.method.specs.PlainList.{PlainList, plainProtected, plainStart, stopsNow}
 use Rattle.method.specs.Protection.{ProtectedByFails, ProtectedByFields, ProtectedByPlainList, noFailStops, protection}
 use Rattle.method.specs.Rules.{State, View, act, answerOf, fail, failPlan, guarded, isProtected, look, stopPlan, unwritten}
-use Rattle.method.specs.Rules.{nextState, placed, plan, refusal, row, start, state, stopping, stops, unplaced, writing}
+use Rattle.method.specs.Rules.{nextState, placed, plan, refusal, row, start, state, stopping, stops, unplaced}
 use Rattle.method.proofs.Laws.{Laws}
 use Rattle.method.proofs.Reached.{Reached, ready-reached}
 use Rattle.method.proofs.Run.{Ready, ready-noise}

@@ -29,7 +29,7 @@ module _ (P : Parameters) (L : Laws P) where
     pub same-control : s .control ≡ k
     pub same-look : look P s ≡ v
 
-  beside-plan : (s : State P) (k : Control P) (v : View P) → Beside s k v → (c : Call P) → plan P c (s .control) (look P s) ≡ plan P c k v
+  pub beside-plan : (s : State P) (k : Control P) (v : View P) → Beside s k v → (c : Call P) → plan P c (s .control) (look P s) ≡ plan P c k v
   beside-plan s k v b c = ap₂ (λ (x : Control P) (y : View P). plan P c x y) (b .same-control) (b .same-look)
 
   pub beside-next : (s : State P) (k : Control P) (v : View P) → Beside s k v → (c : Call P)

@@ -8,11 +8,11 @@ use mathlib.Core.Path.{_≡_, fun-ext, refl}
 use native.Mathlib.Omega.{arith}
 use Rattle.lists.proofs.Bools.{and-in, and-l, and-r, not-not-is, split}
 use Rattle.method.specs.Changes.{Control, addedBy, marked}
-use Rattle.method.specs.ControlPart.{begunAt, closed, halted, isOpen, withCards}
+use Rattle.method.specs.ControlPart.{begunAt, closed, withCards}
 use Rattle.method.specs.OneRecordList.{Noise, disturb}
 use Rattle.method.specs.Parameters.{Parameters}
 use Rattle.method.specs.Rules.{Call, Plan, State, View, absent, act, apply, begin, clearCard, commit, delete}
-use Rattle.method.specs.Rules.{dropHeld, fail, failPlan, stopPlan, fit, get, guarded, load, lockHolders, look, move, ok}
+use Rattle.method.specs.Rules.{fail, failPlan, stopPlan, fit, get, guarded, load, lockHolders, look, move, ok}
 use Rattle.method.specs.Rules.{place, plan, refusal, refused, rollback, seenSlot, settle, start, state, stopping}
 use Rattle.method.specs.Rules.{stops, store, unwritten, updated, visible, withdraw, writing}
 use Rattle.method.specs.Slots.{isNone, readBy}
@@ -20,7 +20,7 @@ use Rattle.method.proofs.Keeping.{nextView}
 use Rattle.method.proofs.Laws.{Laws}
 use Rattle.method.proofs.Refusals.{row-clear}
 
-some≢none : {A : Type 0} (x : A) → _≡_ {A = Option A} (some x) none → ⊥
+pub some≢none : {A : Type 0} (x : A) → _≡_ {A = Option A} (some x) none → ⊥
 some≢none x e = let z : _≡_ {A = ℕ} 0 1 = cc in omega arith
 
 module _ (P : Parameters) (L : Laws P) where

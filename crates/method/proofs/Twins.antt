@@ -1,8 +1,9 @@
 -- Twins agree. In a running store every holder of a block shows the records of the plain list, by the invariant. The fail that stops it ends
--- the open transactions on all holders alike, and a stopped store takes no call but a start. Assumes nothing.
+-- the open transactions on all holders alike, and a stopped store takes no call but a start and a
+-- fail, which only marks its card. Assumes nothing.
 use Prim.Native.Nat.{suc, zero, ℕ}
 use lib.Dec.{eqb, ltb}
-use mathlib.Core.Bool.{Bool, _&&_, cond, false, not, true}
+use mathlib.Core.Bool.{Bool, cond, false, not, true}
 use mathlib.Core.List.{List, [], _∷_}
 use mathlib.Core.Logic.{_⊎_, inl, inr}
 use mathlib.Core.Option.{none}
@@ -17,7 +18,7 @@ use Rattle.method.specs.Parameters.{Parameters}
 use Rattle.method.specs.PlainList.{PlainList, plainNext, plainStart}
 use Rattle.method.specs.Rules.{Call, Plan, State, View, act, answerOf, apply, begin, commit, delete, dropHeld, fail, failPlan, fit, get}
 use Rattle.method.specs.Rules.{guarded, laterRows, load, look, move, nextState, ok, outOfRange, place, placed, plan, refusal, rollback, row}
-use Rattle.method.specs.Rules.{settle, start, state, stopping, stopPlan, stops, store, unplaced, unwritten, updated, visible, withdraw, writing}
+use Rattle.method.specs.Rules.{settle, start, state, stopping, stopPlan, stops, store, unplaced, unwritten, updated, visible, withdraw}
 use Rattle.method.specs.Slots.{Slot, ended}
 use Rattle.method.specs.Twins.{Twins, TwinsAgree}
 use Rattle.method.proofs.Growth.{GrowthLaws, beside-grown, ready-grown}
@@ -46,7 +47,7 @@ module _ (P : Parameters) (L : Laws P) where
       e .same c r h refl ∙ sym (e .same d r j refl)
 
   -- every working card is seen with what it holds
-  twins-seen : (s : State P) → Agreeing (look P s) → Twins P s
+  pub twins-seen : (s : State P) → Agreeing (look P s) → Twins P s
   unfolding look
   twins-seen s a c d b i vc vd hc hd i-ok =
       let t = rec-at b i i-ok in
@@ -201,9 +202,9 @@ module _ (P : Parameters) (L : Laws P) where
   unfolding nextState apply
   marked-rests c s t e =
       let p : plan P (fail c) (s .control) (look P s) ≡ unwritten P stops (marked P (s .control) c) = unfold plan act in
-          (ap (λ (n : ℕ). guarded P n (s .control) (act P (fail c) (s .control) (look P s))) e
-          ∙ ap (λ (b : Bool). cond b (unwritten P stops (marked P (s .control) c))
-          (cond (stopping P (s .control) c) (stopPlan P (s .control) (look P s) c) (failPlan P (s .control) (look P s) c))) (t .stays)) in
+      (ap (λ (n : ℕ). guarded P n (s .control) (act P (fail c) (s .control) (look P s))) e
+      ∙ ap (λ (b : Bool). cond b (unwritten P stops (marked P (s .control) c))
+      (cond (stopping P (s .control) c) (stopPlan P (s .control) (look P s) c) (failPlan P (s .control) (look P s) c))) (t .stays)) in
       let ok : ltb c (Parameters.cards P) ≡ true = not-not-is (ltb c (Parameters.cards P)) (unfold refusal in (row-clear (not (ltb c (Parameters.cards P))) 2 e .0)) in
       subst (λ (y : Plan P). Stopped (apply P y s)) (sym p) (record {
         stays = t .stays;
@@ -247,7 +248,8 @@ module _ (P : Parameters) (L : Laws P) where
       good = subst (Legal P L) (sym (r .store-beside .same-control)) (is-running (r .inv .form) (r .full))
 
       go : (isLast P (plainObserve P c q) ≡ true) ⊎ (isLast P (plainObserve P c q) ≡ false) → Agreed (nextState P c s)
-      go (inl e) = at-rest (stop-call c s good (ap (λ (k : Control P). k .stopped) (r .store-beside .same-control) ∙ r .inv .form .base .running) (agreed-look s (in-run z q r)) (ap (isLast P) (h .shows) ∙ e))
+      go (inl e) = at-rest (stop-call c s good (ap (λ (k : Control P). k .stopped) (r .store-beside .same-control) ∙ r .inv .form .base .running)
+          (agreed-look s (in-run z q r)) (ap (isLast P) (h .shows) ∙ e))
       go (inr e) = in-run (nextState P c z) (plainNext P (settleAccepted P z) c q) (h .goes-on e)
   agreed-next c s (at-rest t) = go (refusal P c (s .control) (look P s)) refl
     where

@@ -9,3 +9,6 @@ pub mod Growth
 pub mod Protection
 pub mod MoveList
 pub mod Twins
+pub mod Returning
+pub mod ThroughStops
+pub mod ComesBack

@@ -1,4 +1,4 @@
-// The store for callers in other languages: its calls, a command's bytes, the move list, the converter of older images,
+// The store for callers in other languages: its calls, a command's bytes, the move list, the converters of older images,
 // questions that are no calls, and commands by their fields. An image is lent as a pointer and a length. An answer is one
 // number of 32 bits.
 ghost use mathlib.Core.Path.{_≡_};
@@ -6,9 +6,9 @@ ghost use Rattle.method.specs.Rules.{begin, commit, delete, fail, fit, get, loa
 ghost use Rattle.method.specs.Rules.{start, state, store, withdraw};
 ghost use Rattle.mask.specs.Masks.{byte};
 ghost use Rattle.cabinet_rules.specs.Places.{byLines, byMask};
-ghost use Rattle.codes.specs.Codes.{Coded, CodedCommand};
+ghost use Rattle.codes.specs.Codes.{Coded, CodedCommand, CodedReturn};
 ghost use Rattle.codes.specs.CommandCodes.{CodedReading, CodedWriting};
-ghost use Rattle.codes.specs.FilledCodes.{CodedConversion};
+ghost use Rattle.codes.specs.FilledCodes.{CodedPairs, CodedStamps};
 ghost use Rattle.codes.specs.ListCodes.{CodedList};
 ghost use Rattle.codes.specs.ToldCodes.{toldCode};
 ghost use Rattle.command.specs.Commands.{fieldsGiven};
@@ -119,6 +119,14 @@ pub extern "C" fn nolpigat_fail(image: &mut [u8], card: u8) -> u32
     codes::code(store::fail(image, Card(card)))
 }
 
+// A failed card works again in a store that has stopped, with its table as it is.
+#[no_mangle]
+pub extern "C" fn nolpigat_return_card(image: &mut [u8], card: u8) -> u32
+    ensures { λ r. ⌜ CodedReturn card (now (image .entry)) r (now (image .exit)) ⌝ }
+{
+    codes::code(store::return_card(image, Card(card)))
+}
+
 // A card's copy of a block goes to the newest sites.
 #[no_mangle]
 pub extern "C" fn nolpigat_move(image: &mut [u8], card: u8, block: u8) -> u32
@@ -167,12 +175,20 @@ pub extern "C" fn nolpigat_move_list(image: &[u8], list: &mut [u8]) -> u32
     codes::list_code(move_bytes::list(image, list))
 }
 
-// An older image is written into the lent buffer at its length of today.
+// An image of 21,024 bytes is written into the lent buffer at 21,216 bytes.
 #[no_mangle]
-pub extern "C" fn nolpigat_convert(older: &[u8], image: &mut [u8]) -> u32
-    ensures { λ r. ⌜ CodedConversion (now (older .entry)) (now (image .entry)) r (now (image .exit)) ⌝ }
+pub extern "C" fn nolpigat_convert_21024(older: &[u8], image: &mut [u8]) -> u32
+    ensures { λ r. ⌜ CodedPairs (now (older .entry)) (now (image .entry)) r (now (image .exit)) ⌝ }
 {
-    codes::filled_code(store::convert(older, image))
+    codes::filled_code(store::convert_21024(older, image))
+}
+
+// An image of 21,216 bytes is written into the lent buffer at its length of today.
+#[no_mangle]
+pub extern "C" fn nolpigat_convert_21216(older: &[u8], image: &mut [u8]) -> u32
+    ensures { λ r. ⌜ CodedStamps (now (older .entry)) (now (image .entry)) r (now (image .exit)) ⌝ }
+{
+    codes::filled_code(store::convert_21216(older, image))
 }
 
 // Whether the store has stopped: 1 or 0.

@@ -6,7 +6,6 @@ use lib.ListN.{length, length-map}
 use mathlib.Core.Bool.{not}
 use mathlib.Core.List.{List}
 use mathlib.Core.Logic.{_≢_}
-use mathlib.Core.Option.{none}
 use mathlib.Core.Path.{_∙_, _≡_, ap, refl, sym}
 use Rattle.image.specs.Layout.{mostPlaced}
 use Rattle.mask.specs.Placements.{pairless}
@@ -19,12 +18,11 @@ use Rattle.control.specs.declared.Control.{Control as Struct}
 use Rattle.control.proofs.Front.{active-front}
 use Rattle.cabinet_rules.specs.Cabinet.{cabinet}
 use Rattle.cabinet_rules.specs.Images.{Image, controlIn, planOn}
-use Rattle.cabinet_rules.specs.Places.{byLines, placedRow, tableRows}
+use Rattle.cabinet_rules.specs.Places.{byLines, isSpent, placedRow, tableRows}
 use Rattle.promise.specs.Given.{Given, rowsOn}
 use Rattle.promise.specs.Promise.{Done}
 use Rattle.promise.specs.declared.Answer.the-variants.{Ok, Refused}
 use Rattle.promise.proofs.Finish.{by-plan, by-rules}
-use Rattle.promise.proofs.Laid.{no-ends}
 use Rattle.placing.specs.Placed.{tableAdded, withTable}
 use Rattle.placing.proofs.Rows.{rowsOf}
 
@@ -32,7 +30,7 @@ use Rattle.placing.proofs.Rows.{rowsOf}
 rows-front : (l : List ℕ) (k : Part) → rowsOf l (frontPart k) ≡ rowsOf l k
 unfolding refusal tableRows placedRow
 rows-front l k = ap (λ (n : ℕ). row 3 (not (areLines l)) (row 4 (k .stopped) (row 9 (not (linesWork (k .working) l)) (
-    row 17 (hasGap l) (row 18 (hasOverlap l) (row 10 (leb mostPlaced n) 0))))))
+    row 17 (hasGap l) (row 18 (hasOverlap l) (row 10 (leb mostPlaced n) (row 20 (isSpent (k .serial)) 0)))))))
     (ap length (sym (active-front k)) ∙ length-map (active k) pairless)
 
 -- they look at no block
@@ -59,4 +57,4 @@ module _ {k : Struct} {g : Image} (is : Given k g) (l : List ℕ) (n : ℕ) (e :
   pub table-done : n ≡ 0 → (behind : Image) → behind ≡ withTable l g → Done (place (byLines l)) g Ok behind
   unfolding withTable
   table-done z behind w = by-plan (place (byLines l)) refl g (is .formed) Ok (tablePlan l g) behind (sym z ∙ rows-on) (plan-is l g) refl
-      (w ∙ no-ends (tableAdded l g) (λ c b. none) _ g refl)
+      w

@@ -14,6 +14,8 @@ ghost use Rattle.promise.specs.Promise.{Done};
 ghost use Rattle.placing.specs.Placed.{withTable};
 use control::Control;
 use control::codec;
+use control::serials;
+use control::stamps;
 use promise::Answer;
 
 // The rows from 3 on, a test each.
@@ -40,11 +42,14 @@ fn refusal(k: Control, lines: &[u8]) -> u8
     if k.count >= image::MOST_PLACED {
         return 10;
     }
+    if k.serial >= serials::LIMIT {
+        return 20;
+    }
     0
 }
 
 // The placement of the lines becomes the newest: its pairs stand behind those of the older placements, its mask and its
-// mark before the tables.
+// mark before the tables, and every working card gets its stamp.
 fn add(image: &mut [u8], k: Control, lines: &[u8])
     requires { ⌜ Given k (now image) ⌝ }
     requires { ⌜ areLines (now lines) ≡ true ⌝ }
@@ -53,7 +58,9 @@ fn add(image: &mut [u8], k: Control, lines: &[u8])
 {
     control::pairs::put(image, k.count as usize, table_lines::pairs(lines));
     let mask = table_lines::named(lines);
-    codec::write(image, k.add_table(mask));
+    let added = k.add_table(mask);
+    codec::write(image, added);
+    stamps::put_all(image, added.working, added.serial, mask);
 }
 
 // The placement of the lines becomes the newest.

@@ -6,17 +6,18 @@ use lib.Dec.{eqb}
 use lib.ListN.{length}
 use mathlib.Core.Bool.{Bool, false, not, true}
 use mathlib.Core.Logic.{_≢_}
-use mathlib.Core.Option.{Option, none}
+use mathlib.Core.Option.{none}
 use mathlib.Core.Path.{_∙_, _≡_, ap, ap₂, refl, sym}
 use Rattle.lists.proofs.Bools.{not-not-is}
-use Rattle.image.specs.Layout.{imageSize, layout}
+use Rattle.image.specs.Layout.{cardCount, imageSize}
 use Rattle.image.specs.Parts.{Whole}
 use Rattle.method.specs.PlainList.{orRefused}
-use Rattle.method.specs.Rules.{isStart, Call, Plan, row, stamping, unwritten, writing, unlessRefused}
+use Rattle.method.specs.Rules.{isStart, Call, Plan, row, stampAll, stamping, unwritten, writing, unlessRefused}
 use Rattle.method.proofs.Refusals.{row-clear}
 use Rattle.control.specs.ControlBytes.{Part, frontPart}
 use Rattle.control_form.specs.ControlForm.{controlForm, formRefusal}
 use Rattle.control.specs.Meaning.{putControl}
+use Rattle.control.specs.Stamps.{putStamps, stampOf}
 use Rattle.control_form.specs.Reading.{Reads}
 use Rattle.control.specs.declared.Control.{Control}
 use Rattle.control_form.specs.declared.Found.{Found}
@@ -27,7 +28,7 @@ use Rattle.cabinet_rules.specs.Images.{refusalBy, refusalOn}
 use Rattle.promise.specs.Given.{Given, rowsOn}
 use Rattle.promise.specs.Promise.{Done, shown}
 use Rattle.promise.specs.Laid.{laid}
-use Rattle.promise.proofs.Laid.{KeepsTail, kept-control, laid-none, no-ends, write-control}
+use Rattle.promise.proofs.Laid.{KeepsTail, kept-control, laid-none, write-control, write-stamps}
 use Rattle.promise.specs.declared.Answer.{Answer as AnswerValue}
 use Rattle.promise.specs.declared.Answer.the-variants.{Refused}
 
@@ -105,15 +106,15 @@ module _ (c : Call cabinet) (late : isStart c ≡ false) (g : Image) where
         → KeepsTail k g → behind ≡ putControl g (frontPart k) → Done c g a behind
     by-control a k behind e q t l = by-both a k (λ c b. none) behind e q t (l ∙ alone (frontPart k))
 
-    -- the same where stamps are written too: those of a layout with no byte behind the blocks are none
-    module _ (bare : layout .tableTail ≡ 0) {m : ℕ → Option (current .memory .Stamp)} where
-      pub by-stamps : (a : AnswerValue) (k : Part) (w : Writes) (behind : Image) → 0 ≡ rowsOn c g → planOn c g ≡ stamping cabinet (writing cabinet (shown a) k w) m
-          → KeepsTail k g → behind ≡ putControl (laid w g) (frontPart k) → Done c g a behind
-      by-stamps a k w behind e q t l = by-plan a (stamping cabinet (writing cabinet (shown a) k w) m) behind e q refl (l ∙ write-control w g k t ∙ no-ends k w _ g bare)
+    -- the same where a placement is added: then every working card gets its stamp
+    pub by-stamps : (a : AnswerValue) (k : Part) (w : Writes) (behind : Image) → 0 ≡ rowsOn c g → planOn c g ≡ stamping cabinet (writing cabinet (shown a) k w) (stampAll cabinet k)
+        → KeepsTail k g → behind ≡ putStamps (putControl (laid w g) (frontPart k)) (k .working) (stampOf k) cardCount → Done c g a behind
+    by-stamps a k w behind e q t l = by-plan a (stamping cabinet (writing cabinet (shown a) k w) (stampAll cabinet k)) behind e q refl
+        (l ∙ ap (λ (i : Image). putStamps i (k .working) (stampOf k) cardCount) (write-control w g k t) ∙ write-stamps w g k)
 
-      pub by-stamps-alone : (a : AnswerValue) (k : Part) (behind : Image) → 0 ≡ rowsOn c g → planOn c g ≡ stamping cabinet (unwritten cabinet (shown a) k) m
-          → KeepsTail k g → behind ≡ putControl g (frontPart k) → Done c g a behind
-      by-stamps-alone a k behind e q t l = by-stamps a k (λ c b. none) behind e q t (l ∙ alone (frontPart k))
+    pub by-stamps-alone : (a : AnswerValue) (k : Part) (behind : Image) → 0 ≡ rowsOn c g → planOn c g ≡ stamping cabinet (unwritten cabinet (shown a) k) (stampAll cabinet k)
+        → KeepsTail k g → behind ≡ putStamps (putControl g (frontPart k)) (k .working) (stampOf k) cardCount → Done c g a behind
+    by-stamps-alone a k behind e q t l = by-stamps a k (λ c b. none) behind e q t (l ∙ ap (λ (i : Image). putStamps i (k .working) (stampOf k) cardCount) (alone (frontPart k)))
 
     -- accepted, and nothing changes
     pub by-look : (a : AnswerValue) → 0 ≡ rowsOn c g → planOn c g ≡ unwritten cabinet (shown a) (controlIn g) → Done c g a g

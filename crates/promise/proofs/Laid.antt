@@ -11,7 +11,7 @@ use mathlib.Core.Logic.{_≢_, _⊎_, inl, inr, ⊎-elim}
 use mathlib.Core.Option.{Option, none, some}
 use mathlib.Core.Path.{_∙_, _≡_, ap, refl, sym}
 use native.Mathlib.Omega.{arith}
-use Rattle.lists.proofs.Bools.{eqb-self}
+use Rattle.lists.proofs.Bools.{eqb-self, split}
 use Rattle.lists.proofs.Cases.{by-pair, lt-or-ge}
 use Rattle.lists.proofs.Segments.{getD-after, getD-before}
 use Rattle.image.specs.Layout.{blockAddress, blockCount, blockSize, cardCount}
@@ -22,17 +22,22 @@ use Rattle.image.proofs.Blocks.{put-same, byte-of-block, byte-of-control, contr
 use Rattle.image.proofs.Parts.{part-block}
 use Rattle.slot.specs.Blocks.{BlockBytes, ofList}
 use Rattle.slot.proofs.Blocks.{block-path, byte-in, of-list}
+use Rattle.mask.specs.Masks.{hasCard}
 use Rattle.mask.specs.Placements.{Placement, isByTable}
 use Rattle.method.specs.ControlPart.{active, added}
-use Rattle.method.specs.Rules.{updated}
+use Rattle.method.specs.Rules.{stampAll, updated}
 use Rattle.control.specs.ControlBytes.{Part, controlByte, frontPart, tailByte, tailOf}
 use Rattle.control_form.specs.ControlForm.{controlForm}
 use Rattle.control.specs.Meaning.{putControl}
+use Rattle.control.specs.Stamps.{putStamps, stampOf}
+use Rattle.control.proofs.StampLaws.{stamps-block, stamps-control, stamps-in, stamps-kept, stamps-tail, whole-stamps}
 use Rattle.control_form.proofs.Put.{length-put, put-after, put-blocks, put-in}
 use Rattle.control.proofs.Front.{front-put}
 use Rattle.control.proofs.Tail.{tail-more}
 use Rattle.control_form.proofs.RoundTrip.{control-back, tail-back}
-use Rattle.cabinet_rules.specs.Images.{Ends, Image, Writes, after, blockIn, controlIn, endIn, tailIn}
+use Rattle.cabinet_rules.specs.Cabinet.{cabinet}
+use Rattle.cabinet_rules.specs.Delivery.{current}
+use Rattle.cabinet_rules.specs.Images.{Ends, Image, Writes, after, blockIn, controlIn, endIn, endOf, tailIn}
 use Rattle.promise.specs.Laid.{laid}
 use Rattle.cabinet_rules.proofs.After.{after-block, after-control, after-end, after-ext, after-tail, length-after}
 
@@ -143,28 +148,58 @@ abbrev pub KeepsTail : Part → Image → Type 0
 KeepsTail k g = (n : ℕ) → n < layout .imageTail → tailByte k n ≡ tailIn g n
 
 -- bytes before the tables that are written of a control part tell nothing of its pairs
-pub write-control : (w : Writes) (g : Image) (k : Part) → KeepsTail k g → putControl (laid w g) (frontPart k) ≡ after (controlByte k) (tailByte k) w (λ c. none) g
-write-control w g k keeps = front-put (laid w g) k ∙ after-ext layout (controlByte k) (tailByte k) w (λ c. none) g (putControl (laid w g) k) long
-    (λ n h. put-in (laid w g) k fits n h)
-    (λ n h. put-after (laid w g) k fits (tailStartOf layout + n) (omega arith) ∙ laid-tail w g n h ∙ sym (keeps n h))
-    (λ c b hc hb. is-block (putControl (laid w g) k) long c b hc hb (updated (w c b) (blockIn g c b)) (put-blocks (laid w g) k fits (whole-laid w g) c hc b hb ∙ laid-block w g c b hc hb))
-    (λ c j hc hj. put-after (laid w g) k fits (endStartOf layout c + j) (omega arith) ∙ laid-end w g c j hc hj)
+pub over-control : (w : Writes) (e : Ends) (g : Image) (k : Part) → KeepsTail k g
+    → putControl (after (λ n. getD g n 0) (tailIn g) w e g) (frontPart k) ≡ after (controlByte k) (tailByte k) w e g
+over-control w e g k keeps = front-put out k ∙ after-ext layout (controlByte k) (tailByte k) w e g (putControl out k) long
+    (λ n h. put-in out k fits n h)
+    (λ n h. put-after out k fits (tailStartOf layout + n) (omega arith) ∙ after-tail layout low (tailIn g) w e g n h ∙ sym (keeps n h))
+    (λ c b hc hb. is-block (putControl out k) long c b hc hb (updated (w c b) (blockIn g c b)) (put-blocks out k fits whole c hc b hb
+    ∙ sym (block-is out whole c b hc hb) ∙ ap (λ (x : BlockBytes). x .0) (after-block layout low (tailIn g) w e g c b hc hb)))
+    (λ c j hc hj. put-after out k fits (endStartOf layout c + j) (omega arith) ∙ after-end layout low (tailIn g) w e g c j hc hj)
   where
-    fits : controlSize ≤ length (laid w g)
-    fits = omega (arith, whole-laid w g)
+    low : ℕ → ℕ
+    low n = getD g n 0
 
-    long : length (putControl (laid w g) k) ≡ imageSize
-    long = length-put (laid w g) k fits ∙ whole-laid w g
+    out : Image
+    out = after low (tailIn g) w e g
 
--- no stamp is written where no byte lies behind the blocks
-pub no-ends : (k : Part) (w : Writes) (e : Ends) (g : Image) → layout .tableTail ≡ 0
-    → after (controlByte k) (tailByte k) w (λ c. none) g ≡ after (controlByte k) (tailByte k) w e g
-no-ends k w e g z = after-ext layout (controlByte k) (tailByte k) w e g (after (controlByte k) (tailByte k) w (λ c. none) g)
-    (length-after layout (controlByte k) (tailByte k) w (λ c. none) g)
-    (after-control layout (controlByte k) (tailByte k) w (λ c. none) g)
-    (after-tail layout (controlByte k) (tailByte k) w (λ c. none) g)
-    (after-block layout (controlByte k) (tailByte k) w (λ c. none) g)
-    (λ c j hc hj. absurd (omega arith))
+    whole : Whole out
+    whole = length-after layout low (tailIn g) w e g
+
+    fits : controlSize ≤ length out
+    fits = omega (arith, whole)
+
+    long : length (putControl out k) ≡ imageSize
+    long = length-put out k fits ∙ whole
+
+pub write-control : (w : Writes) (g : Image) (k : Part) → KeepsTail k g → putControl (laid w g) (frontPart k) ≡ after (controlByte k) (tailByte k) w (λ c. none) g
+unfolding laid
+write-control w g k keeps = over-control w (λ c. none) g k keeps
+
+-- stamps are written over that: every working card gets the newest placement's
+pub write-stamps : (w : Writes) (g : Image) (k : Part)
+    → putStamps (after (controlByte k) (tailByte k) w (λ c. none) g) (k .working) (stampOf k) cardCount
+    ≡ after (controlByte k) (tailByte k) w (λ c. endOf current (stampAll cabinet k c)) g
+unfolding stampAll
+write-stamps w g k = after-ext layout (controlByte k) (tailByte k) w (λ c. endOf current (stampAll cabinet k c)) g (putStamps out (k .working) (stampOf k) cardCount)
+    (whole-stamps out whole (k .working) (stampOf k) cardCount (omega arith))
+    (λ n h. stamps-control out whole (k .working) (stampOf k) n h ∙ after-control layout (controlByte k) (tailByte k) w (λ c. none) g n h)
+    (λ n h. stamps-tail out whole (k .working) (stampOf k) n ∙ after-tail layout (controlByte k) (tailByte k) w (λ c. none) g n h)
+    (λ c b hc hb. is-block _ (whole-stamps out whole (k .working) (stampOf k) cardCount (omega arith)) c b hc hb (updated (w c b) (blockIn g c b))
+    (stamps-block out whole (k .working) (stampOf k) cardCount (omega arith) c hc b hb ∙ sym (block-is out whole c b hc hb)
+    ∙ ap (λ (x : BlockBytes). x .0) (after-block layout (controlByte k) (tailByte k) w (λ c. none) g c b hc hb)))
+    (λ c j hc hj. ends c j hc hj (split (hasCard (k .working) c)))
+  where
+    out : Image
+    out = after (controlByte k) (tailByte k) w (λ c. none) g
+
+    whole : Whole out
+    whole = length-after layout (controlByte k) (tailByte k) w (λ c. none) g
+
+    ends : (c j : ℕ) → c < cardCount → j < layout .tableTail → (hasCard (k .working) c ≡ true) ⊎ (hasCard (k .working) c ≡ false)
+        → endIn (putStamps out (k .working) (stampOf k) cardCount) c j ≡ updated (endOf current (cond (hasCard (k .working) c) (some (stampOf k)) none)) (endIn g c) j
+    ends c j hc hj (inl e) = stamps-in out whole (k .working) (stampOf k) cardCount (omega arith) c hc e j hj ∙ rw e
+    ends c j hc hj (inr e) = stamps-kept out whole (k .working) (stampOf k) c hc e j hj ∙ after-end layout (controlByte k) (tailByte k) w (λ c. none) g c j hc hj ∙ rw e
 
 -- ---- a control part that stays
 pub same-tail : (g : Image) → controlForm g ≡ true → KeepsTail (controlIn g) g
@@ -182,5 +217,5 @@ kept-control w g form = after-ext layout (λ n. getD g n 0) (tailIn g) w (λ c. 
 
 -- one placement more that is not by table
 pub more-tail : (g : Image) (k : Part) (p : Placement) → controlForm g ≡ true → active k ≡ active (controlIn g) → isByTable (p .choice) ≡ false
-    → KeepsTail (added k p tt) g
-more-tail g k p form same bare n h = tail-more (active k) p n bare ∙ ap (λ (l : List Placement). tailOf l n) same ∙ same-tail g form n h
+    → (ν : ℕ) → KeepsTail (added k p ν) g
+more-tail g k p form same bare ν n h = tail-more (active k) p n bare ∙ ap (λ (l : List Placement). tailOf l n) same ∙ same-tail g form n h

@@ -4,3 +4,4 @@ pub mod View
 pub mod Finish
 pub mod SharedRows
 pub mod WholePart
+pub mod Stamping

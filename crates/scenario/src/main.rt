@@ -4,15 +4,15 @@ mod life;
 mod report;
 
 fn main() {
-    let mut image = [0u8; 21216];
+    let mut image = [0u8; 21248];
     examples::m3(&mut image);
     // The last slot of card 1's last block.
     report::slot([
-        image[5275],
-        image[5276],
-        image[5277],
-        image[5278],
         image[5279],
+        image[5280],
+        image[5281],
+        image[5282],
+        image[5283],
     ]);
     examples::m4(&mut image);
     examples::m5_stored(&mut image);

@@ -5,4 +5,5 @@ pub mod MoveList
 pub mod NoMoves
 mod MoveRows
 mod LocalArray
+pub mod ThroughStops
 pub mod Twins

@@ -12,10 +12,11 @@ use Rattle.cabinet_rules.specs.Claims.{NoisyCall, imageAfter, imageAfterBy, ima
 use Rattle.cabinet_rules.specs.Delivery.{PartOf, current}
 use Rattle.cabinet_rules.specs.Images.{Image, answer, next}
 use Rattle.cabinet_rules.proofs.Form.{currentLaws}
-use Rattle.cabinet_rules.proofs.Lawful.{lawful}
+use Rattle.cabinet_rules.proofs.PlacingLaws.{lawful}
 use Rattle.cabinet_rules.proofs.MoveLists.{move-shows}
 use Rattle.cabinet_rules.proofs.MoveLists.{settle-shown}
 use Rattle.cabinet_rules.proofs.Shows.{Shows, noise-shows}
+use Rattle.cabinet_rules.proofs.StepsOn.{shows-return}
 use Rattle.store.specs.Runs.{IsRun, RunCall, memoryLeft, meantCalls, memoryAfter, runCalls, runSteps}
 use Rattle.store.proofs.OneRecordList.{Stepwise, kept-steps}
 
@@ -57,8 +58,11 @@ module _ (k : PartOf current) where
   moves-show [] entries a g h v s t r = (v, s, t)
   moves-show (r ∷ l) entries a g h v s t e =
       steps-show (memoryAfter (r ∷ l) g) (meantCalls (r .made)) (runSteps l) entries a (noisy (r .noise) g) (memoryLeft (r .made) (noisy (r .noise) g)) h v
-      (noise-shows current currentLaws (r .noise) g k v s) t (kept-steps (r .made) (noisy (r .noise) g) (e .0))
+      here t (kept-steps (r .made) (noisy (r .noise) g) (λ c. shows-return c (noisy (r .noise) g) k v here) (e .0))
       (λ rest b j w f m. moves-show l rest b (memoryLeft (r .made) (noisy (r .noise) g)) j w f m (e .1))
+    where
+      here : Shows current currentLaws (noisy (r .noise) g) k v
+      here = noise-shows current currentLaws (r .noise) g k v s
 
   -- Where two images show the same, settle answers the same.
   pub settle-same : (noise : ℕ → ℕ) (g h : Image) (v : View cabinet) → Shows current currentLaws g k v → Shows current currentLaws h k v

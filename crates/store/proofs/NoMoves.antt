@@ -13,10 +13,11 @@ use Rattle.lists.proofs.Tabulate.{at-tabulate, length-tabulate}
 use Rattle.image.specs.Layout.{cardCount, controlSize, imageSize, layout}
 use Rattle.mask.specs.Masks.{byte, hasCard}
 use Rattle.method.specs.MoveList.{noList}
-use Rattle.method.specs.OneRecordList.{isLast, isStop, observe}
+use Rattle.method.specs.OneRecordList.{isLast, isStop, observe, settleAccepted, zeroed}
+use Rattle.method.specs.PlainList.{PlainList, plainNext, plainStart}
 use Rattle.method.specs.Rules.{Answer, Call, begin, commit, delete, fail, fit, get, load, move}
 use Rattle.method.specs.Rules.{absent, copied, loaded, ok, place, placed, protected, refusal, refused, retired, rollback, row, settle, start, state, stops}
-use Rattle.method.specs.Rules.{store, unplaced, unprotected, value, withdraw, unlessRefused}
+use Rattle.method.specs.Rules.{store, unplaced, unprotected, value, withdraw, unlessRefused, State, nextState}
 use Rattle.cabinet_rules.specs.Cabinet.{cabinet}
 use Rattle.cabinet_rules.specs.Claims.{NoStopBy, NoisyCall, imageAfter, imageAfterBy, noisy, noisyBy, noisyByte}
 use Rattle.cabinet_rules.specs.Delivery.{current}
@@ -25,7 +26,11 @@ use Rattle.cabinet_rules.specs.MoveLists.{NeverSettles, NoneIsFinal, NoneIsFina
 use Rattle.cabinet_rules.proofs.MoveLists.{none-clear, none-is-final, none-is-final-from-earlier}
 use Rattle.store.specs.MoveList.{NoneGoesOnOfCalls, NoneIsFinalOfCalls, NoneIsFinalOn}
 use Rattle.store.specs.Runs.{IsRun, NeverStopped, NoneStops, RunCall, memoryLeft, meantCalls, memoryAfter, runCalls, runSteps}
-use Rattle.store.proofs.OneRecordList.{Stepwise, kept-steps}
+use Rattle.cabinet_rules.proofs.Earlier.{earlier-sound}
+use Rattle.cabinet_rules.proofs.Form.{currentLaws}
+use Rattle.cabinet_rules.proofs.Sound.{Sound, noise-sound, start-sound, step-sound}
+use Rattle.cabinet_rules.proofs.StepsOn.{sound-return}
+use Rattle.store.proofs.OneRecordList.{StaysAtReturns, Stepwise, kept-steps}
 use Rattle.store.proofs.MoveRuns.{given}
 use Rattle.store.proofs.MoveList.{ruleEntry, given-moves, settle-given}
 
@@ -122,34 +127,60 @@ unfolding NoneStops
 none-stop-first [] l n = (tt, n)
 none-stop-first (s ∷ ss) l n = let h = none-stop-first ss l (n .1) in ((n .0, h .0), h .1)
 
+-- Where no call stops the store, it runs before each of them, so that returns change nothing.
+steps-sound : (ss : List (Call cabinet × Answer cabinet)) (g h : Image) (z : State cabinet) (q : PlainList cabinet) → Sound current currentLaws g z q → Stepwise ss g h → NoneStops ss
+    → (y : State cabinet) × (p : PlainList cabinet) × Sound current currentLaws h y p
+unfolding Stepwise NoneStops
+steps-sound [] g h z q s e n = (z, q, subst (λ (x : Image). Sound current currentLaws x z q) (sym e) s)
+steps-sound ((c, a) ∷ ss) g h z q s e n =
+    let x = step-sound current currentLaws g z q s c in
+    steps-sound ss (next c g) h (nextState cabinet c z) (plainNext cabinet (settleAccepted cabinet z) c q)
+    (x .goes-on (sym (ap (isLast cabinet) (x .shows)) ∙ goes-on c (answer c g) (ap (isStop cabinet) (sym (e .0)) ∙ no-stop a (n .0)))) (e .1) (n .1)
+
+-- A run on a sound image, the store running before each call.
+unfoldable Awake : List RunCall → Image → Type 0
+Awake [] g = Unit {0}
+Awake (r ∷ l) g = StaysAtReturns (noisy (r .noise) g) × Awake l (memoryLeft (r .made) (noisy (r .noise) g))
+
+awake : (l : List RunCall) (g : Image) (z : State cabinet) (q : PlainList cabinet) → Sound current currentLaws g z q → IsRun l g → NeverStopped l → Awake l g
+unfolding Awake IsRun
+awake [] g z q s e n = tt
+awake (r ∷ l) g z q s e n =
+    let G : Image = noisy (r .noise) g in
+    let here : Sound current currentLaws G z q = noise-sound current currentLaws (r .noise) g z q s in
+    let stays : StaysAtReturns G = λ c. sound-return c G z q here in
+    let m = none-stop-first (meantCalls (r .made)) (runSteps l) n in
+    let h = steps-sound (meantCalls (r .made)) G (memoryLeft (r .made) G) z q here (kept-steps (r .made) G stays (e .0)) (m .0) in
+    (stays, awake l (memoryLeft (r .made) G) (h .0) (h .1) (h .2) (e .1) (m .1))
+
 module _ (noise : ℕ → ℕ) where
-  played-leaves : (l : List RunCall) (g : Image) → IsRun l g → imageAfter (played l noise g) g ≡ noisy noise (memoryAfter l g)
-  unfolding played imageAfterBy memoryAfter IsRun
-  played-leaves [] g e = idle-leaves (noisy noise g)
-  played-leaves (r ∷ l) g e =
+  played-leaves : (l : List RunCall) (g : Image) → Awake l g → IsRun l g → imageAfter (played l noise g) g ≡ noisy noise (memoryAfter l g)
+  unfolding played imageAfterBy memoryAfter IsRun Awake
+  played-leaves [] g w e = idle-leaves (noisy noise g)
+  played-leaves (r ∷ l) g w e =
       let G : Image = noisy (r .noise) g in
       let H : Image = memoryLeft (r .made) G in
       ap (imageAfter (stepped (meantCalls (r .made)) G (played l noise H))) (idle-leaves G)
-      ∙ stepped-leaves (meantCalls (r .made)) G H (kept-steps (r .made) G (e .0)) (played l noise H) ∙ played-leaves l H (e .1)
+      ∙ stepped-leaves (meantCalls (r .made)) G H (kept-steps (r .made) G (w .0) (e .0)) (played l noise H) ∙ played-leaves l H (w .1) (e .1)
 
-  played-runs : (l : List RunCall) (g : Image) → IsRun l g → NeverStopped l → NoStopBy current (played l noise g) g
-  unfolding played NoStopBy IsRun
-  played-runs [] g e n = (refl, tt)
-  played-runs (r ∷ l) g e n =
+  played-runs : (l : List RunCall) (g : Image) → Awake l g → IsRun l g → NeverStopped l → NoStopBy current (played l noise g) g
+  unfolding played NoStopBy IsRun Awake
+  played-runs [] g w e n = (refl, tt)
+  played-runs (r ∷ l) g w e n =
       let G : Image = noisy (r .noise) g in
       let H : Image = memoryLeft (r .made) G in
       let m = none-stop-first (meantCalls (r .made)) (runSteps l) n in (
         refl,
         subst (NoStopBy current (stepped (meantCalls (r .made)) G (played l noise H))) (sym (idle-leaves G))
-            (stepped-runs (meantCalls (r .made)) G H (kept-steps (r .made) G (e .0)) (m .0) (played l noise H) (played-runs l H (e .1) (m .1))),
+            (stepped-runs (meantCalls (r .made)) G H (kept-steps (r .made) G (w .0) (e .0)) (m .0) (played l noise H) (played-runs l H (w .1) (e .1) (m .1))),
       )
 
 -- Where 'none' is final after calls on an image, it is after a run.
-none-final : (g : Image)
+none-final : (g : Image) (z : State cabinet) (q : PlainList cabinet) → Sound current currentLaws g z q
     → ((l : List NoisyCall) → NoStopBy current l g → (room : ℕ) → listAnswerOn room (imageAfter l g) ≡ noList → NeverSettles (imageAfter l g))
     → NoneIsFinalOn g
 unfolding NoneIsFinalOn NeverSettles
-none-final g final l r runs noise lent filled list entries said t =
+none-final g z q sound final l r runs noise lent filled list entries said t =
     settle-given here clear entries said t ∙ never (given (runCalls (t .moves))) (map ruleEntry entries) (given-moves here clear entries said t) (t .noise)
   where
     here : Image
@@ -158,16 +189,20 @@ none-final g final l r runs noise lent filled list entries said t =
     clear : listRefusal here ≡ 0
     clear = none-clear here (length lent) (sym (list .answers)) .0
 
+    wake : Awake l g
+    wake = awake l g z q sound r runs
+
     left : imageAfter (played l noise g) g ≡ here
-    left = played-leaves noise l g r
+    left = played-leaves noise l g wake r
 
     never : NeverSettles here
-    never = subst NeverSettles left (final (played l noise g) (played-runs noise l g r runs) (length lent) (ap (listAnswerOn (length lent)) left ∙ sym (list .answers)))
+    never = subst NeverSettles left (final (played l noise g) (played-runs noise l g wake r runs) (length lent) (ap (listAnswerOn (length lent)) left ∙ sym (list .answers)))
 
 pub none-is-final-of-calls : NoneIsFinalOfCalls
 unfolding NoneIsFinalOfCalls NoneIsFinal
-none-is-final-of-calls m before behind d = rw (d .leaves) (none-final (next (start (byte m)) before) (none-is-final (byte m) before (sym (d .answers))))
+none-is-final-of-calls m before behind d = rw (d .leaves) (none-final (next (start (byte m)) before) (zeroed cabinet (byte m)) (plainStart cabinet (byte m))
+    (start-sound current currentLaws (byte m) before (sym (d .answers))) (none-is-final (byte m) before (sym (d .answers))))
 
 pub none-goes-on-of-calls : NoneGoesOnOfCalls
 unfolding NoneGoesOnOfCalls NoneIsFinalFromEarlier
-none-goes-on-of-calls s e = none-final (s .image) (none-is-final-from-earlier s e)
+none-goes-on-of-calls s e = none-final (s .image) (s .rules) (s .plain) (earlier-sound s e) (none-is-final-from-earlier s e)

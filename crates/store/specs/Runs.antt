@@ -12,12 +12,12 @@ use Rattle.method.specs.PlainList.{plainStart}
 use Rattle.method.specs.Rules.{Answer, Call, place, start, stops}
 use Rattle.cabinet_rules.specs.Cabinet.{cabinet}
 use Rattle.cabinet_rules.specs.Claims.{noisy}
-use Rattle.cabinet_rules.specs.Delivery.{byTables}
-use Rattle.cabinet_rules.specs.GoesOn.{LeftByWire, Store, StoreBy, fromWire, takenOver}
+use Rattle.cabinet_rules.specs.Delivery.{resuming}
+use Rattle.cabinet_rules.specs.GoesOn.{LeftByTables, Store, StoreBy, fromTables, takenOver}
 use Rattle.cabinet_rules.specs.Images.{Image}
 use Rattle.cabinet_rules.specs.Places.{byLines}
-use Rattle.cabinet_rules.specs.Retired.{belowWire}
-use Rattle.converter.specs.Promise.{ConvertDone}
+use Rattle.cabinet_rules.specs.Retired.{byTables}
+use Rattle.converter.specs.Promise.{StampsDone}
 use Rattle.move_list.specs.Promise.{ListDone}
 use Rattle.move_list.specs.declared.Listed.{Listed}
 use Rattle.move_list.specs.declared.Move.{Move}
@@ -26,6 +26,7 @@ use Rattle.promise.specs.declared.Call.{Call as CallValue}
 use Rattle.promise.specs.declared.Answer.{Answer as AnswerValue}
 use Rattle.promise.specs.declared.Filled.{Filled as FilledValue}
 use Rattle.promise.specs.declared.Answer.the-variants.{Ok}
+use Rattle.returns.specs.Promise.{ReturnDone}
 
 -- A call that was made on the memory.
 pub data Made : Type 0 where
@@ -33,6 +34,8 @@ pub data Made : Type 0 where
   storeCall : CallValue → AnswerValue → Image → Made
   -- one that places by table (request A.6): the lines that were lent, what it answered, and the memory that it left
   tableCall : List ℕ → AnswerValue → Image → Made
+  -- one that returns a card (request A.7): the card, what it answered, and the memory that it left
+  returnCall : ℕ → AnswerValue → Image → Made
   -- one that lists moves (request A.3): the list that was lent, what was said, and the list as filled
   listCall : List Move → Listed → List Move → Made
 
@@ -40,18 +43,22 @@ pub data Made : Type 0 where
 abbrev pub Kept : Made → Image → Type 0
 Kept (storeCall c a left) g = Done (asked c) g a left
 Kept (tableCall lines a left) g = Done (place (byLines lines)) g a left
+Kept (returnCall c a left) g = ReturnDone c g a left
 Kept (listCall lent a filled) g = ListDone g lent a filled
 
 -- The memory that it left. One that lists moves leaves it as it was given.
 abbrev pub memoryLeft : Made → Image → Image
 memoryLeft (storeCall c a left) g = left
 memoryLeft (tableCall lines a left) g = left
+memoryLeft (returnCall c a left) g = left
 memoryLeft (listCall lent a filled) g = g
 
--- What it means to the rules: calls of theirs with their answers. One that lists moves is none.
+-- What it means to the rules: calls of theirs with their answers. One that lists moves is none, nor one that returns a
+-- card: while the store runs it is refused and changes nothing.
 abbrev pub meantCalls : Made → List (Call cabinet × Answer cabinet)
 meantCalls (storeCall c a left) = (asked c, shown a) ∷ []
 meantCalls (tableCall lines a left) = (place (byLines lines), shown a) ∷ []
+meantCalls (returnCall c a left) = []
 meantCalls (listCall lent a filled) = []
 
 -- A call in a run: the noise in the tables of failed cards before it, and what was made.
@@ -95,8 +102,8 @@ abbrev pub NeverStopped : List RunCall → Type 0
 NeverStopped l = NoneStops (runSteps l)
 
 -- A store of the delivery before as this one goes on with it.
-abbrev pub taken : StoreBy belowWire → Store
-taken = takenOver belowWire byTables fromWire
+abbrev pub taken : StoreBy byTables → Store
+taken = takenOver byTables resuming fromTables
 
 -- DEMAND 3 of the calls. After a start that said ok, on memory of any contents, the calls answer what the plain record
 -- list answers to the same calls, until the store stops; and it stops exactly when the stop rule says.
@@ -110,11 +117,11 @@ pub record Converted (older left : Image) : Type 0 where
   pub lent : Image
   pub said : FilledValue
   pub room : length lent ≡ imageSize
-  pub done : ConvertDone older lent said left
+  pub done : StampsDone older lent said left
 
 -- DEMAND 3 of the calls, going on. The same on the memory of a running store that earlier deliveries left and the
 -- converter made longer: the plain record list was fed their calls too.
 unfoldable pub GoesOnOfCalls : Type 0
-GoesOnOfCalls = (s : StoreBy belowWire) → LeftByWire s → (left : Image) → Converted (s .image) left
+GoesOnOfCalls = (s : StoreBy byTables) → LeftByTables s → (left : Image) → Converted (s .image) left
     → (l : List RunCall) → IsRun l left
     → observed l ≡ runPlain cabinet (runCalls l) (taken s .rules) (taken s .plain)

@@ -1,12 +1,13 @@
 // The store: the calls on a lent image of any length and contents, one entry that runs any of the fifteen that have a
-// command, one that runs the bytes of a command, and one that makes an older image longer. Each promises that its answer
-// and what it leaves are those of the rules.
+// command, one that runs the bytes of a command, one that returns a card, and two that make an older image longer. Each
+// promises that its answer and what it leaves are those of the rules.
 ghost use Rattle.command.specs.Meaning.{Obeyed};
 ghost use Rattle.method.specs.Rules.{place};
 ghost use Rattle.cabinet_rules.specs.Places.{byLines};
-ghost use Rattle.converter.specs.Promise.{ConvertDone};
+ghost use Rattle.converter.specs.Promise.{PairsDone, StampsDone};
 ghost use Rattle.promise.specs.Promise.{Done, asked};
 ghost use Rattle.promise.specs.declared.Call.{Call};
+ghost use Rattle.returns.specs.Promise.{ReturnDone};
 
 pub mod moves;
 
@@ -99,7 +100,7 @@ pub fn place_by_table(image: &mut [u8], lines: &[u8]) -> Answer
     placing::place_by_table(image, lines)
 }
 
-// A working card has failed: the store goes on without it, or stops.
+// A working card has failed: the store goes on without it, or stops; one that has stopped marks it.
 pub fn fail(image: &mut [u8], card: Card) -> Answer
     ensures { λ r. ⌜ Done (asked (Call.Fail card)) (now (image .entry)) r (now (image .exit)) ⌝ }
 {
@@ -168,9 +169,23 @@ pub fn perform_command(image: &mut [u8], bytes: &[u8]) -> Answer
     }
 }
 
-// An older image is written into the lent buffer at its length of today (request A.6).
-pub fn convert(older: &[u8], image: &mut [u8]) -> Filled
-    ensures { λ r. ⌜ ConvertDone (now (older .entry)) (now (image .entry)) r (now (image .exit)) ⌝ }
+// A failed card works again in a store that has stopped, with its table as it is (request A.7).
+pub fn return_card(image: &mut [u8], card: Card) -> Answer
+    ensures { λ r. ⌜ ReturnDone (card .0) (now (image .entry)) r (now (image .exit)) ⌝ }
 {
-    converter::convert(older, image)
+    returns::return_card(image, card)
+}
+
+// An image from before A.6 is written into the lent buffer at the length of A.6.
+pub fn convert_21024(older: &[u8], image: &mut [u8]) -> Filled
+    ensures { λ r. ⌜ PairsDone (now (older .entry)) (now (image .entry)) r (now (image .exit)) ⌝ }
+{
+    converter::convert_21024(older, image)
+}
+
+// An image of A.6 is written into the lent buffer at its length of today.
+pub fn convert_21216(older: &[u8], image: &mut [u8]) -> Filled
+    ensures { λ r. ⌜ StampsDone (now (older .entry)) (now (image .entry)) r (now (image .exit)) ⌝ }
+{
+    converter::convert_21216(older, image)
 }

@@ -9,7 +9,7 @@ use Rattle.control.specs.Meaning.{meaning}
 use Rattle.control.specs.declared.Control.{Control}
 use Rattle.cabinet_rules.specs.Cabinet.{cabinet}
 use Rattle.cabinet_rules.specs.Images.{Image, controlIn, planOn}
-use Rattle.cabinet_rules.proofs.Lawful.{lawful}
+use Rattle.cabinet_rules.proofs.PlacingLaws.{lawful}
 use Rattle.promise.specs.Given.{Given}
 use Rattle.promise.proofs.Finish.{form-good}
 use Rattle.promise.proofs.SharedRows.{stopped-is}

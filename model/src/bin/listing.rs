@@ -1,10 +1,10 @@
 //! listing [IMAGE]: runs the commands on standard input and lists the answers on standard output. They go on from the
 //! image in the file, which is converted if an earlier edition left it, or begin with zeros.
 
-use model::converter::convert;
-use model::image::{LENGTH, OLDER_LENGTH};
+use model::converter::lengthen;
+use model::edition::Edition;
+use model::image::{LENGTH, OLDER_LENGTH, OLDEST_LENGTH};
 use model::listing::{line, run};
-use model::Answer;
 use std::io::{self, BufWriter, Read, Write};
 use std::process::exit;
 
@@ -16,17 +16,10 @@ fn image(words: &[String]) -> Result<Vec<u8>, String> {
         _ => return Err("usage: listing [IMAGE]".into()),
     };
     let image = std::fs::read(file).map_err(|error| format!("{file}: {error}"))?;
-    match image.len() {
-        LENGTH => Ok(image),
-        OLDER_LENGTH => converted(&image).ok_or(format!("{file}: no image of an earlier edition")),
-        _ => Err(format!("{file}: not {LENGTH} or {OLDER_LENGTH} bytes")),
+    if ![LENGTH, OLDER_LENGTH, OLDEST_LENGTH].contains(&image.len()) {
+        return Err(format!("{file}: not {LENGTH}, {OLDER_LENGTH} or {OLDEST_LENGTH} bytes"));
     }
-}
-
-/// The longer image of one that an earlier edition left.
-fn converted(older: &[u8]) -> Option<Vec<u8>> {
-    let mut image = vec![0; LENGTH];
-    matches!(convert(older, &mut image), Answer::Written(_)).then_some(image)
+    lengthen(&image, Edition::Today).map_err(|answer| format!("{file}: no image of an earlier edition, {answer}"))
 }
 
 fn main() -> io::Result<()> {

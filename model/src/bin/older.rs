@@ -1,5 +1,6 @@
 //! older EDITION KIND SEED EARLIER COMMANDS FOLDER: writes into the folder `earlier`, random commands of the edition,
-//! `image`, what they leave of an image of zeros, and `stdin`, commands that go on from it today.
+//! `lines`, a table that is placed behind them where the edition has tables, `image`, what they leave of an image of
+//! zeros, and `stdin`, commands that go on from it today.
 
 use model::edition::Edition;
 use model::kinds::{self, generate_older, Older};
@@ -22,6 +23,9 @@ fn main() -> std::io::Result<()> {
         exit(2);
     };
     std::fs::write(folder.join("earlier"), older.earlier)?;
+    if !older.lines.is_empty() {
+        std::fs::write(folder.join("lines"), older.lines)?;
+    }
     std::fs::write(folder.join("image"), older.image)?;
     std::fs::write(folder.join("stdin"), older.commands)
 }

@@ -6,12 +6,18 @@ use super::{Kind, KINDS};
 use crate::calls::{perform_by, Answer, Call};
 use crate::commands::{read_command, write_command, COMMAND_BYTES};
 use crate::control::Control;
-use crate::converter::convert;
+use crate::converter::lengthen;
 use crate::edition::{Edition, BROKEN_WIRE};
-use crate::image::{RECORDS, TABLES};
+use crate::image::{held_blocks, CARDS, RECORDS};
 use crate::random::Random;
-use crate::table::place_by_table;
+use crate::returns::{can_resume, return_card};
+use crate::sites::members;
+use crate::table::{place_by_table_by, write_lines};
+use crate::tables::good_lines;
 use std::collections::VecDeque;
+
+/// Of a thousand starts after a stop, so many are left out where returns can set the store running.
+const WAITING: usize = 970;
 
 pub struct Maker {
     /// The rules that the store kept beside follows.
@@ -26,6 +32,8 @@ pub struct Maker {
     pub(super) steady: bool,
     /// Calls before the first start.
     before: Vec<Call>,
+    /// Cards are returned after a stop, so few starts come as long as that can set the store running.
+    waits: bool,
 }
 
 /// Five bytes of a command; the numbers fit their fields.
@@ -54,7 +62,8 @@ impl Maker {
         }
         let image = vec![0; edition.length()];
         let (plan, before) = (VecDeque::new(), Vec::new());
-        let mut maker = Maker { edition, kind, profile, random, image, records, plan, steady: false, before };
+        let (steady, waits) = (false, false);
+        let mut maker = Maker { edition, kind, profile, random, image, records, plan, steady, before, waits };
         if kind == Kind::Refusals {
             maker.before = maker.calls_before_a_start();
         }
@@ -63,12 +72,8 @@ impl Maker {
 
     /// The commands from here on are for a store that follows these rules; what is there stays.
     pub fn go_on_by(&mut self, edition: Edition) {
-        if edition.length() != self.edition.length() {
-            // A store that was never started is not converted, and the longer image stays zero too.
-            let mut image = vec![0; edition.length()];
-            convert(&self.image, &mut image);
-            self.image = image;
-        }
+        // A store that was never started is not converted, and the longer image is zero too.
+        self.image = lengthen(&self.image, edition).unwrap_or(vec![0; edition.length()]);
         self.edition = edition;
         if let Some(control) = self.running() {
             self.plan_going_on(&control);
@@ -78,10 +83,33 @@ impl Maker {
     /// A placing by table, which no command file has, on the store kept beside. Where it is taken, the commands after
     /// it most often use it.
     pub fn place_by_table(&mut self, lines: &[u8]) {
-        let answer = place_by_table(&mut self.image, lines);
+        let answer = place_by_table_by(self.edition, &mut self.image, lines);
         if let (Answer::Ok, Some(control)) = (answer, self.running()) {
             self.plan_going_on(&control);
         }
+    }
+
+    /// Places by a table over the working cards of a running store; its lines.
+    pub(super) fn place_any_table(&mut self) -> Vec<u8> {
+        let working = self.running().map_or(0, |control| control.working);
+        let lines = write_lines(&good_lines(&mut self.random, working));
+        self.place_by_table(&lines);
+        lines
+    }
+
+    /// From here on cards are returned after a stop.
+    pub fn wait_for_returns(&mut self) {
+        self.waits = true;
+    }
+
+    /// A return, which no command file has, on the store kept beside.
+    pub fn return_card(&mut self, card: u8) {
+        return_card(&mut self.image, card);
+    }
+
+    /// The control part after a stop.
+    pub fn stopped(&self) -> Option<Control> {
+        Control::read_by(self.edition, &self.image).filter(|control| control.stopped)
     }
 
     /// Plans commands that leave values pending, and says how many.
@@ -108,6 +136,15 @@ impl Maker {
     /// Chooses a command and runs it on the store kept beside.
     pub fn next_command(&mut self) -> [u8; COMMAND_BYTES] {
         let bytes = self.choose();
+        self.run(bytes)
+    }
+
+    /// The bytes of a call, which runs on the store kept beside.
+    pub fn command_of(&mut self, call: &Call) -> [u8; COMMAND_BYTES] {
+        self.run(bytes_of(call))
+    }
+
+    fn run(&mut self, bytes: [u8; COMMAND_BYTES]) -> [u8; COMMAND_BYTES] {
         if let Some(call) = read_command(&bytes) {
             let answer = perform_by(self.edition, &mut self.image, &call);
             if matches!(answer, Answer::Stopped) || matches!(call, Call::Start { .. }) {
@@ -170,12 +207,15 @@ impl Maker {
 
     /// A start, or a call that is refused where no store runs.
     fn outside(&mut self) -> Call {
+        if let Some(card) = self.card_to_mark() {
+            return Call::Fail { card };
+        }
         if self.random.chance(150) {
             // Refused for its value rather than for the stop.
             let (transaction, record) = (1 + self.random.below(15) as u8, self.record());
             return Call::Store { transaction, record, value: BROKEN_WIRE };
         }
-        if !self.random.chance(self.profile.outside) {
+        if !self.random.chance(self.profile.outside) && !self.goes_on_waiting() {
             return self.start_call();
         }
         let operation = self.random.below(15) as u8;
@@ -185,8 +225,21 @@ impl Maker {
         }
     }
 
+    /// After a stop, where the kind goes on failing cards.
+    fn card_to_mark(&mut self) -> Option<u8> {
+        let working = members(self.stopped().filter(|_| self.profile.marks > 0)?.working);
+        let card = self.random.any_of(&working)?;
+        self.random.chance(self.profile.marks).then_some(card as u8)
+    }
+
+    /// No start yet: returns can set the store running.
+    fn goes_on_waiting(&mut self) -> bool {
+        let resumes = |control: Control| can_resume(&self.image, &control);
+        self.waits && self.stopped().is_some_and(resumes) && self.random.chance(WAITING)
+    }
+
     fn refill_plan(&mut self, control: &Control) {
-        let empty = self.image[TABLES].iter().all(|byte| *byte == 0);
+        let empty = (0..CARDS).all(|card| held_blocks(&self.image, card).is_empty());
         if empty && self.plan.is_empty() && self.random.chance(600) {
             self.plan_batch(control, true);
         }

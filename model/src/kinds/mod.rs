@@ -71,10 +71,11 @@ pub fn generate(kind: Kind, seed: u64, commands: usize) -> Vec<u8> {
     file
 }
 
-/// Commands of an earlier edition, which leave values pending, the image after them, and today's commands, which go on
-/// from there and use the records first.
+/// Commands of an earlier edition, which leave values pending, the lines of a table that is then placed where the
+/// edition has tables, the image after that, and today's commands, which go on from there and use the records first.
 pub struct Older {
     pub earlier: Vec<u8>,
+    pub lines: Vec<u8>,
     pub image: Vec<u8>,
     pub commands: Vec<u8>,
 }
@@ -84,8 +85,9 @@ pub fn generate_older(edition: Edition, kind: Kind, seed: u64, earlier: usize, c
     let mut earlier = commands_of(&mut maker, earlier);
     let more = maker.leave_pending();
     earlier.extend(commands_of(&mut maker, more));
+    let lines = if edition.has_tables() { maker.place_any_table() } else { Vec::new() };
     let image = maker.image().to_vec();
     maker.go_on_by(Edition::Today);
     maker.use_all();
-    Older { earlier, image, commands: commands_of(&mut maker, commands) }
+    Older { earlier, lines, image, commands: commands_of(&mut maker, commands) }
 }

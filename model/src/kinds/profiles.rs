@@ -28,6 +28,8 @@ pub(super) struct Profile {
     pub four: usize,
     /// A further call before the first start, and after a stop.
     pub outside: usize,
+    /// A fail of a working card after a stop.
+    pub marks: usize,
 }
 
 //                           start beg get sto del com rol fit wit pla fai mov set sta loa
@@ -54,6 +56,7 @@ const COMMON: Profile = Profile {
     gentle: 800,
     four: 3,
     outside: 400,
+    marks: 0,
 };
 
 pub(super) fn profile(kind: Kind) -> Profile {
@@ -65,7 +68,7 @@ pub(super) fn profile(kind: Kind) -> Profile {
         },
         Kind::Failures => Profile {
             weights: FAILURES, wild: 15, malformed: 2, pool: 40, members: (3, 8),
-            reorganise: 20, batch: 10, gentle: 900, four: 12, outside: 600, ..COMMON
+            reorganise: 20, batch: 10, gentle: 900, four: 12, outside: 600, marks: 600, ..COMMON
         },
         Kind::Conflicts => Profile {
             weights: CONFLICTS, wild: 20, malformed: 3, pool: 4, open: 15, reorganise: 3, four: 0, ..COMMON

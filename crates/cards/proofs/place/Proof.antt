@@ -1,4 +1,5 @@
--- Refused by the form or by a row; else the placement of the mask is added to the control part, and only that changes. Assumes nothing.
+-- Refused by the form or by a row; else the placement of the mask is added to the control part, and working cards get its stamp. Assumes nothing.
+use Prim.Native.Nat.{_<_}
 use borrow.Author.Needs.{needs}
 use mathlib.Core.Path.{_≡_, refl}
 use Rattle.mask.specs.Masks.{byte}
@@ -7,7 +8,8 @@ use Rattle.control.specs.Meaning.{meaning}
 use Rattle.cabinet_rules.specs.Places.{byMask}
 use Rattle.promise.specs.Given.{Given}
 use Rattle.promise.proofs.Finish.{by-form, given}
-use Rattle.cards.proofs.Plans.{long, place-done, place-refused, place-room}
+use Rattle.promise.proofs.Stamping.{serial-small}
+use Rattle.cards.proofs.Plans.{long, place-done, place-refused, place-room, whole-written}
 use Rattle.cards.proofs.Rows.{rowsOf}
 use Rattle.cards.proofs.place.Statement.{statement}
 use Rattle.cards.proofs.place.Tie as tie
@@ -49,23 +51,37 @@ returns-2 c = let r = c .before in place-refused (given-at r) (byte (start-at r 
 
 add-requires : tie.Need-add-requires
 add-requires c κs =
-    let e = c .before in
-    let r = e .before in
-    (given-at r .is .counted, place-room (given-at r) (byte (start-at r .args .mask)) _ (rows-at r) (e .if2 .left))
+    let r = c .before in
+    (given-at r .is .counted, (place-room (given-at r) (byte (start-at r .args .mask)) _ (rows-at r) (c .if2 .left), serial-small (given-at r)))
+
+-- the struct with the placement added, and where it was written
+abbrev added-at : tie.After-write → tie.After-add
+added-at w = w .before .before
+
+abbrev asked-at : tie.After-write → tie.After-place-refusal
+asked-at w = added-at w .before .before
 
 write-requires : tie.Need-write-requires
-write-requires c κs = (long (given-at (c .before .before .before)), c .add .ensures .counted)
+write-requires c κs = (long (given-at (c .before .before .before)), c .before .add .ensures .counted)
+
+abbrev written-at : tie.After-put-all-arg → tie.After-write
+written-at p = p .before .before .before
+
+put-all-requires : tie.Need-put-all-requires
+put-all-requires c κs = let w = written-at c in whole-written (given-at (asked-at w)) (added-at w .add .result) _ (w .write .ensures)
 
 same-length-3 : tie.Need-same-length-3
 same-length-3 c = search needs
 
+small : (s : tie.Start) → s .args .mask < 256
+small s = search needs
+
 returns-3 : tie.Need-returns-3
 returns-3 c =
-    let w = c .before .before in
-    let a = w .before in
-    let e = a .before .before in
-    let r = e .before in
-    place-done (given-at r) (byte (start-at r .args .mask)) _ _ _ (rows-at r) (e .if2 .left) (a .add .ensures) (w .write .ensures)
+    let p = c .before .before in
+    let w = written-at (p .before) in
+    let r = asked-at w in
+    place-done (given-at r) (start-at r .args .mask) _ (small (start-at r)) _ _ _ (rows-at r) (added-at w .before .if2 .left) (added-at w .add .ensures) (w .write .ensures) (p .put-all .ensures)
 
 pub place-spec : {M : Type 1} → statement M
 place-spec =
@@ -79,5 +95,6 @@ place-spec =
     returns-2
     add-requires
     write-requires
+    put-all-requires
     same-length-3
     returns-3)

@@ -10,7 +10,7 @@ use Rattle.image.specs.Layout.{leastMembers}
 use Rattle.mask.specs.Masks.{byte, size}
 use Rattle.control.specs.Meaning.{meaning}
 use Rattle.cabinet_rules.specs.Places.{againByRails}
-use Rattle.cards.proofs.Rows.{again-says-9, few-says-9, full-says-10, idle-says-9, room-says-0, says-4, few, works}
+use Rattle.cards.proofs.Rows.{again-says-9, few-says-9, full-says-10, idle-says-9, room-says-0, spent-says-20, says-4, few, works}
 use Rattle.cards.proofs.place_refusal.Statement.{statement}
 use Rattle.cards.proofs.place_refusal.Tie as tie
 
@@ -79,13 +79,27 @@ returns-5 c =
     full-says-10 (s .args .k) (s .pre) (s .args .mask) (usable-else a .before .before .if1 .left) (usable-at (usable-else a)) (works-at a)
     (sym (again-at a) ∙ e .if4 .left) (c .if5 .taken)
 
+-- there is room
+abbrev room-at : tie.Else5 → tie.Else4
+room-at e = e .before .before
+
 returns-6 : tie.Need-returns-6
 returns-6 c =
-    let e = c .before .before in
+    let r = c .before .before in
+    let e = room-at r in
+    let a = e .before in
+    let s = start-at a in
+    spent-says-20 (s .args .k) (s .pre) (s .args .mask) (usable-else a .before .before .if1 .left) (usable-at (usable-else a)) (works-at a)
+    (sym (again-at a) ∙ e .if4 .left) (r .if5 .left) (c .if6 .taken)
+
+returns-7 : tie.Need-returns-7
+returns-7 c =
+    let r = c .before .before in
+    let e = room-at r in
     let a = e .before in
     let s = start-at a in
     room-says-0 (s .args .k) (s .pre) (s .args .mask) (usable-else a .before .before .if1 .left) (usable-at (usable-else a)) (works-at a)
-    (sym (again-at a) ∙ e .if4 .left) (c .if5 .left)
+    (sym (again-at a) ∙ e .if4 .left) (r .if5 .left) (c .if6 .left)
 
 pub place-refusal-spec : {M : Type 1} → statement M
 place-refusal-spec =
@@ -99,4 +113,5 @@ place-refusal-spec =
     is-again-requires
     returns-4
     returns-5
-    returns-6)
+    returns-6
+    returns-7)

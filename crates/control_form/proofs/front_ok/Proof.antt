@@ -8,11 +8,11 @@ use lib.ListN.{getD}
 use Rattle.control.specs.ControlBytes.{controlOf}
 use Rattle.control_form.specs.ControlForm.{frontOk}
 use Rattle.control_form.proofs.Checks.{failed-is, passed-is}
-use Rattle.control_form.specs.Reading.{allFrom, chainIn, homeFitsAt, newestIn, otherZeros, wordsEnd}
+use Rattle.control_form.specs.Reading.{allFrom, chainIn, homeFitsAt, newestIn, otherZeros, serialsIn}
 use Rattle.control_form.proofs.Clauses.{all-fail, apartIn, clauses, form-by, others-left, placementsFit}
-use Rattle.control_form.proofs.Clauses.{fromApart, fromChain, fromNewest, fromPlacements}
+use Rattle.control_form.proofs.Clauses.{fromApart, fromChain, fromHomes, fromNewest, fromPlacements}
 use borrow.Author.Needs.{needs}
-use Rattle.control.specs.ControlBytes.{homesAt}
+use Rattle.control.specs.ControlBytes.{homesAt, homesEnd}
 use Rattle.control_form.proofs.front_ok.Statement.{statement}
 use Rattle.control_form.proofs.front_ok.Tie as tie
 
@@ -39,6 +39,9 @@ at5 c = at4 (c .before .before)
 abbrev at6 : tie.Else6 → List ℕ
 at6 c = at5 (c .before .before)
 
+abbrev at7 : tie.Else7 → List ℕ
+at7 c = at6 (c .before .before)
+
 -- what is left of the control form there
 left1 : (c : tie.Else1) (t : ℕ → ℕ) → frontForm (at1 c) t ≡ clauses (at1 c)
 left1 c t = form-by (at1 c) t (passed-is (c .before .count-ok .ensures) (c .if1 .left)) (λ n. c .before .before .shared-slice-known .given n .fits)
@@ -54,6 +57,9 @@ left4 c t = others-left (placementsFit (at4 c)) (fromChain (at4 c)) (left3 (c .b
 
 left5 : (c : tie.Else5) (t : ℕ → ℕ) → frontForm (at5 c) t ≡ fromNewest (at5 c)
 left5 c t = others-left (chainIn (at5 c)) (fromNewest (at5 c)) (left4 (c .before .before) t) (passed-is (c .before .fourth-ok .ensures) (c .if5 .left))
+
+left6 : (c : tie.Else6) (t : ℕ → ℕ) → frontForm (at6 c) t ≡ fromHomes (at6 c)
+left6 c t = others-left (newestIn (at6 c)) (fromHomes (at6 c)) (left5 (c .before .before) t) (passed-is (c .before .newest-works .ensures) (c .if6 .left))
 
 count-ok-requires : tie.Need-count-ok-requires
 count-ok-requires c κs = search needs
@@ -108,16 +114,25 @@ newest-works-requires c κs = search needs
 returns-6 : tie.Need-returns-6
 returns-6 c t =
     let g = at5 (c .before .before) in
-    all-fail (newestIn g) (allFrom homesAt wordsEnd (homeFitsAt g)) (left5 (c .before .before) t) (failed-is (c .before .newest-works .ensures) (c .if6 .taken))
+    all-fail (newestIn g) (fromHomes g) (left5 (c .before .before) t) (failed-is (c .before .newest-works .ensures) (c .if6 .taken))
 
 homes-ok-requires : tie.Need-homes-ok-requires
 homes-ok-requires c κs = search needs
 
 returns-7 : tie.Need-returns-7
 returns-7 c t =
-    let n = c .before in
-    let g = at6 n in
-    c .homes-ok .ensures ∙ sym (others-left (newestIn g) (allFrom homesAt wordsEnd (homeFitsAt g)) (left5 (n .before .before) t) (passed-is (n .before .newest-works .ensures) (n .if6 .left)))
+    let g = at6 (c .before .before) in
+    all-fail (allFrom homesAt homesEnd (homeFitsAt g)) (serialsIn g) (left6 (c .before .before) t) (failed-is (c .before .homes-ok .ensures) (c .if7 .taken))
+
+serial-ok-requires : tie.Need-serial-ok-requires
+serial-ok-requires c κs = search needs
+
+returns-8 : tie.Need-returns-8
+returns-8 c t =
+    let h = c .before in
+    let g = at7 h in
+    c .serial-ok .ensures
+    ∙ sym (others-left (allFrom homesAt homesEnd (homeFitsAt g)) (serialsIn g) (left6 (h .before .before) t) (passed-is (h .before .homes-ok .ensures) (h .if7 .left)))
 
 pub front-ok-spec : {M : Type 1} → statement M
 front-ok-spec =
@@ -138,4 +153,6 @@ front-ok-spec =
     newest-works-requires
     returns-6
     homes-ok-requires
-    returns-7)
+    returns-7
+    serial-ok-requires
+    returns-8)

@@ -1,13 +1,13 @@
--- The form of sixteen bytes, then their homes. Assumes nothing.
+-- The form of the bytes, eight at a time, then their homes. Assumes nothing.
 use mathlib.Core.Path.{_≡_, _∙_, sym}
 use mathlib.Core.Bool.{Bool, true, false}
 use borrow.Author.Tests.{le-leb, lt-leb}
-use Rattle.control_form.specs.Reading.{allFrom, homeFitsAt, homeOkAt, isHomeAt, wordsEnd}
+use Rattle.control_form.specs.Reading.{allFrom, homeFitsAt, homeOkAt, isHomeAt}
 use lib.ListN.{getD}
 use Rattle.control_form.proofs.Checks.{failed-is, passed-is}
 use Rattle.control_form.proofs.Homes.{all-homes, fits-by}
 use borrow.Author.Needs.{needs}
-use Rattle.control.specs.ControlBytes.{homesAt, stoppedBit, stoppedIn}
+use Rattle.control.specs.ControlBytes.{homesAt, homesEnd, stoppedBit, stoppedIn}
 use Rattle.control_form.proofs.homes_ok.Statement.{statement}
 use Rattle.control_form.proofs.homes_ok.Tie as tie
 use Rattle.control_form.proofs.homes_ok.Reads as reads
@@ -22,9 +22,6 @@ are-homes-requires c κs = search needs
 returns : tie.Need-returns
 returns c = rw (fits-by (c .before .before .before .args .s .now), failed-is (c .before .are-homes .ensures) (c .if1 .taken))
 
-add-are-homes : tie.Need-add-are-homes
-add-are-homes c = search needs
-
 are-homes-requires-2 : tie.Need-are-homes-requires-2
 are-homes-requires-2 c κs = search needs
 
@@ -37,15 +34,15 @@ returns-2 c =
 shared-slice-read-if3 : tie.Need-shared-slice-read-if3
 shared-slice-read-if3 c = search needs
 
--- all sixteen are formed, and what is left is their homes
-formed : (c : tie.Else2) → allFrom homesAt wordsEnd (isHomeAt (c .before .before .before .before .before .args .s .now)) ≡ true
+-- all are formed, and what is left is their homes
+formed : (c : tie.Else2) → allFrom homesAt homesEnd (isHomeAt (c .before .before .before .before .before .args .s .now)) ≡ true
 formed c =
     let e = c .before .before in
     all-homes (e .before .before .before .args .s .now) (passed-is (e .before .are-homes .ensures) (e .if1 .left)) (passed-is (c .before .are-homes2 .ensures) (c .if2 .left))
 
 left : (c : tie.Else2) (stopped : Bool) → stoppedIn (getD (c .before .before .before .before .before .args .s .now) 0 0) ≡ stopped
-    → allFrom homesAt wordsEnd (homeFitsAt (c .before .before .before .before .before .args .s .now))
-    ≡ allFrom homesAt wordsEnd (homeOkAt stopped (c .before .before .before .before .before .args .s .now))
+    → allFrom homesAt homesEnd (homeFitsAt (c .before .before .before .before .before .args .s .now))
+    ≡ allFrom homesAt homesEnd (homeOkAt stopped (c .before .before .before .before .before .args .s .now))
 left c stopped s =
     let e = c .before .before in
     let g = e .before .before .before .args .s .now in
@@ -69,7 +66,6 @@ homes-ok-spec =
     (tie.spec
     are-homes-requires
     returns
-    add-are-homes
     are-homes-requires-2
     returns-2
     shared-slice-read-if3

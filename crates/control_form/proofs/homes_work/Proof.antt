@@ -6,7 +6,7 @@ use lib.ListN.{length}
 use borrow.Author.Needs.{needs}
 use Rattle.mask.specs.Masks.{byte, members, withoutCard}
 use Rattle.mask.proofs.FirstMember.{one-fewer, some-members}
-use Rattle.control_form.specs.Reading.{isHomeAt, secondAt, wordsEnd}
+use Rattle.control_form.specs.Reading.{firstEnd, isHomeAt, secondAt}
 use Rattle.control_form.proofs.Checks.{failed-is, passed-is}
 use Rattle.control_form.proofs.Idle.{Idle, Tried, all-work, begun-there, first-idle, idle-all, idle-less}
 use Rattle.control_form.proofs.Idle.{lacking, tried-more, tried-none}
@@ -19,7 +19,7 @@ use Rattle.control_form.proofs.words.lack_home.Reads as lack-home-reads
 use Rattle.mask.proofs.first_member.Reads as first-member-reads
 use Rattle.mask.proofs.without.Reads as without-reads
 use Rattle.mask.proofs.without_first.Reads as without-first-reads
-use Rattle.control.specs.ControlBytes.{homesAt}
+use Rattle.control.specs.ControlBytes.{homesAt, homesEnd}
 
 abbrev Inv-loop : tie.InvT-loop
 Inv-loop s idle₀ idle = (idle < 256) × Idle s idle × Tried s idle
@@ -45,7 +45,7 @@ lack-home-requires : tie.Need-lack-home-requires Inv-loop μ-loop
 lack-home-requires c κs =
     let s = c .before .before .before .before .before .before in
     let g = s .args .s .now in
-    (omega (arith, s .pre .0), (c .first-member .ensures .1, all-from homesAt (isHomeAt g) secondAt (λ n p q. from-all homesAt (isHomeAt g) wordsEnd n (s .pre .1) p (omega arith))))
+    (omega (arith, s .pre .0), (c .first-member .ensures .1, all-from homesAt (isHomeAt g) firstEnd (λ n p q. from-all homesAt (isHomeAt g) homesEnd n (s .pre .1) p (omega arith))))
 
 returns : tie.Need-returns Inv-loop μ-loop
 returns c =
@@ -54,17 +54,14 @@ returns c =
     let g = t .before .before .before .before .args .s .now in
     let card = f .first-member .result .0 in
     let idle = first-idle g (t .loop .idle) card (t .loop .inv .0) (f .before .loop-test .taken) (f .first-member .ensures .0) (t .loop .inv .1) in
-    begun-there g card homesAt secondAt idle (omega arith) (omega arith) (failed-is (c .before .lack-home .ensures) (c .if1 .taken))
-
-add-lack-home : tie.Need-add-lack-home Inv-loop μ-loop
-add-lack-home c = search needs
+    begun-there g card homesAt firstEnd idle (omega arith) (omega arith) (failed-is (c .before .lack-home .ensures) (c .if1 .taken))
 
 lack-home-requires-2 : tie.Need-lack-home-requires-2 Inv-loop μ-loop
 lack-home-requires-2 c κs =
     let f = c .before .before in
     let s = f .before .before .before .before .before .before in
     let g = s .args .s .now in
-    (omega (arith, s .pre .0), (f .first-member .ensures .1, all-from secondAt (isHomeAt g) wordsEnd (λ n p q. from-all homesAt (isHomeAt g) wordsEnd n (s .pre .1) (omega arith) q)))
+    (omega (arith, s .pre .0), (f .first-member .ensures .1, all-from secondAt (isHomeAt g) homesEnd (λ n p q. from-all homesAt (isHomeAt g) homesEnd n (s .pre .1) (omega arith) q)))
 
 returns-2 : tie.Need-returns-2 Inv-loop μ-loop
 returns-2 c =
@@ -73,7 +70,7 @@ returns-2 c =
     let g = t .before .before .before .before .args .s .now in
     let card = f .first-member .result .0 in
     let idle = first-idle g (t .loop .idle) card (t .loop .inv .0) (f .before .loop-test .taken) (f .first-member .ensures .0) (t .loop .inv .1) in
-    begun-there g card secondAt wordsEnd idle (omega arith) (omega arith) (failed-is (c .before .lack-home2 .ensures) (c .if2 .taken))
+    begun-there g card secondAt homesEnd idle (omega arith) (omega arith) (failed-is (c .before .lack-home2 .ensures) (c .if2 .taken))
 
 without-first-requires : tie.Need-without-first-requires Inv-loop μ-loop
 without-first-requires c κs =
@@ -117,7 +114,6 @@ homes-work-spec =
     first-member-requires
     lack-home-requires
     returns
-    add-lack-home
     lack-home-requires-2
     returns-2
     without-first-requires

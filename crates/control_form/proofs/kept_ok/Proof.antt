@@ -1,37 +1,22 @@
 -- By the mark of the placement: its pairs, or zero bytes, in the part that is lent. Assumes nothing.
-use mathlib.Core.Path.{_≡_, _∙_, ap, refl, sym}
-use mathlib.Core.List.{List}
-use Prim.Native.Nat.{ℕ, _*_, _+_, _-_, _≤_, _<_}
+use mathlib.Core.Path.{_≡_, _∙_, sym}
+use Prim.Native.Nat.{ℕ, _*_, _+_, _-_}
 use native.Mathlib.Omega.{arith}
-use lib.ListN.{getD, length}
-use Rattle.image.specs.Layout.{mostActive, pairsSize, tailStart}
-use Rattle.image.specs.Parts.{Whole}
+use lib.ListN.{getD}
+use Rattle.image.specs.Layout.{pairsSize}
 use Rattle.mask.specs.Masks.{byte}
-use Rattle.control.specs.ControlBytes.{marksAt, masksAt, tailAt}
+use Rattle.control.specs.ControlBytes.{marksAt, masksAt}
 use Rattle.control_form.proofs.Kept.{kept-bare, kept-table, part-pairs, part-zero, table-clear, table-set}
 use borrow.Author.Needs.{needs}
 use Rattle.control_form.proofs.kept_ok.Statement.{statement}
 use Rattle.control_form.proofs.kept_ok.Tie as tie
 
--- Where the part starts, how long it is, and that it lies in the image.
-abbrev from : ℕ → ℕ
-from i = tailStart + i * pairsSize
-
+-- How long the part is.
 size : (a : ℕ) → a + pairsSize - a ≡ pairsSize
 size a = omega arith
 
-fits : (l : List ℕ) (i : ℕ) → Whole l → i < mostActive → from i + pairsSize ≤ length l
-fits l i w h = omega (arith, w)
-
--- Where byte j of the part stands.
-together : (x j : ℕ) → tailStart + x + j ≡ tailStart + (x + j)
-together x j = omega arith
-
 mul-start : tie.Need-mul-start
 mul-start c = search needs
-
-add-start : tie.Need-add-start
-add-start c = search needs
 
 add-end : tie.Need-add-end
 add-end c = search needs
@@ -66,11 +51,12 @@ are-pairs-of-requires c κs = search needs
 returns : tie.Need-returns
 returns c =
     let e = c .before .before .before in
-    let a = e .before .before .before .args in
-    let l = a .image .now in
-    let small = e .before .before .shared-slice-known .given marksAt .fits in
-    c .are-pairs-of .ensures ∙ part-pairs l (a .i) (from (a .i)) (from (a .i) + pairsSize - from (a .i)) (byte (getD l (masksAt + a .i) 0)) refl (size (from (a .i)))
-    ∙ sym (kept-table l (a .i) (table-set (getD l marksAt 0) (a .i) small (e .before .before .before .pre .1) (e .if1 .taken)))
+    let s = e .before .before .before .before in
+    let l = s .args .front .now in
+    let i = s .args .i in
+    c .are-pairs-of .ensures ∙ part-pairs (s .args .tail .now) i (i * pairsSize + pairsSize - i * pairsSize) (byte (getD l (masksAt + i) 0)) (size (i * pairsSize))
+    ∙ sym (kept-table l (λ n. getD (s .args .tail .now) n 0) i
+    (table-set (getD l marksAt 0) i (e .before .shared-slice-known3 .given marksAt .fits) (s .pre .2) (e .if1 .taken)))
 
 sub-all-zero : tie.Need-sub-all-zero
 sub-all-zero c = search needs
@@ -87,19 +73,18 @@ all-zero-requires c κs = search needs
 returns-2 : tie.Need-returns-2
 returns-2 c =
     let e = c .before .before in
-    let a = e .before .before .before .args in
-    let l = a .image .now in
-    let small = e .before .before .shared-slice-known .given marksAt .fits in
-    c .all-zero .ensures ∙ part-zero l (from (a .i)) (from (a .i) + pairsSize - from (a .i)) pairsSize (λ j. tailAt l (a .i * pairsSize + j)) (size (from (a .i)))
-    (fits l (a .i) (e .before .before .before .pre .0) (e .before .before .before .pre .1)) (λ j h. ap (λ (x : ℕ). getD l x 0) (together (a .i * pairsSize) j))
-    ∙ sym (kept-bare l (a .i) (table-clear (getD l marksAt 0) (a .i) small (e .before .before .before .pre .1) (e .if1 .left)))
+    let s = e .before .before .before .before in
+    let l = s .args .front .now in
+    let i = s .args .i in
+    c .all-zero .ensures ∙ part-zero (s .args .tail .now) (i * pairsSize) (i * pairsSize + pairsSize - i * pairsSize) pairsSize (size (i * pairsSize)) (omega (arith, s .pre))
+    ∙ sym (kept-bare l (λ n. getD (s .args .tail .now) n 0) i
+    (table-clear (getD l marksAt 0) i (e .before .shared-slice-known3 .given marksAt .fits) (s .pre .2) (e .if1 .left)))
 
 pub kept-ok-spec : {M : Type 1} → statement M
 kept-ok-spec =
     tie.close
     (tie.spec
     mul-start
-    add-start
     add-end
     cast-mark
     shr-mark

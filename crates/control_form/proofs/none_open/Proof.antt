@@ -26,9 +26,6 @@ returns c =
     ap (λ (t : Bool). t && eqb (ofBytes (λ i. getD g (secondAt + i) 0) wordSize) 0) (sym (ne-eqb (w .word .result) 0 (c .if1 .taken)))
     ∙ open-by g (λ n. k .shared-slice-known .given n .fits) (w .word .result) (ofBytes (λ i. getD g (secondAt + i) 0) wordSize) (k .before .pre .1) (w .word .ensures) refl
 
-add-word : tie.Need-add-word
-add-word c = search needs
-
 word-requires-2 : tie.Need-word-requires-2
 word-requires-2 c κs = search needs
 
@@ -41,4 +38,4 @@ returns-2 c =
     ∙ open-by g (λ n. k .shared-slice-known .given n .fits) (w .word .result) (c .word2 .result) (k .before .pre .1) (w .word .ensures) (c .word2 .ensures)
 
 pub none-open-spec : {M : Type 1} → statement M
-none-open-spec = tie.close (tie.spec word-requires returns add-word word-requires-2 returns-2)
+none-open-spec = tie.close (tie.spec word-requires returns word-requires-2 returns-2)

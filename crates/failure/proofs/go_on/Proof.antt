@@ -1,12 +1,12 @@
 -- Once what was begun at the card has closed, each return is a law of going on: with a placement without the card, or with none. Assumes nothing.
-use Prim.Native.Nat.{_≤_}
+use Prim.Native.Nat.{_<_, _≤_}
 use borrow.Author.Needs.{needs}
 use lib.ListN.{length}
 use native.Mathlib.Omega.{arith}
 use Rattle.image.specs.Layout.{controlSize}
 use Rattle.promise.proofs.Finish.{form-long}
 use Rattle.failure.proofs.Marking.{in-range}
-use Rattle.failure.proofs.GoingOn.{Closing, closing, out-whole, placed-done, room, unplaced-done}
+use Rattle.failure.proofs.GoingOn.{Closing, closing, out-whole, placed-done, room, serial-closing, unplaced-done, whole-added}
 use Rattle.failure.proofs.go_on.Statement.{statement}
 use Rattle.failure.proofs.go_on.Tie as tie
 
@@ -45,25 +45,49 @@ without-card-requires c κs = in-range (start (c .before) .pre .0)
 
 add-requires : tie.Need-add-requires
 add-requires c κs =
-    let t = c .before .before in
-    let h = t .before in
-    (closed-at h .closes .counted, room (start h .pre .0) (start h .pre .1) (closed-at h) (h .before .newest-mask .ensures) (h .has .ensures) (t .if1 .taken))
+    let t = c .before in
+    let h = t .before in (
+      closed-at h .closes .counted,
+      (
+        room (start h .pre .0) (start h .pre .1) (closed-at h) (h .before .newest-mask .ensures) (h .has .ensures) (t .if1 .taken),
+        serial-closing (start h .pre .0) (start h .pre .1) (closed-at h),
+      ),
+    )
+
+-- the placement without the card, and the test behind which it is made
+abbrev without-at : tie.After-add → tie.After-without-card
+without-at a = a .before
+
+abbrev has-at : tie.After-add → tie.After-has
+has-at a = without-at a .before .before
 
 write-requires : tie.Need-write-requires
-write-requires c κs = (long (c .before .before .before .before), c .add .ensures .counted)
+write-requires c κs = (long (has-at (c .before)), c .before .add .ensures .counted)
+
+abbrev written-at : tie.After-put-all-arg → tie.After-write
+written-at p = p .before .before .before
+
+put-all-requires : tie.Need-put-all-requires
+put-all-requires c κs =
+    let w = written-at c in
+    let a = w .before .before in
+    let h = has-at a in
+    whole-added (start h .pre .0) (start h .pre .1) (closed-at h) _ (h .before .newest-mask .ensures) (without-at a .without-card .ensures) (a .add .ensures) _ (w .write .ensures)
 
 same-length : tie.Need-same-length
 same-length c = search needs
 
+small : (o : tie.After-without-card) → o .without-card .result < 256
+small o = search needs
+
 returns : tie.Need-returns
 returns c =
-    let w = c .before .before in
-    let a = w .before in
-    let o = a .before .before in
-    let t = o .before in
-    let h = t .before in
-    placed-done (start h .pre .0) (start h .pre .1) (closed-at h) (h .before .newest-mask .ensures) (h .has .ensures) (t .if1 .taken)
-    (o .without-card .ensures) (a .add .ensures) _ (w .write .ensures)
+    let p = c .before .before in
+    let w = written-at (p .before) in
+    let a = w .before .before in
+    let h = has-at a in
+    placed-done (start h .pre .0) (start h .pre .1) (closed-at h) _ (h .before .newest-mask .ensures) (without-at a .without-card .ensures) (a .add .ensures)
+    (h .has .ensures) (without-at a .before .if1 .taken) (small (without-at a)) _ _ (w .write .ensures) (p .put-all .ensures)
 
 write-requires-2 : tie.Need-write-requires-2
 write-requires-2 c κs = (long (c .before .before), closed-at (c .before .before) .closes .counted)
@@ -90,6 +114,7 @@ go-on-spec =
     without-card-requires
     add-requires
     write-requires
+    put-all-requires
     same-length
     returns
     write-requires-2

@@ -1,11 +1,11 @@
--- The table's part is lent on: a splice in a part is one in the image. Assumes nothing.
+-- The part of the table's blocks is lent on: a splice in a part is one in the image. Assumes nothing.
 use mathlib.Core.Path.{_≡_, ap, _∙_}
 use Prim.Native.Nat.{ℕ, _+_, _-_}
 use native.Mathlib.Omega.{arith}
 use lib.ListN.{length}
 use borrow.Author.Needs.{needs}
 use Rattle.lists.specs.Segments.{splice}
-use Rattle.image.specs.Layout.{blockSize, blockStart, tableSize, tableStart}
+use Rattle.image.specs.Layout.{blockSize, blockStart, blocksSize, tableStart}
 use Rattle.image.specs.Parts.{putBlock}
 use Rattle.image.proofs.Parts.{part-put}
 use Rattle.image.proofs.put_block.Statement.{statement}
@@ -44,7 +44,7 @@ returns c =
     let n : length (a .bytes) ≡ blockSize = search needs in
     let t = s .table-start .result in
     let e : t ≡ tableStart (a .card .0) = s .table-start .ensures in
-    part-put t (t + tableSize - t) (a .image .now) tableSize _ _ _ (c .before .before .write-block .ensures) (omega arith) (omega arith) (omega arith)
+    part-put t (t + blocksSize - t) (a .image .now) blocksSize _ _ _ (c .before .before .write-block .ensures) (omega arith) (omega arith) (omega arith)
     ∙ ap (λ (m : ℕ). splice (a .image .now) (m + blockStart (a .block .0)) (a .bytes)) e
 
 pub put-block-spec : {M : Type 1} → statement M

@@ -15,7 +15,7 @@ use Rattle.lists.proofs.Bools.{and-in, and-l, and-r, nor-l, nor-r, not-is, spli
 use Rattle.lists.proofs.Counts.{count-mono}
 use Rattle.lists.proofs.Lists.{any-none, in-left}
 use Rattle.method.specs.Changes.{Control, addedBy, marked, replaced}
-use Rattle.method.specs.ControlPart.{active, begunAt, closed, halted, isOpen}
+use Rattle.method.specs.ControlPart.{active, begunAt, closed}
 use Rattle.method.specs.OneRecordList.{Observation, failing, isStop, plainObserve}
 use Rattle.method.specs.Parameters.{Parameters}
 use Rattle.method.specs.PlainList.{endRecords, plainAct, plainNext, plainRefusal, stopsNow}
@@ -167,5 +167,6 @@ module _ (P : Parameters) (L : Laws P) where
             quiet-fail false = refl
 
         go : (has (k .working) c ≡ true) ⊎ (has (k .working) c ≡ false) → Goal (refusal P (fail c) k v)
-        go (inl on) = subst Goal (sym (refusal-on c on)) (rw (on, stop-same P L k c (lt-ltb c cards (has-card (k .working) c on))) (branch on (k .stopped) (i .form .base .running) (stopping P k c) refl))
+        go (inl on) = subst Goal (sym (refusal-on c on))
+            (rw (on, stop-same P L k c (lt-ltb c cards (has-card (k .working) c on))) (branch on (k .stopped) (i .form .base .running) (stopping P k c) refl))
         go (inr off) = subst Goal (sym (refusal-off c off .1)) (rw off (idle-still P L k v records i (fail c) (refused (suc (refusal-off c off .0))) (failing false) refl))

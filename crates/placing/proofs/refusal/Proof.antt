@@ -5,7 +5,7 @@ use mathlib.Core.Bool.{false, true}
 use mathlib.Core.Path.{_∙_, _≡_, sym}
 use native.Mathlib.Omega.{arith}
 use Rattle.table_lines.specs.Lines.{areLines, hasGap, hasOverlap}
-use Rattle.placing.proofs.Rows.{says-0, says-10, says-17, says-18, says-3, says-4, says-9, works}
+use Rattle.placing.proofs.Rows.{says-0, says-10, says-17, says-18, says-20, says-3, says-4, says-9, works}
 use Rattle.placing.proofs.refusal.Statement.{statement}
 use Rattle.placing.proofs.refusal.Tie as tie
 
@@ -80,14 +80,29 @@ returns-6 c =
     says-10 (s .args .k) (s .pre) (s .args .lines .now) (in-range-at (w .before .before)) (w .before .if2 .left) (work-at (v .before)) (gap-at (e .before))
     (overlap-at e) (omega (arith, c .if6 .taken))
 
+-- there is room
+abbrev room-at : tie.Else6 → tie.Else5
+room-at r = r .before .before
+
 returns-7 : tie.Need-returns-7
 returns-7 c =
-    let e = c .before .before in
+    let r = c .before .before in
+    let e = room-at r in
+    let v = e .before .before in
+    let w = v .before .before in
+    let s = from-work w in
+    says-20 (s .args .k) (s .pre) (s .args .lines .now) (in-range-at (w .before .before)) (w .before .if2 .left) (work-at (v .before)) (gap-at (e .before))
+    (overlap-at e) (omega (arith, r .if6 .left)) (c .if7 .taken)
+
+returns-8 : tie.Need-returns-8
+returns-8 c =
+    let r = c .before .before in
+    let e = room-at r in
     let v = e .before .before in
     let w = v .before .before in
     let s = from-work w in
     says-0 (s .args .k) (s .pre) (s .args .lines .now) (in-range-at (w .before .before)) (w .before .if2 .left) (work-at (v .before)) (gap-at (e .before))
-    (overlap-at e) (omega (arith, c .if6 .left))
+    (overlap-at e) (omega (arith, r .if6 .left)) (c .if7 .left)
 
 pub refusal-spec : {M : Type 1} → statement M
 refusal-spec =
@@ -102,4 +117,5 @@ refusal-spec =
     returns-4
     returns-5
     returns-6
-    returns-7)
+    returns-7
+    returns-8)

@@ -19,11 +19,15 @@ shr-self c = search needs
 add-self : tie.Need-add-self
 add-self c = search needs
 
+next-requires : tie.Need-next-requires
+next-requires c κs = search needs
+
 returns : tie.Need-returns
 returns c =
-    let s = c .before in
-    add-is (s .args .t1) (s .pre .0) (s .args .mask) (c .clean-marks .result) (search needs) (s .pre .1) (search needs) (c .clean-marks .ensures)
+    let m = c .before in
+    let s = m .before in
+    add-is (s .args .t1) (s .pre .0) (s .args .mask) (m .clean-marks .result) (c .next .result) (c .next .ensures) (search needs) (s .pre .1 .0) (search needs) (m .clean-marks .ensures)
 
 pub add-spec : {M : Type 1} → statement M
 add-spec =
-    tie.close (tie.spec cast-i element-write-self clean-marks-requires shr-self add-self returns)
+    tie.close (tie.spec cast-i element-write-self clean-marks-requires shr-self add-self next-requires returns)

@@ -1,6 +1,6 @@
 -- One mask more, at the count, with its mark for a table. Assumes nothing.
 use mathlib.Core.Path.{subst, sym}
-use Prim.Native.Nat.{ℕ}
+use Prim.Native.Nat.{ℕ, suc}
 use Rattle.mask.specs.Masks.{byte}
 use Rattle.mask.specs.Pairs.{noPairs}
 use Rattle.mask.specs.Placements.{byTable}
@@ -27,16 +27,19 @@ shr-self c = search needs
 add-self : tie.Need-add-self
 add-self c = search needs
 
+next-requires : tie.Need-next-requires
+next-requires c κs = search needs
+
 returns : tie.Need-returns
 returns c =
-    let s = c .before in
+    let m = c .before in
+    let s = m .before in
     let k = s .args .t1 in
-    let m : ℕ = c .clean-marks .result in
-    subst (λ (b : ℕ). Is (with k (s .pre .0) (s .args .mask) m (search needs) (s .pre .1) (search needs) (c .clean-marks .ensures) b)
-    (added (meaning k) (record { mask = byte (s .args .mask); choice = byTable noPairs }) tt))
-    (sym (table-bit (k .count) (s .pre .1)))
-    (add-table-is k (s .pre .0) (s .args .mask) m (search needs) (s .pre .1) (search needs) (c .clean-marks .ensures))
+    subst (λ (b : ℕ). Is (with k (s .pre .0) (s .args .mask) (m .clean-marks .result) (c .next .result) (c .next .ensures) (search needs) (s .pre .1 .0) (search needs) (m .clean-marks .ensures) b)
+    (added (meaning k) (record { mask = byte (s .args .mask); choice = byTable noPairs }) (suc (k .serial))))
+    (sym (table-bit (k .count) (s .pre .1 .0)))
+    (add-table-is k (s .pre .0) (s .args .mask) (m .clean-marks .result) (c .next .result) (c .next .ensures) (search needs) (s .pre .1 .0) (search needs) (m .clean-marks .ensures))
 
 pub add-table-spec : {M : Type 1} → statement M
 add-table-spec =
-    tie.close (tie.spec cast-i element-write-self clean-marks-requires shr-self add-self returns)
+    tie.close (tie.spec cast-i element-write-self clean-marks-requires shr-self add-self next-requires returns)

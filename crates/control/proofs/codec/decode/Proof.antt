@@ -1,6 +1,5 @@
--- Each field is read at its offset, as the definition names it. Assumes nothing.
-use mathlib.Core.Path.{refl}
-use Rattle.control.specs.Meaning.{structOf}
+-- Each field is read at its offset, as the definition names it, the serial by its reader. Assumes nothing.
+use Rattle.control.proofs.Struct.{decoded}
 use borrow.Author.Needs.{needs}
 use Rattle.control.proofs.codec.decode.Statement.{statement}
 use Rattle.control.proofs.codec.decode.Tie as tie
@@ -128,9 +127,14 @@ add-t68 c = search needs
 shared-slice-read-t70 : tie.Need-shared-slice-read-t70
 shared-slice-read-t70 c = search needs
 
+read-requires : tie.Need-read-requires
+read-requires c κs = search needs
+
 returns : tie.Need-returns
-unfolding structOf
-returns c = refl
+returns c =
+    let homes = c .before .before .before .before .before .before .before .before .before .before .before .before .before .before in
+    let s = homes .before .before .before .before .before .before .before .before .before .before .before .before in
+    decoded (s .args .s .now) (c .read .result) (c .read .ensures .0)
 
 pub decode-spec : {M : Type 1} → statement M
 decode-spec =
@@ -177,4 +181,5 @@ decode-spec =
     shared-slice-read-t67
     add-t68
     shared-slice-read-t70
+    read-requires
     returns)

@@ -6,10 +6,10 @@ use mir.Syntax.{w8}
 use mir.Val.{Fits}
 use borrow.Author.Needs.{needs}
 use Rattle.image.specs.Layout.{mostActive, tranCount}
-use Rattle.control.specs.ControlBytes.{controlByte, failedAt, field, homesAt, marksAt, masksAt, workingAt}
+use Rattle.control.specs.ControlBytes.{controlByte, failedAt, field, homesAt, marksAt, masksAt, serialAt, serialEnd, workingAt}
 use Rattle.control.specs.Meaning.{maskIn, meaning}
 use Rattle.control.proofs.Struct.{byte-first, byte-mask-at, byte-working, byte-failed, byte-marks, byte-home}
-use Rattle.control.proofs.Struct.{byte-rest, bit-le}
+use Rattle.control.proofs.Struct.{byte-rest, bit-le, written-serial}
 use Rattle.control.proofs.Written.{Written, none-written, one-written, all-written}
 use Rattle.control.proofs.codec.encode.Statement.{statement}
 use Rattle.control.proofs.codec.encode.Tie as tie
@@ -118,11 +118,45 @@ loop2-again c =
     let home = c .home-byte .ensures ∙ byte-home (s .args .t1) (s .pre) (l .t) (omega arith) in
     (omega arith, one-written _ (homesAt + l .t) (homesAt + (l .t + 1)) (l .bytes) _ (l .inv .1) (omega arith) (omega arith) home)
 
+bytes-requires : tie.Need-bytes-requires Inv-loop μ-loop Inv-loop2 μ-loop2
+bytes-requires c κs = search needs
+
+array-read-bytes : tie.Need-array-read-bytes Inv-loop μ-loop Inv-loop2 μ-loop2
+array-read-bytes c = search needs
+
+array-write-bytes-7 : tie.Need-array-write-bytes-7 Inv-loop μ-loop Inv-loop2 μ-loop2
+array-write-bytes-7 c = search needs
+
+array-read-bytes-2 : tie.Need-array-read-bytes-2 Inv-loop μ-loop Inv-loop2 μ-loop2
+array-read-bytes-2 c = search needs
+
+add-bytes-4 : tie.Need-add-bytes-4 Inv-loop μ-loop Inv-loop2 μ-loop2
+add-bytes-4 c = search needs
+
+array-write-bytes-8 : tie.Need-array-write-bytes-8 Inv-loop μ-loop Inv-loop2 μ-loop2
+array-write-bytes-8 c = search needs
+
+array-read-bytes-3 : tie.Need-array-read-bytes-3 Inv-loop μ-loop Inv-loop2 μ-loop2
+array-read-bytes-3 c = search needs
+
+add-bytes-5 : tie.Need-add-bytes-5 Inv-loop μ-loop Inv-loop2 μ-loop2
+add-bytes-5 c = search needs
+
+array-write-bytes-9 : tie.Need-array-write-bytes-9 Inv-loop μ-loop Inv-loop2 μ-loop2
+array-write-bytes-9 c = search needs
+
 returns : tie.Need-returns Inv-loop μ-loop Inv-loop2 μ-loop2
 returns c =
-    let l = c .before .loop2 in
-    let s = c .before .before .before .before .before .before in
-    all-written _ (homesAt + l .t) (l .bytes) (l .inv .1) (λ j h. byte-rest (s .args .t1) (s .pre) j (omega arith))
+    let l = c .before .before .loop2 in
+    let s = c .before .before .before .before .before .before .before in
+    let k = s .args .t1 in
+    let all : homesAt + l .t ≡ serialAt = omega arith in
+    let homes = subst (λ (m : ℕ). Written (controlByte (meaning k)) m (l .bytes)) all (l .inv .1) in
+    let serial = written-serial k (s .pre) (c .bytes .result) (c .bytes .ensures) in
+    let first = one-written _ serialAt (serialAt + 1) (l .bytes) _ homes (omega arith) (omega arith) (serial 0 (omega arith)) in
+    let second = one-written _ (serialAt + 1) (serialAt + 2) _ _ first (omega arith) (omega arith) (serial 1 (omega arith)) in
+    let third = one-written _ (serialAt + 2) serialEnd _ _ second (omega arith) (omega arith) (serial 2 (omega arith)) in
+    all-written _ serialEnd _ third (λ j h. byte-rest k (s .pre) j h)
 
 pub encode-spec : {M : Type 1} → statement M
 encode-spec =
@@ -156,4 +190,13 @@ encode-spec =
     add-t
     loop2-less
     loop2-again
+    bytes-requires
+    array-read-bytes
+    array-write-bytes-7
+    array-read-bytes-2
+    add-bytes-4
+    array-write-bytes-8
+    array-read-bytes-3
+    add-bytes-5
+    array-write-bytes-9
     returns)
