@@ -346,7 +346,7 @@ fn kept_ok(front: &[u8], tail: &[u8], i: usize) -> bool
 
 // What the control form asks of the bytes behind the tables, which an image of an earlier length has elsewhere: so it is
 // for each placement.
-pub fn behind_ok(front: &[u8], tail: &[u8]) -> bool
+fn behind_ok(front: &[u8], tail: &[u8]) -> bool
     requires { ⌜ (controlSize ≤ length (now front)) × (length (now tail) ≡ tailSize) ⌝ }
     ensures { λ r. ⌜ r ≡ allBelow mostActive (keptOkAt (now (front .entry)) (λ n. getD (now (tail .entry)) n 0)) ⌝ }
 {

@@ -4,13 +4,19 @@ ghost use mathlib.Core.Bool.{true};
 ghost use Prim.Native.Nat.{_≤_, _<_, ℕ};
 ghost use lib.ListN.{getD, length};
 ghost use Rattle.lists.specs.Tabulate.{tabulate};
-ghost use Rattle.image.specs.Layout.{cardCount, controlSize};
+ghost use Rattle.lists.specs.Tests.{allBelow};
+ghost use Rattle.image.specs.Layout.{blockCount, cardCount, controlSize, mostActive, pairsSize, tailSize};
 ghost use Rattle.image.specs.Parts.{Whole};
+ghost use Rattle.mask.specs.Masks.{byte};
+ghost use Rattle.mask.specs.Pairs.{isPairOf, pairAt, pairBound};
+ghost use Rattle.control_form.specs.Reading.{keptOkAt};
 ghost use Rattle.cabinet_rules.specs.Converting.{olderSize, pairsImageSize, stampedImage};
 ghost use Rattle.cabinet_rules.specs.Images.{formBy};
 ghost use Rattle.cabinet_rules.specs.Retired.{belowWire, byTables};
 ghost use Rattle.converter.specs.Promise.{PairsDone, StampsDone};
 ghost use Rattle.converter.specs.Steps.{TablesCarried, carryTable, olderFrontOk, shownFront};
+use control::FIRST_TABLE_MARK;
+use control::MASK_COUNT;
 use control::codec::FIELD;
 use control::codec::FIELD_BOUND;
 use control::codec::MARKS_AT;
@@ -21,11 +27,14 @@ use control::codec::SERIAL_END;
 use control::codec::WORKING_AT;
 use control::serials;
 use control::stamps;
+use image::Block;
 use image::Card;
 use promise::Filled;
 
 // The length of an image from before A.6, which ends with the tables, and from before A.7: no table has a stamp.
 const OLDER_SIZE: usize = image::CONTROL_SIZE + image::CARD_COUNT * image::BLOCKS_SIZE;
+
+const CARD_COUNT: u8 = image::CARD_COUNT as u8;
 
 const PAIRS_IMAGE_SIZE: usize = OLDER_SIZE + image::TAIL_SIZE;
 
@@ -68,6 +77,67 @@ fn form_21024(older: &[u8]) -> bool
     older[MARKS_AT] % RAIL_WEIGHT == 0
 }
 
+// Whether the pair is two different members of the mask.
+fn pair_ok(pair: u8, mask: u8) -> bool
+    requires { ⌜ pair < pairBound ⌝ }
+    ensures { λ r. ⌜ r ≡ isPairOf (byte mask) pair ⌝ }
+{
+    let first = pair / CARD_COUNT;
+    let second = pair % CARD_COUNT;
+    if !mask::has(mask, Card(first)) {
+        return false;
+    }
+    if !mask::has(mask, Card(second)) {
+        return false;
+    }
+    first != second
+}
+
+// Whether those of all blocks are, a block at a time: the check that takes them all at once is the calls' own, and stays
+// within their reader as long as nothing else asks for it.
+fn pairs_ok(pairs: &[u8], mask: u8) -> bool
+    requires { ⌜ length (now pairs) ≡ pairsSize ⌝ }
+    ensures { λ r. ⌜ r ≡ allBelow blockCount (λ b. isPairOf (byte mask) (pairAt (λ j. getD (now (pairs .entry)) j 0) b)) ⌝ }
+{
+    let mut b: u8 = 0;
+    while b < image::BLOCK_COUNT as u8 {
+        if !pair_ok(mask::pairs::pair_at(pairs, Block(b)), mask) {
+            return false;
+        }
+        b += 1;
+    }
+    true
+}
+
+// What is kept behind the tables for placement i is zero where it has no mark for a table, and else such pairs.
+fn kept_ok(front: &[u8], tail: &[u8], i: usize) -> bool
+    requires { ⌜ (controlSize ≤ length (now front)) × (length (now tail) ≡ tailSize) × (i < mostActive) ⌝ }
+    ensures { λ r. ⌜ r ≡ keptOkAt (now (front .entry)) (λ n. getD (now (tail .entry)) n 0) i ⌝ }
+{
+    let start = i * image::PAIRS_SIZE;
+    let end = start + image::PAIRS_SIZE;
+    let mark = FIRST_TABLE_MARK >> i;
+    if (front[MARKS_AT] & mark) != 0 {
+        return pairs_ok(&tail[start..end], front[MASKS_AT + i]);
+    }
+    image::all_zero(&tail[start..end])
+}
+
+// So it is for each placement.
+fn behind_ok(front: &[u8], tail: &[u8]) -> bool
+    requires { ⌜ (controlSize ≤ length (now front)) × (length (now tail) ≡ tailSize) ⌝ }
+    ensures { λ r. ⌜ r ≡ allBelow mostActive (keptOkAt (now (front .entry)) (λ n. getD (now (tail .entry)) n 0)) ⌝ }
+{
+    let mut i = 0;
+    while i < MASK_COUNT {
+        if !kept_ok(front, tail, i) {
+            return false;
+        }
+        i += 1;
+    }
+    true
+}
+
 // That of an image from before A.7: this, and what is asked behind the tables.
 fn form_21216(older: &[u8]) -> bool
     requires { ⌜ length (now older) ≡ pairsImageSize ⌝ }
@@ -76,7 +146,7 @@ fn form_21216(older: &[u8]) -> bool
     if !front_ok(older) {
         return false;
     }
-    control_form::behind_ok(older, &older[OLDER_SIZE..PAIRS_IMAGE_SIZE])
+    behind_ok(older, &older[OLDER_SIZE..PAIRS_IMAGE_SIZE])
 }
 
 // Fills the lent buffer with the image from before A.6 at the length of A.6, and answers how many bytes were written;
