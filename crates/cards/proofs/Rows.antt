@@ -25,8 +25,6 @@ use Rattle.control.specs.Serials.{serialLimit}
 use Rattle.cabinet_rules.specs.Places.{againByRails, byMask, isSpent, placedRow}
 use Rattle.promise.specs.Rows.{cardRows}
 use Rattle.promise.proofs.SharedRows.{card-accepted}
-use Rattle.tables.specs.Tables.{setOf}
-use Rattle.cards.proofs.Searches.{some-set}
 use Rattle.control.specs.declared.Control.{Control as Struct}
 
 -- the refusal of these calls is one of the control part alone
@@ -95,10 +93,10 @@ module _ (k : Part) (c n : ℕ) (e : n ≡ cardRows k c) where
       go true false false o below q = q
       go true false true o below q = absurd (d q)
 
-  pub withdraw-by : n ≡ 0 → (a : Bool) (s : ℕ) → a ≡ inActive cabinet k c → s ≡ setOf (begunAt k c) → row 8 a (row 14 (not (eqb s 0)) 0) ≡ rowsOf (withdraw c) k
+  pub withdraw-by : n ≡ 0 → (a s : Bool) → a ≡ inActive cabinet k c → s ≡ anyBelow tranBound (begunAt k c) → row 8 a (row 14 s 0) ≡ rowsOf (withdraw c) k
   unfolding refusal
   withdraw-by z a s ea es =
-      ap₂ (λ (o : Bool) (x : ℕ). row 8 o (row 14 (not (eqb x 0)) 0)) ea es ∙ ap (λ (t : Bool). row 8 (inActive cabinet k c) (row 14 t 0)) (some-set (begunAt k c))
+      ap₂ (λ (o t : Bool). row 8 o (row 14 t 0)) ea es
       ∙ go (ltb c cardCount) (k .stopped) (hasCard (k .working) c) (inActive cabinet k c) (row 14 (anyBelow tranBound (begunAt k c)) 0) (lt-ltb c cardCount (ok .0)) (ok .1) (ok .2)
     where
       ok : (c < cardCount) × (k .stopped ≡ false) × (hasCard (k .working) c ≡ true)

@@ -1,22 +1,21 @@
 -- Searches of the active placements and of the open transactions. Assumes nothing.
-use Prim.Native.Nat.{_+_, _<_, _^_, suc, zero, ℕ}
-use borrow.Author.Tests.{ne-eqb}
-use lib.Dec.{eqb}
-use mathlib.Core.Bool.{Bool, _&&_, _||_, cond, false, not, true}
+use Prim.Native.Nat.{_+_, _-_, _<_, ℕ}
+use borrow.Author.Tests.{lt-ltb}
+use lib.ListN.{getD}
+use mathlib.Core.Bool.{Bool, _&&_, _||_, false, not, true}
 use mathlib.Core.List.{List, [], _∷_}
 use mathlib.Core.Path.{_∙_, _≡_, ap, refl, sym}
-use native.Mathlib.Numerals.{unary-clauses}
 use native.Mathlib.Omega.{arith}
 use Rattle.lists.specs.Tests.{allIn, allBelow, anyIn, anyBelow}
-use Rattle.lists.proofs.Counts.{eqb-same}
-use Rattle.image.specs.Layout.{tranBound}
+use Rattle.lists.proofs.Counts.{any-below, any-more}
+use Rattle.image.specs.Layout.{tranBound, tranCount}
 use Rattle.mask.specs.Masks.{Byte, byte, hasCard}
-use Rattle.method.specs.ControlPart.{active}
+use Rattle.method.specs.ControlPart.{active, begunAt, isCard}
 use Rattle.method.specs.Rules.{inActive}
+use Rattle.control.specs.ControlBytes.{homeIn}
 use Rattle.control.specs.Meaning.{Counted, maskIn, meaning}
 use Rattle.control.proofs.Active.{every-passed, maskPasses, one-fails, one-passes}
 use Rattle.cabinet_rules.specs.Cabinet.{cabinet}
-use Rattle.tables.specs.Tables.{setBelow, setOf}
 use Rattle.control.specs.declared.Control.{Control as Struct}
 
 any-not-all : {A : Type 0} (f : A → Bool) (l : List A) → anyIn f l ≡ not (allIn (λ x. not (f x)) l)
@@ -41,23 +40,25 @@ module _ (k : Struct) (w : Counted k) (c : ℕ) where
   pub still-none : (i : ℕ) → false ≡ hasCard (byte (maskIn k i)) c → allBelow i (maskPasses (lacks c) k) ≡ true → allBelow (i + 1) (maskPasses (lacks c) k) ≡ true
   still-none i e h = one-passes (lacks c) k w i (rw (sym e)) h
 
--- ---- sets of transactions: one that is not 0 has a member
-power-some : (n : ℕ) → 0 < 2 ^ n
-power-some zero = omega arith
-power-some (suc n) = let h = power-some n in simp unary-clauses (omega arith)
+-- ---- the transactions: byte i is that of transaction i + 1, and there is no transaction 0
+module _ (k : Struct) (c : ℕ) where
+  begun-byte : (i : ℕ) → i < tranCount → isCard (homeIn (getD (k .homes) i 0)) c ≡ begunAt (meaning k) c (i + 1)
+  unfolding meaning
+  begun-byte i h = rw (lt-ltb 0 (i + 1) (omega arith), lt-ltb (i + 1) tranBound (omega arith), back)
+    where
+      back : i + 1 - 1 ≡ i
+      back = omega arith
 
-some-below : (n : ℕ) (f : ℕ → Bool) → eqb (setBelow n f) 0 ≡ not (anyBelow n f)
-some-below zero f = refl
-some-below (suc n) f = go (f n) (some-below n f)
-  where
-    go : (b : Bool) → eqb (setBelow n f) 0 ≡ not (anyBelow n f) → eqb (cond b (2 ^ n) 0 + setBelow n f) 0 ≡ not (b || anyBelow n f)
-    go true ih = ne-eqb (2 ^ n + setBelow n f) 0 (λ e. let h = power-some n in omega arith)
-    go false ih = eqb-same (0 + setBelow n f) 0 (setBelow n f) 0 (λ e. omega arith) (λ e. omega arith) ∙ ih
+  pub none-yet : anyBelow 1 (begunAt (meaning k) c) ≡ false
+  unfolding meaning
+  none-yet = refl
 
-pub some-set : (f : ℕ → Bool) → not (eqb (setOf f) 0) ≡ anyBelow tranBound f
-unfolding setOf
-some-set f = ap not (some-below tranBound f) ∙ twice (anyBelow tranBound f)
-  where
-    twice : (b : Bool) → not (not b) ≡ b
-    twice true = refl
-    twice false = refl
+  pub found-begun : (i : ℕ) → i < tranCount → true ≡ isCard (homeIn (getD (k .homes) i 0)) c → true ≡ anyBelow tranBound (begunAt (meaning k) c)
+  found-begun i h e = sym (any-below tranBound (begunAt (meaning k) c) (i + 1) (omega arith) (sym (e ∙ begun-byte i h)))
+
+  pub still-unbegun : (i : ℕ) → i < tranCount → false ≡ isCard (homeIn (getD (k .homes) i 0)) c → anyBelow (i + 1) (begunAt (meaning k) c) ≡ false
+      → anyBelow (i + 1 + 1) (begunAt (meaning k) c) ≡ false
+  still-unbegun i h e p = any-more (begunAt (meaning k) c) (i + 1) (sym (e ∙ begun-byte i h)) p
+
+  pub none-begun : (i : ℕ) → i ≡ tranCount → anyBelow (i + 1) (begunAt (meaning k) c) ≡ false → false ≡ anyBelow tranBound (begunAt (meaning k) c)
+  none-begun i e p = sym (rw e at p)

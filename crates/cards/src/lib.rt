@@ -1,8 +1,10 @@
 // start, fit, withdraw and place: which cards there are and which of them the records are placed on.
 ghost use mathlib.Core.Path.{_≡_};
 ghost use Prim.Native.Nat.{_<_};
-ghost use Rattle.image.specs.Layout.{cardCount};
+ghost use Rattle.lists.specs.Tests.{anyBelow};
+ghost use Rattle.image.specs.Layout.{cardCount, tranBound};
 ghost use Rattle.image.specs.Parts.{Whole};
+ghost use Rattle.method.specs.ControlPart.{begunAt};
 ghost use Rattle.method.specs.Rules.{inActive, refusal, fit, withdraw, place};
 ghost use Rattle.method.specs.PlainList.{noBlocks};
 ghost use Rattle.mask.specs.Masks.{byte};
@@ -17,6 +19,7 @@ use control::codec;
 use control::serials;
 use control::stamps;
 use image::Card;
+use image::TRAN_COUNT;
 use mask::Placement;
 use promise::Answer;
 
@@ -100,6 +103,20 @@ pub fn fit(image: &mut [u8], card: Card) -> Answer
     Answer::Ok
 }
 
+// Whether some transaction was begun at the card.
+fn begun_here(k: Control, card: Card) -> bool
+    ensures { λ r. ⌜ r ≡ anyBelow tranBound (begunAt (meaning k) (card .0)) ⌝ }
+{
+    let mut i = 0;
+    while i < TRAN_COUNT {
+        if codec::is_home(k.homes[i], card) {
+            return true;
+        }
+        i += 1;
+    }
+    false
+}
+
 // The rows of withdraw from 3 on.
 fn withdraw_refusal(k: Control, card: Card) -> u8
     requires { ⌜ Counted k ⌝ }
@@ -112,7 +129,7 @@ fn withdraw_refusal(k: Control, card: Card) -> u8
     if in_active(k, card) {
         return 8;
     }
-    if tables::begun_at(k, card) != 0 {
+    if begun_here(k, card) {
         return 14;
     }
     0

@@ -1,6 +1,5 @@
 -- Refused by a row of a working card; else each return is what the rows say of the two tests behind these. Assumes nothing.
 use mathlib.Core.Path.{refl}
-use borrow.Author.Tests.{eq-eqb, ne-eqb}
 use Rattle.control.specs.Meaning.{meaning}
 use Rattle.cards.proofs.Rows.{withdraw-by, withdraw-refused}
 use borrow.Author.Needs.{needs}
@@ -26,8 +25,8 @@ returns-2 c =
     let a = r .before .args in
     rw (c .if2 .taken) at (withdraw-by (meaning (a .k)) (a .card .0) (r .card-refusal .result) (r .card-refusal .ensures) (i .before .if1 .left) (i .in-active .result) _ (i .in-active .ensures) refl)
 
-begun-at-requires : tie.Need-begun-at-requires
-begun-at-requires c κs = search needs
+begun-here-requires : tie.Need-begun-here-requires
+begun-here-requires c κs = search needs
 
 returns-3 : tie.Need-returns-3
 returns-3 c =
@@ -35,8 +34,8 @@ returns-3 c =
     let i = b .before .before in
     let r = i .before .before in
     let a = r .before .args in
-    rw (b .before .if2 .left, ne-eqb _ _ (c .if3 .taken)) at
-    (withdraw-by (meaning (a .k)) (a .card .0) (r .card-refusal .result) (r .card-refusal .ensures) (i .before .if1 .left) _ _ (i .in-active .ensures) (b .begun-at .ensures))
+    rw (b .before .if2 .left, c .if3 .taken) at
+    (withdraw-by (meaning (a .k)) (a .card .0) (r .card-refusal .result) (r .card-refusal .ensures) (i .before .if1 .left) _ _ (i .in-active .ensures) (b .begun-here .ensures))
 
 returns-4 : tie.Need-returns-4
 returns-4 c =
@@ -44,8 +43,8 @@ returns-4 c =
     let i = b .before .before in
     let r = i .before .before in
     let a = r .before .args in
-    rw (b .before .if2 .left, eq-eqb _ _ (c .if3 .left)) at
-    (withdraw-by (meaning (a .k)) (a .card .0) (r .card-refusal .result) (r .card-refusal .ensures) (i .before .if1 .left) _ _ (i .in-active .ensures) (b .begun-at .ensures))
+    rw (b .before .if2 .left, c .if3 .left) at
+    (withdraw-by (meaning (a .k)) (a .card .0) (r .card-refusal .result) (r .card-refusal .ensures) (i .before .if1 .left) _ _ (i .in-active .ensures) (b .begun-here .ensures))
 
 pub withdraw-refusal-spec : {M : Type 1} → statement M
 withdraw-refusal-spec =
@@ -55,6 +54,6 @@ withdraw-refusal-spec =
     returns
     in-active-requires
     returns-2
-    begun-at-requires
+    begun-here-requires
     returns-3
     returns-4)
