@@ -344,8 +344,7 @@ fn kept_ok(front: &[u8], tail: &[u8], i: usize) -> bool
     image::all_zero(&tail[start..end])
 }
 
-// What the control form asks of the bytes behind the tables, which an image of an earlier length has elsewhere: so it is
-// for each placement.
+// What the control form asks of the bytes behind the tables: so it is for each placement.
 fn behind_ok(front: &[u8], tail: &[u8]) -> bool
     requires { ⌜ (controlSize ≤ length (now front)) × (length (now tail) ≡ tailSize) ⌝ }
     ensures { λ r. ⌜ r ≡ allBelow mostActive (keptOkAt (now (front .entry)) (λ n. getD (now (tail .entry)) n 0)) ⌝ }
