@@ -1,14 +1,13 @@
 -- What comes back after a stop, on images: the laws of the rules on the state that the image shows. Assumes nothing.
 use Prim.Native.Nat.{_+_, _<_, ℕ}
-use borrow.Author.Tests.{eqb-true, lt-ltb}
-use lib.Dec.{eqb}
-use lib.ListN.{getD, length}
-use mathlib.Core.Bool.{false, not, true}
+use borrow.Author.Tests.{lt-ltb}
+use lib.ListN.{getD}
+use mathlib.Core.Bool.{false, true}
 use mathlib.Core.List.{List}
 use mathlib.Core.Path.{_∙_, _≡_, ap, refl, subst, sym}
-use Rattle.lists.proofs.Bools.{not-not-is}
-use Rattle.image.specs.Layout.{cardCount, imageSize, tableSize, tableStart}
-use Rattle.mask.specs.Masks.{hasCard}
+use Rattle.lists.proofs.Bools.{never-true, tf}
+use Rattle.image.specs.Layout.{cardCount, tableSize, tableStart}
+use Rattle.mask.specs.Masks.{Byte, hasCard}
 use Rattle.mask.proofs.Masks.{has-card}
 use Rattle.method.specs.ComesBack.{MembersStamped, Returns, UnnamedIsStale}
 use Rattle.method.specs.OneRecordList.{Noise, disturb, zeroed}
@@ -17,26 +16,26 @@ use Rattle.method.specs.Returning.{returnRefusal}
 use Rattle.method.specs.Rules.{State, start}
 use Rattle.method.specs.ThroughStops.{Step, Tables, plainThrough, rulesThrough, stateThrough, stepsTaken}
 use Rattle.method.proofs.ComesBack.{through-members, through-returns, through-twins, unnamed-is-stale}
-use Rattle.method.proofs.Refusals.{row-clear}
 use Rattle.method.proofs.StepsThrough.{Through}
 use Rattle.method.proofs.ThroughStops.{through-after}
 use Rattle.control.specs.Stamps.{stampIn, stampOf}
-use Rattle.control_form.specs.ControlForm.{controlForm, formRefusal}
+use Rattle.control_form.specs.ControlForm.{formRefusal}
 use Rattle.cabinet_rules.specs.Cabinet.{cabinet}
 use Rattle.cabinet_rules.specs.Claims.{noisyBy}
 use Rattle.cabinet_rules.specs.ComesBack.{AfterStepsOnImages, MembersAreStamped, MembersComeBack, TwinsAgreeThroughStopsOnImages, UnnamedStaysAway}
-use Rattle.cabinet_rules.specs.ComesBack.{recordedThroughBy}
+use Rattle.cabinet_rules.specs.ComesBack.{IdleStaysAway, recordedThroughBy}
 use Rattle.cabinet_rules.specs.Delivery.{current}
 use Rattle.cabinet_rules.specs.Images.{Image, controlIn, endIn, next, stateBy, stateIn}
 use Rattle.cabinet_rules.specs.Returns.{returnRefusalOn}
 use Rattle.cabinet_rules.specs.Twins.{TwinsOn}
 use Rattle.cabinet_rules.specs.ThroughStops.{IntactBy, NoisyStep, imageThroughBy}
 use Rattle.cabinet_rules.proofs.Form.{currentLaws}
+use Rattle.cabinet_rules.proofs.FormLaws.{running-form}
 use Rattle.cabinet_rules.proofs.GoesThrough.{Continues, start-continues, state-through, tables-through}
 use Rattle.cabinet_rules.proofs.PlacingLaws.{lawful}
 use Rattle.cabinet_rules.proofs.Legible.{Legible, legible-noise, state-noise}
 use Rattle.cabinet_rules.proofs.Returns.{return-rows}
-use Rattle.cabinet_rules.proofs.Running.{formed-legible}
+use Rattle.cabinet_rules.proofs.Running.{form-good, form-long, formed-legible}
 use Rattle.cabinet_rules.proofs.ThroughStops.{intact-same, legible-through, same-end, steppedBy, tablesBy}
 use Rattle.cabinet_rules.proofs.Twins.{twins-shown}
 
@@ -106,14 +105,21 @@ twins-agree-through-stops-on-images = after-start (λ g t. TwinsOn g) continues-
 
 -- every image that is refused neither 1 nor 2
 form-legible : (g : Image) → formRefusal g ≡ 0 → Legible current currentLaws g
-unfolding formRefusal
-form-legible g e =
-    let from-2 = row-clear (not (eqb (length g) imageSize)) 0 e in
-    formed-legible g (eqb-true (length g) imageSize (not-not-is (eqb (length g) imageSize) (from-2 .0)))
-    (not-not-is (controlForm g) (row-clear (not (controlForm g)) 1 (from-2 .1) .0))
+form-legible g e = formed-legible g (form-long g e) (form-good g e)
 
 pub unnamed-stays-away : UnnamedStaysAway
 unfolding UnnamedStaysAway UnnamedIsStale
 unnamed-stays-away g form stopped c hc failed unnamed =
     let s : Legible current currentLaws g = form-legible g form in
     return-rows current currentLaws c g s ∙ unnamed-is-stale cabinet (controlIn g) (stateIn g .stamp) c (lt-ltb c cardCount hc) stopped failed unnamed
+
+-- a running store's newest placement has working cards alone
+idle-unnamed : (g : Image) → formRefusal g ≡ 0 → controlIn g .stopped ≡ false → (c : ℕ) → hasCard (controlIn g .working) c ≡ false
+    → hasCard (controlIn g .newest .mask) c ≡ false
+idle-unnamed g form runs c idle = never-true (hasCard (controlIn g .newest .mask) c) (λ named.
+    tf (hasCard (controlIn g .working) c) (running-form g (form-good g form) runs .newWorks c named) idle)
+
+pub idle-stays-away : IdleStaysAway
+unfolding IdleStaysAway UnnamedStaysAway
+idle-stays-away g h form formed runs stopped same c hc idle failed = unnamed-stays-away h formed stopped c hc failed
+    (ap (λ (m : Byte). hasCard m c) same ∙ idle-unnamed g form runs c idle)

@@ -1,5 +1,5 @@
 -- Examples of request A.3, computed from the rules: the move list and what its call answers. Assumes nothing.
-use Prim.Native.Nat.{_-_, ℕ}
+use Prim.Native.Nat.{ℕ}
 use mathlib.Core.List.{List, [], _∷_, _++_}
 use mathlib.Core.Path.{_≡_, refl}
 use Rattle.lists.specs.Tabulate.{tabulate}

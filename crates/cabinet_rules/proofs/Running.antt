@@ -27,6 +27,16 @@ use Rattle.cabinet_rules.proofs.Shows.{Shows}
 use Rattle.cabinet_rules.proofs.Legible.{Legible}
 use Rattle.cabinet_rules.proofs.Transport.{answer-legible, answer-start, run-rules, state-after, state-next, state-start}
 
+-- ---- an image that is refused neither 1 nor 2
+pub form-long : (g : Image) → formRefusal g ≡ 0 → length g ≡ imageSize
+unfolding formRefusal
+form-long g e = eqb-true (length g) imageSize (not-not-is (eqb (length g) imageSize) (row-clear (not (eqb (length g) imageSize)) 0 e .0))
+
+pub form-good : (g : Image) → formRefusal g ≡ 0 → controlForm g ≡ true
+unfolding formRefusal
+form-good g e = not-not-is (controlForm g) (row-clear (not (controlForm g)) 1 (row-clear (not (eqb (length g) imageSize)) 0 e .1) .0)
+
+-- ---- a running store
 pub record Running (g : Image) : Type 0 where
   pub long : length g ≡ imageSize
   pub formed : controlForm g ≡ true
@@ -105,9 +115,7 @@ calls-by-the-rules c g e =
     by-kind (load c) long e = other (load c) long e
 
 pub runs-by-the-rules : RunsByTheRules
-unfolding RunsByTheRules formRefusal
+unfolding RunsByTheRules
 runs-by-the-rules l g e =
-    let h = row-clear (not (eqb (length g) imageSize)) 0 e in
-    let s : Legible current currentLaws g = formed-legible g (eqb-true (length g) imageSize (not-not-is (eqb (length g) imageSize) (h .0)))
-    (not-not-is (controlForm g) (row-clear (not (controlForm g)) 1 (h .1) .0)) in
+    let s : Legible current currentLaws g = formed-legible g (form-long g e) (form-good g e) in
     (run-rules current currentLaws l g s, state-after current currentLaws l g s .1)

@@ -1,19 +1,17 @@
 -- The laws that finish the proof of a call: refused by 1 or 2, refused by a later row, accepted with nothing changed, with a new control part,
 -- with blocks written. Assumes nothing.
 use Prim.Native.Nat.{suc, zero, ℕ}
-use borrow.Author.Tests.{eq-eqb, eqb-true}
+use borrow.Author.Tests.{eq-eqb}
 use lib.Dec.{eqb}
 use lib.ListN.{length}
 use mathlib.Core.Bool.{Bool, false, not, true}
 use mathlib.Core.Logic.{_≢_}
 use mathlib.Core.Option.{none}
 use mathlib.Core.Path.{_∙_, _≡_, ap, ap₂, refl, sym}
-use Rattle.lists.proofs.Bools.{not-not-is}
 use Rattle.image.specs.Layout.{cardCount, imageSize}
 use Rattle.image.specs.Parts.{Whole}
 use Rattle.method.specs.PlainList.{orRefused}
 use Rattle.method.specs.Rules.{isStart, Call, Plan, row, stampAll, stamping, unwritten, writing, unlessRefused}
-use Rattle.method.proofs.Refusals.{row-clear}
 use Rattle.control.specs.ControlBytes.{Part, frontPart}
 use Rattle.control_form.specs.ControlForm.{controlForm, formRefusal}
 use Rattle.control.specs.Meaning.{putControl}
@@ -31,17 +29,10 @@ use Rattle.promise.specs.Laid.{laid}
 use Rattle.promise.proofs.Laid.{KeepsTail, kept-control, laid-none, write-control, write-stamps}
 use Rattle.promise.specs.declared.Answer.{Answer as AnswerValue}
 use Rattle.promise.specs.declared.Answer.the-variants.{Refused}
+-- what an image that passes 1 and 2 has shown
+pub use Rattle.cabinet_rules.proofs.Running.{form-good, form-long}
 
--- ---- what an image that passes 1 and 2 has shown
-pub form-long : (g : Image) → formRefusal g ≡ 0 → Whole g
-unfolding formRefusal
-form-long g e = eqb-true (length g) imageSize (not-not-is (eqb (length g) imageSize) (row-clear (not (eqb (length g) imageSize)) 0 e .0))
-
-pub form-good : (g : Image) → formRefusal g ≡ 0 → controlForm g ≡ true
-unfolding formRefusal
-form-good g e = not-not-is (controlForm g) (row-clear (not (controlForm g)) 1 (row-clear (not (eqb (length g) imageSize)) 0 e .1) .0)
-
--- what reading its control part gives
+-- ---- what reading the control part of an image that passes 1 and 2 gives
 pub given : {g : Image} {r : Found} → Reads g r → r .refusal ≡ 0 → Given (r .control) g
 given f e = record { formed = sym (f .refusal-is) ∙ e; is = f .good e }
 

@@ -6,7 +6,7 @@ use native.Mathlib.Omega.{arith}
 use lib.Seq.{ext-getD}
 use lib.ListN.{length, getD}
 use borrow.Author.Needs.{needs}
-use Rattle.lists.specs.Segments.{segment, splice}
+use Rattle.lists.specs.Segments.{splice}
 use Rattle.lists.proofs.Segments.{getD-in, length-segment, length-splice}
 use Rattle.image.specs.Layout.{pairsSize}
 use Rattle.image.proofs.Parts.{part-is}
