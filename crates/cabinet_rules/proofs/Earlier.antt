@@ -73,19 +73,19 @@ unfolding FormStaysFromEarlier
 form-stays-from-earlier g e l = form-kept l (stampedImage g) (earlier-legible g e)
 
 -- ---- the converters take them: their lengths are right and they have the form of their own delivery
-module _ (E D : Delivery) (K : DeliveryLaws E) (carry : Image → Image) (g buffer : Image) (s : Legible E K g) (b : length buffer ≡ imageSizeOf (D .memory .layout)) where
-  pub converts-legible : convertRefusal E D carry g buffer ≡ 0
+module _ (E D : Delivery) (K : DeliveryLaws E) (g buffer : Image) (s : Legible E K g) (b : length buffer ≡ imageSizeOf (D .memory .layout)) where
+  pub converts-legible : convertRefusal E D g buffer ≡ 0
   unfolding convertRefusal
   converts-legible = rw (eq-eqb (length g) (imageSizeOf (E .memory .layout)) (s .long), eq-eqb (length buffer) (imageSizeOf (D .memory .layout)) b, legible-form E K g s)
 
   -- so that the buffer holds them at the later length
-  pub converted-legible : bufferAfter E D carry g buffer ≡ carry g
+  pub converted-legible : (carry : Image → Image) → bufferAfter E D carry g buffer ≡ carry g
   unfolding bufferAfter
-  converted-legible = rw converts-legible
+  converted-legible carry = rw converts-legible
 
 pub converts-earlier : ConvertsEarlier
 unfolding ConvertsEarlier
 converts-earlier = (
-  λ g buffer e b. converts-legible belowWire byTables wireLaws longer g buffer (wire-legible g e) b,
-  λ g buffer e b. converts-legible byTables resuming tableLaws stampedImage g buffer (tables-legible g e) b,
+  λ g buffer e b. converts-legible belowWire byTables wireLaws g buffer (wire-legible g e) b,
+  λ g buffer e b. converts-legible byTables resuming tableLaws g buffer (tables-legible g e) b,
 )

@@ -34,7 +34,7 @@ use Rattle.cabinet_rules.specs.GoesOn.{BeforeTables, BeforeWire, BegunBy
 use Rattle.cabinet_rules.specs.GoesOn.{StoreBy, Succession, TakenOver, fromBase, fromRails, fromTables, fromWire, partNow, takenOver}
 use Rattle.cabinet_rules.specs.Images.{Image, answer, next, stateBy, stateIn}
 use Rattle.cabinet_rules.specs.Retired.{base, belowWire, byTables, twoRails}
-use Rattle.cabinet_rules.specs.ThroughStops.{ControlFormStaysThroughStops, GoesOnThroughStops, IntactBy, NoisyStep, NoisyStepBy, OneRecordListThroughStopsOnImages}
+use Rattle.cabinet_rules.specs.ThroughStops.{ControlFormStaysThroughStops, GoesOnThroughStopsOnImages, IntactBy, NoisyStep, NoisyStepBy, OneRecordListThroughStopsOnImages}
 use Rattle.cabinet_rules.specs.ThroughStops.{afterStepBy, imageThroughBy, recordedByte, runThroughBy, stepsTakenBy}
 use Rattle.cabinet_rules.proofs.Base.{baseLaws}
 use Rattle.cabinet_rules.proofs.Earlier.{earlier-sound, tables-sound}
@@ -154,6 +154,6 @@ tables-continue s l t =
 pub earlier-continues : (s : Store) → Earlier s → (t : ℕ → ℕ) → Continues (s .image) (s .rules) (s .plain) t
 earlier-continues s e t = subst (λ (n : Store). Continues (n .image) (n .rules) (n .plain) t) (sym (e .is)) (tables-continue (e .was) (e .left) t)
 
-pub goes-on-through-stops : GoesOnThroughStops
-unfolding GoesOnThroughStops
-goes-on-through-stops s e t l i = run-continues l (s .image) (s .rules) (s .plain) t (earlier-continues s e t) i
+pub goes-on-through-stops-on-images : GoesOnThroughStopsOnImages
+unfolding GoesOnThroughStopsOnImages
+goes-on-through-stops-on-images s e t l i = run-continues l (s .image) (s .rules) (s .plain) t (earlier-continues s e t) i

@@ -56,9 +56,10 @@ UnnamedStaysAway = (g : Image) → formRefusal g ≡ 0 → controlIn g .stopped 
     → (c : ℕ) → c < cardCount → hasCard (controlIn g .failed) c ≡ true → hasCard (controlIn g .newest .mask) c ≡ false
     → returnRefusalOn c g ≡ 19
 
--- On any two images that are refused neither 1 nor 2: a card that did not work at a moment at which the store ran under the
--- newest placement is refused 19 by the stopped store, whatever its table holds. So a card is that failed before the
--- placement was made, and one that was fitted since; g is the memory at that moment, h at the return.
+-- On any two images that are refused neither 1 nor 2, g of a running store and h of a stopped one, with the same newest
+-- mask: a card that did not work in g is refused 19 in h, whatever its table holds. So a card that failed before the newest
+-- placement was made does not come back (g is the memory when it was made), nor one that was fitted since (g is the memory
+-- before the fit).
 unfoldable pub IdleStaysAway : Type 0
 IdleStaysAway = (g h : Image) → formRefusal g ≡ 0 → formRefusal h ≡ 0
     → controlIn g .stopped ≡ false → controlIn h .stopped ≡ true → controlIn h .newest .mask ≡ controlIn g .newest .mask

@@ -57,7 +57,7 @@ abbrev pub fillingOf : ℕ → ℕ → Filling
 fillingOf zero count = written count
 fillingOf (suc n) count = unfilled (suc n)
 
-module _ (E D : Delivery) (carry : Image → Image) where
+module _ (E D : Delivery) where
   -- Refused 1 where a length is wrong, of the older image or of the buffer that is lent for the longer one; then 2 where
   -- the older image has not the control form of its own delivery. Whether the store has stopped is not asked.
   unfoldable pub convertRefusal : Image → Image → ℕ
@@ -68,6 +68,6 @@ module _ (E D : Delivery) (carry : Image → Image) where
   unfoldable pub convertAnswer : Image → Image → Filling
   convertAnswer g buffer = fillingOf (convertRefusal g buffer) (imageSizeOf (D .memory .layout))
 
-  -- The buffer afterwards: as it was lent where refused.
-  unfoldable pub bufferAfter : Image → Image → Image
-  bufferAfter g buffer = unlessRefused (convertRefusal g buffer) buffer (carry g)
+  -- The buffer afterwards: as it was lent where refused, else the older image as it is carried.
+  unfoldable pub bufferAfter : (Image → Image) → Image → Image → Image
+  bufferAfter carry g buffer = unlessRefused (convertRefusal g buffer) buffer (carry g)

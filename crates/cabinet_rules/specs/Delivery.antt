@@ -9,7 +9,7 @@ use Rattle.mask.specs.Masks.{Byte, size}
 use Rattle.mask.specs.Placements.{Placement, Usable, fromMask, sitesOf}
 use Rattle.method.specs.ControlPart.{ControlPart}
 use Rattle.control.specs.ControlBytes.{Part, Serial, Setting, controlByte, controlOf, tailByte}
-use Rattle.control.specs.Serials.{serialMost}
+use Rattle.control.specs.Serials.{firstSerial, serialMost}
 use Rattle.control.specs.Stamps.{Stamp, noStamp, sameStamp, stampByte, stampIn, stampOf}
 use Rattle.control_form.specs.ControlForm.{formOk}
 use Rattle.cabinet_rules.specs.Places.{PlaceArgument, argumentInRange, argumentRows, isSpent, placementOf}
@@ -99,7 +99,7 @@ resuming = record {
   usable = Usable;
   fromMask = fromMask;
   Serial = Serial;
-  firstSerial = 1;
+  firstSerial = firstSerial;
   nextSerial = suc;
   numbered = Numbered;
   PlaceArgument = PlaceArgument;

@@ -179,5 +179,5 @@ FormStaysFromEarlier = (g : Image) → EarlierImage g → (l : List NoisyCall) �
 -- And each converter takes them all.
 unfoldable pub ConvertsEarlier : Type 0
 ConvertsEarlier =
-    ((g buffer : Image) → WireImage g → length buffer ≡ pairsImageSize → convertRefusal belowWire byTables longer g buffer ≡ 0)
-    × ((g buffer : Image) → EarlierImage g → length buffer ≡ imageSize → convertRefusal byTables resuming stampedImage g buffer ≡ 0)
+    ((g buffer : Image) → WireImage g → length buffer ≡ pairsImageSize → convertRefusal belowWire byTables g buffer ≡ 0)
+    × ((g buffer : Image) → EarlierImage g → length buffer ≡ imageSize → convertRefusal byTables resuming g buffer ≡ 0)

@@ -100,8 +100,8 @@ OneRecordListThroughStopsOnImages = (m : Byte) (before : Image) → answer (star
     ≡ runPlainThrough cabinet (stepsTakenBy current l (next (start m) before)) (zeroed cabinet m) (plainStart cabinet m)
 
 -- The same from a running store that earlier deliveries left.
-unfoldable pub GoesOnThroughStops : Type 0
-GoesOnThroughStops = (s : Store) → Earlier s
+unfoldable pub GoesOnThroughStopsOnImages : Type 0
+GoesOnThroughStopsOnImages = (s : Store) → Earlier s
     → (t : ℕ → ℕ) (l : List NoisyStep) → IntactBy current l (s .image) t
     → runThroughBy current l (s .image) ≡ runPlainThrough cabinet (stepsTakenBy current l (s .image)) (s .rules) (s .plain)
 

@@ -22,6 +22,7 @@ use Rattle.method.specs.ControlPart.{started}
 use Rattle.method.specs.Rules.{act, refusal, stampAll, stamped, start, updated}
 use Rattle.control.specs.ControlBytes.{Part, controlByte, tailByte, tailOf}
 use Rattle.control.specs.Meaning.{Is, meaning, putControl}
+use Rattle.control.specs.Serials.{firstSerial}
 use Rattle.control.specs.Stamps.{noStamp, putStamps, stampOf}
 use Rattle.control.specs.declared.Control.{Control as Struct}
 use Rattle.control.proofs.StampLaws.{stamps-block, stamps-control, stamps-in, stamps-kept, stamps-tail, whole-stamps}
@@ -100,7 +101,7 @@ module _ (g : Image) (mask : ℕ) where
         let few = lt-ltb (size m) leastMembers (omega (arith, e)) in
         record { answers = rw (eq-eqb (length g) imageSize w, few); leaves = rw (eq-eqb (length g) imageSize w, few) }
 
-    pub start-done : leastMembers ≤ n → mask < 256 → (x : Struct) (out first behind : Image) → Is x (started (fromMask m) m noCards tt 1) → out ≡ zeros (length g)
+    pub start-done : leastMembers ≤ n → mask < 256 → (x : Struct) (out first behind : Image) → Is x (started (fromMask m) m noCards tt firstSerial) → out ≡ zeros (length g)
         → first ≡ putControl out (meaning x) → behind ≡ putStamps first (byte (x .working)) (record { serial = x .serial; mask = mask }) cardCount → Done (start m) g Ok behind
     unfolding answerBy nextBy refusalBy refusal startRow act
     start-done z small x out first behind ix o f l =

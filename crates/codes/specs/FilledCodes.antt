@@ -27,7 +27,7 @@ OneFilledCodeEach =
 -- The converter of delivery E's images to such of delivery D was given an older image and lent a buffer; it answered with
 -- this code and left the buffer so.
 pub record CodedConversion (E D : Delivery) (carry : Image → Image) (older lent : Image) (code : ℕ) (left : Image) : Type 0 where
-  pub answers : code ≡ filledCode (convertAnswer E D carry older lent)
+  pub answers : code ≡ filledCode (convertAnswer E D older lent)
   pub leaves : left ≡ bufferAfter E D carry older lent
 
 -- That of images from before A.6; that of images from before A.7.

@@ -19,6 +19,7 @@ use Rattle.mask.specs.Placements.{Choice, Placement, byTable, fromMask, isByRai
 use Rattle.method.specs.ControlPart.{active, isCard, begunAt, started, withHome, withCards, withPlacements, opened, closed, added, onlyNewest, halted, part}
 use Rattle.control.specs.ControlBytes.{chosenBy, field, fieldBound, homeIn, homeOf, keptAs, markIn, openBit, placementsIn, tableMarkIn}
 use Rattle.control.specs.Meaning.{cleanMarks, placementIn, meaning, newestMask, keptHome, Counted, Is}
+use Rattle.control.specs.Serials.{firstSerial}
 use Rattle.control.specs.declared.Control.{Control}
 use Rattle.control.proofs.Marks.{chosen-rails, kind-first, marked-is, marked-same, rails-added, rails-kept, table-added, table-kept}
 use Rattle.control.proofs.Struct.{placements-same, active-is}
@@ -223,9 +224,9 @@ rest-is k w s = record { counted = record { some = w .some; few = w .few }; mean
 
 pub start-is : (m : ℕ)
     → Is (record { stopped = false; count = 1; masks = m ∷ 0 ∷ 0 ∷ 0 ∷ []; working = m; failed = 0; marks = bitOf 0; homes = replicate tranCount 0; serial = 1 })
-    (started (fromMask (byte m)) (byte m) noCards tt 1)
+    (started (fromMask (byte m)) (byte m) noCards tt firstSerial)
 unfolding meaning
 start-is m = record {
   counted = record { some = omega arith; few = omega arith };
-  means = ap (withHome (started (fromMask (byte m)) (byte m) noCards tt 1)) (fun-ext none-open);
+  means = ap (withHome (started (fromMask (byte m)) (byte m) noCards tt firstSerial)) (fun-ext none-open);
 }

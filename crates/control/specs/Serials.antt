@@ -7,6 +7,10 @@ use Rattle.image.specs.Layout.{cardCount}
 abbrev pub serialBound : ℕ
 serialBound = 16777216
 
+-- That of a start's placement.
+abbrev pub firstSerial : ℕ
+firstSerial = 1
+
 -- A placement is refused from this serial on.
 abbrev pub serialLimit : ℕ
 serialLimit = 16777000

@@ -21,7 +21,7 @@ ghost use Rattle.method.specs.ControlPart.{
 };
 ghost use Rattle.control.specs.ControlBytes.{tableMarkIn};
 ghost use Rattle.control.specs.Meaning.{meaning, newestMask, keptHome, Counted, Is};
-ghost use Rattle.control.specs.Serials.{serialBound};
+ghost use Rattle.control.specs.Serials.{firstSerial, serialBound};
 
 pub mod codec;
 pub mod pairs;
@@ -59,7 +59,7 @@ pub struct Control {
 impl Control {
     // The mask's cards work and are the one placement, by rails, with the first serial; none failed, none open.
     pub fn started(mask: u8) -> Control
-        ensures { λ r. ⌜ Is r (started (fromMask (byte mask)) (byte mask) noCards tt 1) ⌝ }
+        ensures { λ r. ⌜ Is r (started (fromMask (byte mask)) (byte mask) noCards tt firstSerial) ⌝ }
     {
         Control {
             stopped: false,

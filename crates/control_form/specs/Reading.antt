@@ -15,7 +15,7 @@ use Rattle.mask.specs.Placements.{fromMask}
 use Rattle.method.specs.ControlPart.{started}
 use Rattle.control.specs.ControlBytes.{Part, controlOf, countIn, failedAt, field, frontPart, homeByte, homeIn, homesAt, homesEnd}
 use Rattle.control.specs.ControlBytes.{lastMaskAt, marksAt, masksAt, pairsIn, serialAt, serialEnd, stoppedIn, tableMarkIn, tailAt, workingAt}
-use Rattle.control.specs.Serials.{serialIn, serialMost}
+use Rattle.control.specs.Serials.{firstSerial, serialIn, serialMost}
 use Rattle.control.specs.Meaning.{Is, freeMarks}
 use Rattle.control_form.specs.ControlForm.{chainOk, formRefusal, homeOk, isSafe, membersOk}
 use Rattle.control_form.specs.declared.Found.{Found}
@@ -112,7 +112,7 @@ keptOkAt l t i =
 
 -- No control part: that of a start with no cards, which stands where none can be read.
 abbrev pub noPart : Part
-noPart = started (fromMask noCards) noCards noCards tt 1
+noPart = started (fromMask noCards) noCards noCards tt firstSerial
 
 -- What reading an image finds: row 1 or 2 of the refusal table and no control part, or else 0 and the control part that
 -- the bytes show, without its pairs.

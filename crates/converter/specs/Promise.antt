@@ -10,7 +10,7 @@ use Rattle.promise.specs.declared.Filled.{Filled as FilledValue}
 -- The converter of delivery E's images to such of delivery D was given an older image and lent a buffer; it answered a and
 -- left the buffer so.
 pub record ConvertDone (E D : Delivery) (carry : Image → Image) (older lent : Image) (a : FilledValue) (left : Image) : Type 0 where
-  pub answers : shownFilled a ≡ convertAnswer E D carry older lent
+  pub answers : shownFilled a ≡ convertAnswer E D older lent
   pub leaves : left ≡ bufferAfter E D carry older lent
 
 -- That of images from before A.6; that of images from before A.7.

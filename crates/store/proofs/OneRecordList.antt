@@ -82,7 +82,7 @@ run-observed (r ∷ l) g z q s e =
 
 -- What the converter of today leaves of an image of A.6.
 pub converted-is : (g left : Image) → Legible byTables tableLaws g → Converted g left → left ≡ stampedImage g
-converted-is g left s c = c .done .leaves ∙ converted-legible byTables resuming tableLaws stampedImage g (c .lent) s (c .room)
+converted-is g left s c = c .done .leaves ∙ converted-legible byTables resuming tableLaws g (c .lent) s (c .room) stampedImage
 
 -- DEMAND 3, going on from a store that earlier deliveries left
 pub goes-on-of-calls : GoesOnOfCalls
