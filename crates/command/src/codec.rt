@@ -5,7 +5,7 @@ ghost use Rattle.command.specs.Commands.{fields_leave, shown_fields, write_field
 use crate::{Fields, SIZE, Writing};
 
 // What a list of bytes shows.
-#[derive(Drop)]
+#[derive(Clone, Copy)]
 pub enum Shown {
     Has(Fields),
     Malformed,

@@ -79,28 +79,28 @@ const MOST_MASK: u16 = 255;
 const MOST_BLOCK: u16 = 255;
 
 // What a command asks for: a call, or a move of a number that no block can have: its field has 12 bits, a block 8.
-#[derive(Drop)]
+#[derive(Clone, Copy)]
 pub enum Command {
     Of(Call),
     WideMove(Card, u16),
 }
 
 // What a list of bytes asks for.
-#[derive(Drop)]
+#[derive(Clone, Copy)]
 pub enum Reading {
     Asks(Command),
     Malformed,
 }
 
 // Whether a command was written.
-#[derive(Drop)]
+#[derive(Clone, Copy)]
 pub enum Writing {
     Written,
     Malformed,
 }
 
 // The fields of a command. The number is a record's or a block's, the value may be a mask.
-#[derive(Drop)]
+#[derive(Clone, Copy)]
 pub struct Fields {
     pub operation: u8,
     pub tran: u8,

@@ -31,7 +31,7 @@ const GREATEST: u64 = 18446744073709551615;
 
 // Where the program is in its input: the number of the next command, how many of its bytes wait at the start of the
 // input buffer, and whether the program reads on.
-#[derive(Drop)]
+#[derive(Clone, Copy)]
 struct Position {
     number: u64,
     waiting: usize,
@@ -39,7 +39,7 @@ struct Position {
 }
 
 // What a reading leads to: how many bytes of lines were put into the output buffer, and the next position.
-#[derive(Drop)]
+#[derive(Clone, Copy)]
 struct Step {
     put: usize,
     next: Position,

@@ -36,7 +36,7 @@ use image::MOST_ACTIVE;
 use words::WORD_SIZE;
 
 // Row 1 or 2 of the refusal table, or else 0 and the control part.
-#[derive(Drop)]
+#[derive(Clone, Copy)]
 pub struct Found {
     pub refusal: u8,
     pub control: Control,

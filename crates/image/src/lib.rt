@@ -1,5 +1,7 @@
 // The image: a lent list of bytes, its layout, the four namings, and the writer of whole blocks. Crate slot writes single
 // slots in place.
+#![tactic(auto)]
+
 ghost use Rattle.std.specs.Prelude.{◌≡◌, ◌+◌, ◌≤◌, ◌<◌, eqb, get_or, length};
 ghost use Rattle.lists.specs.Segments.{segment, splice};
 ghost use Rattle.lists.specs.Tests.{all_below};
@@ -63,19 +65,19 @@ pub const TAIL_START: usize = CONTROL_SIZE + CARD_COUNT * TABLE_SIZE;
 pub const IMAGE_SIZE: usize = TAIL_START + TAIL_SIZE;
 
 // A card, 0 to 7.
-#[derive(Drop)]
+#[derive(Clone, Copy)]
 pub struct Card(pub u8);
 
 // A block of a card's table, 0 to 63.
-#[derive(Drop)]
+#[derive(Clone, Copy)]
 pub struct Block(pub u8);
 
 // A record, 0 to 511.
-#[derive(Drop)]
+#[derive(Clone, Copy)]
 pub struct Rec(pub u16);
 
 // A transaction, 1 to 15.
-#[derive(Drop)]
+#[derive(Clone, Copy)]
 pub struct Tran(pub u8);
 
 // A byte as a number of 64 bits.

@@ -1,4 +1,6 @@
 // Masks of cards, and what a mask gives: members, and the sites of a placement whose choice is not by table.
+#![tactic(auto)]
+
 ghost use Rattle.std.specs.Prelude.{◌≡◌, ◌&&◌, cond, not, ◌∷◌, [], ◌+◌, ◌-◌, ◌<◌, ◌≤◌, leb, length, get_or, drop, take};
 ghost use Rattle.std.specs.Int.Bits.{bit_and};
 ghost use Rattle.lists.specs.Tests.{elem};
@@ -213,14 +215,14 @@ fn other_rail(card: Card) -> u8
 
 // A placement whose sites its mask gives: which cards, and whether they are chosen by rails or as the base does. The
 // pairs of a placement by table are not in it.
-#[derive(Drop)]
+#[derive(Clone, Copy)]
 pub struct Placement {
     pub mask: u8,
     pub rails: bool,
 }
 
 // The sites of a block: the first `count` of the cards, in the order of the rules.
-#[derive(Drop)]
+#[derive(Clone, Copy)]
 pub struct Sites {
     pub count: u8,
     pub cards: [Card; image::MOST_COPIES],

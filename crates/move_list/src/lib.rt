@@ -17,11 +17,11 @@ pub const MOST_MOVES: usize = BLOCK_COUNT * Placement::MOST_CARDS as usize;
 pub const SHORT: u8 = 16;
 
 // An entry of the list: the card that a block moves from, and the block.
-#[derive(Drop)]
+#[derive(Clone, Copy)]
 pub struct Move(pub Card, pub Block);
 
 // What the call answers: the number of moves, 'none', or a refusal.
-#[derive(Drop)]
+#[derive(Clone, Copy)]
 pub enum Listed {
     Moves(u16),
     None,
@@ -29,7 +29,7 @@ pub enum Listed {
 }
 
 // What the call answers, beside a list that has room for every list of moves.
-#[derive(Drop)]
+#[derive(Clone, Copy)]
 pub struct AllMoves {
     pub listed: Listed,
     pub moves: [Move; MOST_MOVES],
@@ -37,7 +37,7 @@ pub struct AllMoves {
 
 // What is found in an image: why the call is refused, or 0; whether a move is locked; and, where neither, the number of
 // moves and for each block the mask of the cards that it moves from.
-#[derive(Drop)]
+#[derive(Clone, Copy)]
 pub struct Plan {
     pub refusal: u8,
     pub locked: bool,

@@ -4,7 +4,7 @@ pub mod rows;
 use image::{Block, Card, Rec, Tran};
 
 // The calls with their arguments (RULES, "The calls"). A mask is a byte, a value 16 bits.
-#[derive(Drop)]
+#[derive(Clone, Copy)]
 pub enum Call {
     Start(u8),
     Begin(Tran, Card),
@@ -24,14 +24,14 @@ pub enum Call {
 }
 
 // The answers of calls that fill lent bytes: how many were written, or a refusal's number.
-#[derive(Drop)]
+#[derive(Clone, Copy)]
 pub enum Filled {
     Bytes(u16),
     Refused(u8),
 }
 
 // The answers. A refusal is its number in the table (RULES, "Refusals").
-#[derive(Drop)]
+#[derive(Clone, Copy)]
 pub enum Answer {
     Ok,
     Value(u16),

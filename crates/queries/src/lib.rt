@@ -10,7 +10,7 @@ use control::{Control, MASK_COUNT};
 use image::{Rec, TRAN_COUNT, Tran};
 
 // What can be asked of the control part. Active placements are numbered from 0, the oldest first.
-#[derive(Drop)]
+#[derive(Clone, Copy)]
 pub enum Query {
     Stopped,
     PlacementCount,
@@ -22,7 +22,7 @@ pub enum Query {
 }
 
 // What is told: a number, that there is none, or a refusal's number.
-#[derive(Drop)]
+#[derive(Clone, Copy)]
 pub enum Told {
     Number(u8),
     None,

@@ -16,7 +16,7 @@ const RECORD_COUNT: usize = image::BLOCK_COUNT * image::SLOT_COUNT;
 const BROKEN_WIRE: u16 = 65535;
 
 // A row of the refusal table, or else 0 with the newest placement, by its number, and the holders of the record's block.
-#[derive(Drop)]
+#[derive(Clone, Copy)]
 pub struct Access {
     pub refusal: u8,
     pub newest: usize,

@@ -37,14 +37,14 @@ const PRESENT: u64 = VALUE * VALUES;
 pub const HELD: u8 = 128;
 
 // A present bit and a value.
-#[derive(Drop)]
+#[derive(Clone, Copy)]
 pub struct Entry {
     pub present: bool,
     pub value: u16,
 }
 
 // A slot: its committed state, its lock (0 is none, else the transaction), its pending state and its two unnamed bits.
-#[derive(Drop)]
+#[derive(Clone, Copy)]
 pub struct Slot {
     pub committed: Entry,
     pub lock: u8,

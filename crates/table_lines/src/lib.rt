@@ -29,7 +29,7 @@ const LINE_SIZE: usize = 4;
 const MOST_LINES: usize = BLOCK_COUNT;
 
 // A line: its first and its last block, and the cards of their first and their second site.
-#[derive(Drop)]
+#[derive(Clone, Copy)]
 struct Line {
     first: u8,
     last: u8,
@@ -167,7 +167,7 @@ fn lines_with(lines: &[u8], block: Block) -> usize
 }
 
 // Whether some block is in no line, and whether some block is in two.
-#[derive(Drop)]
+#[derive(Clone, Copy)]
 pub struct Covered {
     pub gap: bool,
     pub overlap: bool,

@@ -17,7 +17,7 @@ use slot::HELD;
 
 // The holders of a block: the first of them on its trail, the oldest placement first, and all of them as a mask. With no
 // holder the first is card 0.
-#[derive(Drop)]
+#[derive(Clone, Copy)]
 pub struct Holders {
     pub first: Card,
     pub cards: u8,
@@ -70,7 +70,7 @@ pub fn held_by(image: &[u8], working: u8, block: Block) -> u8
 }
 
 // The working cards that hold a block, and those that hold the block after it.
-#[derive(Drop)]
+#[derive(Clone, Copy)]
 pub struct HeldTwo {
     pub first: u8,
     pub second: u8,

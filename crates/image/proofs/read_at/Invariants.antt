@@ -1,0 +1,18 @@
+-- The first i bytes are those behind the address; at the end all are. Assumes nothing.
+use mathlib.Core.Path.{◌≡◌, refl, sym, ◌∙◌}
+use Prim.Native.Nat.{ℕ, ◌≤◌, ◌<◌, ◌-◌, ◌+◌}
+use native.Mathlib.Omega.{arith}
+use native.Mathlib.Nat.{not-suc-le-zero}
+use lib.Seq.{ext_get_or}
+use lib.ListN.{length, get_or, length-set}
+use borrow.Author.Rules.{rules}
+use Rattle.lists.specs.Segments.{segment}
+use Rattle.lists.proofs.Segments.{length-segment, get_or-segment, fill_more}
+use Rattle.image.specs.Layout.{block_size}
+use Rattle.image.proofs.read_at.Given as goal
+
+abbrev pub invariant-loop-i : goal.invariant-loop-i
+invariant-loop-i l = (l.i ≤ block_size) × (length l.bytes ≡ block_size) × ((k : ℕ) → k < l.i → get_or l.bytes k 0 ≡ get_or l.s (l.at + k) 0)
+
+abbrev pub decreases-loop-i : goal.decreases-loop-i
+decreases-loop-i l = block_size - l.i

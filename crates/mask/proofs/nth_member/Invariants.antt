@@ -1,0 +1,21 @@
+-- The members up to number k are left; at the end k is i, and the last one left is member
+-- number i. Assumes nothing.
+use mathlib.Core.Path.{◌∙◌, ◌≡◌, ap, sym}
+use Prim.Native.Nat.{◌-◌, ◌<◌, ◌≤◌, suc, ℕ}
+use native.Mathlib.Omega.{arith}
+use lib.Count.{ones}
+use lib.ListN.{get_or, length, take}
+use lib.Seq.{take_all}
+use borrow.Author.Rules.{rules}
+use Rattle.mask.specs.Masks.{byte, members}
+use Rattle.mask.proofs.LastMember.{left-last, left-length, left_less}
+use Rattle.mask.proofs.Masks.{size-members}
+use Rattle.mask.proofs.Sets.{size_is}
+use Rattle.mask.proofs.MaskSites.{few-members}
+use Rattle.mask.proofs.nth_member.Given as goal
+
+abbrev pub invariant-loop-k : goal.invariant-loop-k
+invariant-loop-k l = (l.i ≤ l.k) × (l.k < length (members (byte l.mask))) × (members (byte l.left) ≡ take (suc l.k) (members (byte l.mask)))
+
+abbrev pub decreases-loop-k : goal.decreases-loop-k
+decreases-loop-k l = l.k - l.i

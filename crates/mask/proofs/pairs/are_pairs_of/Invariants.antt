@@ -1,0 +1,25 @@
+-- The highest bit is set as long as the pairs of the groups so far are good. Assumes nothing.
+use mathlib.Core.Path.{◌≡◌, refl}
+use Prim.Native.Nat.{◌*◌, ◌+◌, ◌-◌, ◌≤◌, ℕ}
+use native.Mathlib.Omega.{arith}
+use lib.Bits.{bit_and}
+use lib.ListN.{get_or}
+use borrow.Author.Rules.{rules}
+use Rattle.lists.specs.Tests.{all_below, one_if}
+use Rattle.image.specs.Layout.{block_count}
+use Rattle.mask.specs.Masks.{byte}
+use Rattle.mask.specs.Pairs.{blocks_in_group, is_pair_of, pair_at}
+use Rattle.mask.specs.PairSets.{top_bit}
+use Rattle.mask.proofs.PairSets.{top-tells, top-turn}
+use Rattle.mask.proofs.pairs.are_pairs_of.Given as goal
+
+-- The blocks of a turn.
+abbrev pub in_turn : ℕ
+in_turn = blocks_in_group * 2
+
+abbrev pub invariant-loop-i : goal.invariant-loop-i
+invariant-loop-i l = (l.i * in_turn ≤ block_count)
+    × (top_bit l.all ≡ one_if (all_below (l.i * in_turn) (λ b. is_pair_of (byte l.mask) (pair_at (λ j. get_or l.pairs j 0) b))))
+
+abbrev pub decreases-loop-i : goal.decreases-loop-i
+decreases-loop-i l = block_count - l.i * in_turn

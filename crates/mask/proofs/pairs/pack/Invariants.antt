@@ -1,0 +1,17 @@
+-- Group by group the bytes are those of what is packed (`pack-turn`). Assumes nothing.
+use mathlib.Core.Path.{◌≡◌, refl}
+use Prim.Native.Nat.{◌*◌, ◌-◌, ◌≤◌}
+use native.Mathlib.Nat.{not-suc-le-zero}
+use native.Mathlib.Omega.{arith}
+use lib.ListN.{get_or, length, length-set}
+use borrow.Author.Rules.{rules}
+use Rattle.image.specs.Layout.{pairs_size}
+use Rattle.mask.specs.Pairs.{group_size}
+use Rattle.mask.proofs.PairLaws.{Holds, are-packed, pack-turn, packed_byte}
+use Rattle.mask.proofs.pairs.pack.Given as goal
+
+abbrev pub invariant-loop-q : goal.invariant-loop-q
+invariant-loop-q l = (l.q * group_size ≤ pairs_size) × (length l.bytes ≡ pairs_size) × Holds (λ j v. v ≡ packed_byte (λ b. get_or l.pairs b 0) j) l.bytes (l.q * group_size)
+
+abbrev pub decreases-loop-q : goal.decreases-loop-q
+decreases-loop-q l = pairs_size - l.q * group_size

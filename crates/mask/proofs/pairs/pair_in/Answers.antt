@@ -1,0 +1,10 @@
+-- The digit at a place, by a shift (`shifted`). Assumes nothing.
+use native.Mathlib.Omega.{arith}
+use borrow.Author.Rules.{rules}
+use Rattle.mask.proofs.PairLaws.{shifted}
+use Rattle.mask.proofs.pairs.pair_in.Goals as goal
+
+pub returns : goal.returns
+returns c =
+    let a = c.args in
+    (shifted a.bits c.wide-below.result a.place c.requires c.wide-below.ensures.0, omega arith)
