@@ -1,4 +1,6 @@
 // The control part, as a struct by value: every change yields a whole new one.
+#![tactic(auto)]
+
 ghost use Rattle.std.specs.Prelude.{◌≡◌, cond, true, suc, ◌+◌, ◌-◌, ◌<◌, eqb};
 ghost use Rattle.image.specs.Layout.{card_count, tran_bound, most_active};
 ghost use Rattle.mask.specs.Masks.{bit_of, byte, no_cards, with_card, without_card};

@@ -1,4 +1,6 @@
 // The 40-bit slot by value, and the 41 bytes of a fresh block. A block's slots are read and written in place (block).
+#![tactic(auto)]
+
 ghost use Rattle.std.specs.Prelude.{◌≡◌, true, false, ◌^◌, ◌<◌};
 ghost use Rattle.std.proofs.Math.Option.{none};
 ghost use Rattle.slot.specs.Words.{

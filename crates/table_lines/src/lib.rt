@@ -1,4 +1,6 @@
 // The lines of a table by which a plant chooses the cards of blocks: lent bytes, four a line.
+#![tactic(auto)]
+
 ghost use Rattle.std.specs.Prelude.{◌≡◌, true, cond, ◌||◌, ◌+◌, ◌*◌, ◌<◌, eqb, ltb};
 ghost use Rattle.lists.specs.Tests.{all_below, one_if};
 ghost use Rattle.image.specs.Layout.{card_count};

@@ -1,0 +1,8 @@
+-- An entry that is present is its value. Assumes nothing.
+use mathlib.Core.Path.{sym}
+use borrow.Author.Rules.{rules}
+use Rattle.slot.proofs.Words.{plain-some}
+use Rattle.slot.proofs.Entry.plain.Goals as goal
+
+pub returns-then-self : goal.returns-then-self
+returns-then-self c = sym (plain-some _ c.if-self.true)

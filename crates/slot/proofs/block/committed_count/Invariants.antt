@@ -1,0 +1,16 @@
+-- The loop counts the slots below i. Assumes nothing.
+use mathlib.Core.Path.{◌≡◌, refl, ap, ◌∙◌}
+use Prim.Native.Nat.{ℕ, ◌≤◌, ◌<◌, ◌-◌, ◌+◌}
+use native.Mathlib.Omega.{arith}
+use borrow.Author.Rules.{rules}
+use Rattle.lists.specs.Tests.{count_below, one_if}
+use Rattle.lists.proofs.Counts.{count-more}
+use Rattle.image.specs.Layout.{slot_count}
+use Rattle.slot.specs.Blocks.{committed_count, is_committed, of_list}
+use Rattle.slot.proofs.block.committed_count.Given as goal
+
+abbrev pub invariant-loop-i : goal.invariant-loop-i
+invariant-loop-i l = (l.i ≤ slot_count) × (l.n ≤ l.i) × (l.n ≡ count_below l.i (is_committed (of_list l.block)))
+
+abbrev pub decreases-loop-i : goal.decreases-loop-i
+decreases-loop-i l = slot_count - l.i

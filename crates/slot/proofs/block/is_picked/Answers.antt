@@ -1,0 +1,23 @@
+-- The bit that the byte chooses in 32 is the bit of the lock in the set. Assumes nothing.
+use Prim.Native.Nat.{◌+◌, ◌*◌}
+use native.Mathlib.Omega.{arith}
+use Rattle.image.specs.Layout.{slot_size}
+use Rattle.slot.proofs.Locks.{picked-of-list}
+use borrow.Author.Rules.{rules}
+use Rattle.slot.proofs.block.is_picked.Goals as goal
+
+pub overflow_cast-result-2 : goal.overflow_cast-result-2
+overflow_cast-result-2 c =
+    let i = c.args.i in
+    omega (arith, c.shared_slice_known-1.given (3 + i * slot_size))
+
+pub overflow_shr-result : goal.overflow_shr-result
+overflow_shr-result c =
+    let i = c.args.i in
+    omega (arith, c.shared_slice_known-1.given (3 + i * slot_size))
+
+pub returns : goal.returns
+returns c =
+    let a = c.args in
+    let i = a.i in
+    picked-of-list a.block.now i a.set (omega arith) (omega arith) (omega (arith, c.shared_slice_known-1.given (3 + i * slot_size)))

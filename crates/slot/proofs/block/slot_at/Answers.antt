@@ -1,0 +1,6 @@
+-- The five bytes, as one number, show the slot. Assumes nothing.
+use borrow.Author.Rules.{rules}
+use Rattle.slot.proofs.block.slot_at.Goals as goal
+
+pub returns : goal.returns
+returns c = cc

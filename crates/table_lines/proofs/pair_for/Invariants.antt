@@ -1,0 +1,18 @@
+-- The pair is that of the last of the first i lines that has the block. Assumes nothing.
+use mathlib.Core.Bool.{cond}
+use mathlib.Core.Path.{◌∙◌, ◌≡◌, ap, ap₂, refl, sym}
+use Prim.Native.Nat.{ℕ, ◌+◌, ◌*◌, ◌-◌, ◌<◌, ◌≤◌}
+use native.Mathlib.Omega.{arith}
+use borrow.Author.Rules.{rules}
+use Rattle.image.specs.Layout.{card_count}
+use Rattle.mask.specs.Pairs.{pair_bound}
+use Rattle.table_lines.specs.Lines.{Line, has_block, line_count, pair_by}
+use Rattle.table_lines.specs.Meant.{meant}
+use Rattle.table_lines.proofs.Lines.{line-cards, pair-more}
+use Rattle.table_lines.proofs.pair_for.Given as goal
+
+abbrev pub invariant-loop-i : goal.invariant-loop-i
+invariant-loop-i l = (l.i ≤ l.count) × (l.pair < pair_bound) × (l.pair ≡ pair_by l.lines l.block.0 l.i)
+
+abbrev pub decreases-loop-i : goal.decreases-loop-i
+decreases-loop-i l = l.count - l.i
