@@ -1,4 +1,6 @@
 // The control form, a clause a function, and the reader that checks it.
+#![tactic(auto)]
+
 ghost use Rattle.std.specs.Prelude.{◌≡◌, true, false, ◌+◌, ◌≤◌, ◌<◌, ℕ, length, get_or};
 ghost use Rattle.lists.specs.Tests.{all_below};
 ghost use Rattle.image.specs.Layout.{control_size, most_active, tail_size};

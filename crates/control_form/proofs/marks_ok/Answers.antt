@@ -8,8 +8,7 @@ use lib.Dec.{eqb}
 use Rattle.control.specs.Meaning.{free_marks}
 use Rattle.control_form.specs.Reading.{marks_ok}
 use borrow.Author.Rules.{rules}
-use Rattle.control_form.proofs.marks_ok.Statement.{statement}
-use Rattle.control_form.proofs.marks_ok.Tie as tie
+use Rattle.control_form.proofs.marks_ok.Goals as goal
 
 marks-fail : {r : ℕ} (m n : ℕ) → r ≡ free_marks n → (bit_and m r ≡ 0 → ⊥) → eqb (bit_and m (free_marks n)) 0 ≡ false
 marks-fail m n e h = rw (sym e) (ne_eqb _ 0 h)
@@ -17,20 +16,14 @@ marks-fail m n e h = rw (sym e) (ne_eqb _ 0 h)
 marks-hold : {r : ℕ} (m n : ℕ) → r ≡ free_marks n → bit_and m r ≡ 0 → eqb (bit_and m (free_marks n)) 0 ≡ true
 marks-hold m n e h = rw (sym e) (eq-eqb _ 0 h)
 
-free-marks-requires : tie.Need-free-marks-requires
-free-marks-requires c κs = search rules
+pub returns-then-marks-free_marks-ne0 : goal.returns-then-marks-free_marks-ne0
+unfolding marks_ok
+returns-then-marks-free_marks-ne0 c =
+    let a = c.args in
+    rw (marks-fail a.marks a.count c.free_marks.ensures c.if-marks-free_marks-ne0.true)
 
-returns : tie.Need-returns
+pub returns : goal.returns
 unfolding marks_ok
 returns c =
-    let a = c.before.before.args in
-    rw (marks-fail a.marks a.count c.before.free-marks.ensures c.if1.true)
-
-returns-2 : tie.Need-returns-2
-unfolding marks_ok
-returns-2 c =
-    let a = c.before.before.args in
-    rw (marks-hold a.marks a.count c.before.free-marks.ensures c.if1.false)
-
-pub marks-ok-spec : {M : Type 1} → statement M
-marks-ok-spec = tie.close (tie.spec free-marks-requires returns returns-2)
+    let a = c.args in
+    rw (marks-hold a.marks a.count c.free_marks.ensures c.if-marks-free_marks-ne0.false)

@@ -1,0 +1,8 @@
+-- The last word, but for its first two bytes, as a number. Assumes nothing.
+use Rattle.control_form.proofs.Zeros.{tail-by}
+use borrow.Author.Rules.{rules}
+use Rattle.control_form.proofs.tail_ok.Goals as goal
+
+pub returns : goal.returns
+returns c =
+    tail-by c.args.s.now (λ n. (c.shared_slice_known-1.given n).fits) c.word.result c.word.ensures
