@@ -1,4 +1,6 @@
 // The calls and the answers of the store as values; what a call promises stands in specs/Promise.antt.
+#![tactic(auto)]
+
 pub mod rows;
 
 use image::{Block, Card, Rec, Tran};

@@ -1,4 +1,6 @@
 // Work on the tables of an image that commit, rollback and fail share: transactions end in all held blocks.
+#![tactic(auto)]
+
 ghost use Rattle.std.specs.Prelude.{◌≡◌, cond, ◌-◌, ◌^◌, ◌<◌, eqb, get_or, length};
 ghost use Rattle.lists.specs.Segments.{within};
 ghost use Rattle.image.specs.Layout.{card_count, table_size, table_start, tran_bound};

@@ -1,5 +1,7 @@
 // The trail of a block: the sites of all active placements, oldest first, and the holders on it. Beside it the cards
 // that hold a block, on its trail or not.
+#![tactic(auto)]
+
 ghost use Rattle.std.specs.Prelude.{◌≡◌, List, ◌++◌, ◌∷◌, [], ◌+◌, ◌<◌, ℕ, get_or};
 ghost use Rattle.image.specs.Layout.{block_count, card_count, most_active};
 ghost use Rattle.image.specs.Parts.{Whole};

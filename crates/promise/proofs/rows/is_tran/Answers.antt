@@ -6,22 +6,15 @@ use lib.Dec.{leb, ltb}
 use mathlib.Core.Path.{◌≡◌}
 use native.Mathlib.Omega.{arith}
 use Rattle.lists.proofs.Bools.{same_test}
-use Rattle.promise.proofs.rows.is_tran.Statement.{statement}
-use Rattle.promise.proofs.rows.is_tran.Tie as tie
+use Rattle.promise.proofs.rows.is_tran.Goals as goal
 
 up_to : (t : ℕ) → leb t 15 ≡ ltb t 16
 up_to t = same_test (leb t 15) (ltb t 16)
     (λ e. let h : t ≤ 15 = leb-true t 15 e in lt-ltb t 16 (omega arith))
     (λ e. let h : t < 16 = ltb-true t 16 e in le-leb t 15 (omega arith))
 
-returns : tie.Need-returns
-returns c = rw (le-ltb 0 c.before.before.args.tran.0 (omega arith))
+pub returns-then-tran-eq0 : goal.returns-then-tran-eq0
+returns-then-tran-eq0 c = rw (le-ltb 0 c.args.tran.0 (omega arith))
 
-cast-result : tie.Need-overflow-cast-result
-cast-result c = search rules
-
-returns-2 : tie.Need-returns-2
-returns-2 c = rw (lt-ltb 0 c.before.before.before.args.tran.0 (omega arith)) (up_to c.before.before.before.args.tran.0)
-
-pub is-tran-spec : {M : Type 1} → statement M
-is-tran-spec = tie.close (tie.spec returns cast-result returns-2)
+pub returns : goal.returns
+returns c = rw (lt-ltb 0 c.args.tran.0 (omega arith)) (up_to c.args.tran.0)

@@ -1,0 +1,8 @@
+-- With every, the set of what was begun is the set of what is open. Assumes nothing.
+use borrow.Author.Rules.{rules}
+use Rattle.control.specs.Meaning.{meaning}
+use Rattle.tables.proofs.all_open.Goals as goal
+
+pub returns : goal.returns
+unfolding meaning
+returns c = c.begun_set.ensures

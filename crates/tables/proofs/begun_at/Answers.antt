@@ -1,0 +1,8 @@
+-- The bytes of the homes mean what the control part says. Assumes nothing.
+use borrow.Author.Rules.{rules}
+use Rattle.control.specs.Meaning.{meaning}
+use Rattle.tables.proofs.begun_at.Goals as goal
+
+pub returns : goal.returns
+unfolding meaning
+returns c = c.begun_set.ensures

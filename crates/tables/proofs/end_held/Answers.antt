@@ -1,0 +1,47 @@
+-- The cards below c have their tables ended; with an empty set nothing is picked. Assumes nothing.
+use Prim.Native.Nat.{◌-◌, ◌≤◌, ℕ}
+use borrow.Author.Rules.{rules}
+use lib.ListN.{length}
+use mathlib.Core.Bool.{Bool}
+use mathlib.Core.List.{List}
+use mathlib.Core.Path.{◌∙◌, ◌≡◌, ap, refl, sym}
+use native.Mathlib.Omega.{arith}
+use Rattle.lists.specs.Segments.{within}
+use Rattle.lists.proofs.Each.{each_more, each_none}
+use Rattle.image.specs.Layout.{card_count, control_size, table_size, table_start}
+use Rattle.mask.specs.Masks.{byte}
+use Rattle.slot.specs.Blocks.{in_set}
+use Rattle.tables.specs.Tables.{ended_on}
+use Rattle.tables.proofs.Ends.{all-ended, card_wise, none-ended, up_to}
+use Rattle.tables.proofs.end_held.Goals as goal
+
+pub returns-then-set-eq0 : goal.returns-then-set-eq0
+returns-then-set-eq0 c =
+    let a = c.args in
+    none-ended (byte a.working) a.take a.set a.image.now (search rules) c.if-set-eq0.true
+
+pub loop-c-init : goal.loop-c-init
+loop-c-init c =
+    let a = c.args in
+    (omega arith, refl, sym (each_none (card_wise (byte a.working) a.take (in_set a.set)) control_size table_size a.image.now))
+
+pub loop-c-preserved : goal.loop-c-preserved
+loop-c-preserved c =
+    let l = c.loop-c in
+    let a = c.args in
+    let f = card_wise (byte a.working) a.take (in_set a.set) in (
+      omega arith,
+      search rules,
+      c.end_card.ensures
+          ∙ ap (λ (on : Bool). within l.image (table_start l.c) table_size (ended_on on a.take (in_set a.set))) c.has-on.ensures
+          ∙ ap (λ (g : List ℕ). within g (table_start l.c) table_size (f l.c)) l.invariant.2
+          ∙ each_more f control_size table_size l.c a.image.now,
+    )
+
+pub returns : goal.returns
+returns c =
+    let l = c.loop-c in
+    let a = c.args in
+    let e : l.c ≡ card_count = omega arith in
+    l.invariant.2 ∙ ap (λ (n : ℕ). up_to (byte a.working) a.take (in_set a.set) n a.image.now) e
+    ∙ all-ended (byte a.working) a.take (in_set a.set) a.image.now (search rules)

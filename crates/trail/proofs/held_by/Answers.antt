@@ -1,0 +1,28 @@
+-- The cards before c that hold the block have been found. Assumes nothing.
+use Prim.Native.Nat.{◌-◌, ◌≤◌}
+use borrow.Author.Rules.{rules}
+use lib.Dec.{ltb}
+use mathlib.Core.Bool.{◌&&◌}
+use native.Mathlib.Omega.{arith}
+use Rattle.image.specs.Layout.{card_count}
+use Rattle.mask.specs.Masks.{AreMembers, byte}
+use Rattle.mask.proofs.Masks.{card-more, none_below}
+use Rattle.trail.specs.Trail.{holds_at}
+use Rattle.trail.proofs.Holding.{all_held}
+use Rattle.trail.proofs.held_by.Goals as goal
+
+pub loop-c-init : goal.loop-c-init
+loop-c-init c = (omega arith, none_below (holds_at c.args.image.now (byte c.args.working) c.args.block.0))
+
+pub loop-c-preserved : goal.loop-c-preserved
+loop-c-preserved c =
+    let a = c.args in (
+      omega arith,
+      card-more (holds_at a.image.now (byte a.working) a.block.0) c.loop-c.held c.with_if-held.result c.loop-c.c (omega arith) c.loop-c.invariant.1
+          c.holds-on.result c.holds-on.ensures c.with_if-held.ensures,
+    )
+
+pub returns : goal.returns
+returns c =
+    let a = c.args in
+    all_held a.image.now (byte a.working) a.block.0 c.loop-c.held c.loop-c.c (omega arith) c.loop-c.invariant.1

@@ -1,0 +1,25 @@
+-- The cards before c that hold each of the two blocks have been found. Assumes nothing.
+use Prim.Native.Nat.{◌+◌, ◌-◌, ◌≤◌, ℕ}
+use borrow.Author.Rules.{rules}
+use lib.Dec.{ltb}
+use mathlib.Core.Bool.{Bool, ◌&&◌}
+use mathlib.Core.Path.{refl}
+use native.Mathlib.Omega.{arith}
+use Rattle.image.specs.Layout.{card_count}
+use Rattle.mask.specs.Masks.{AreMembers, byte}
+use Rattle.mask.proofs.Masks.{card-more, none_below}
+use Rattle.cabinet_rules.specs.Images.{Image}
+use Rattle.trail.specs.Trail.{holds_at}
+use Rattle.trail.proofs.Holding.{all_held}
+use Rattle.trail.proofs.held_by_two.Given as goal
+
+-- The cards below c that hold block b.
+abbrev pub below : Image → ℕ → ℕ → ℕ → ℕ → Bool
+below g working b c x = ltb x c && holds_at g (byte working) b x
+
+abbrev pub invariant-loop-c : goal.invariant-loop-c
+invariant-loop-c l = (l.c ≤ card_count) × AreMembers l.held.first (below l.image l.working l.block.0 l.c)
+    × AreMembers l.held.second (below l.image l.working (l.block.0 + 1) l.c)
+
+abbrev pub decreases-loop-c : goal.decreases-loop-c
+decreases-loop-c l = card_count - l.c

@@ -1,0 +1,18 @@
+-- The card stands at the end of the list where it holds the block. Assumes nothing.
+use mathlib.Core.Path.{◌∙◌, sym}
+use borrow.Author.Rules.{rules}
+use Rattle.mask.specs.Masks.{byte}
+use Rattle.trail.specs.Trail.{holds_at}
+use Rattle.trail.proofs.Listed.{push-no, push-yes}
+use Rattle.trail.proofs.push.Goals as goal
+
+pub returns-then-holds : goal.returns-then-holds
+returns-then-holds c =
+    let a = c.args in
+    push-yes (holds_at a.image.now (byte a.working) a.block.0) a.card.0 _ c.requires.1 (sym c.holds.ensures ∙ c.if-holds.true)
+    c.first_of.ensures c.with_card.ensures
+
+pub returns : goal.returns
+returns c =
+    let a = c.args in
+    push-no (holds_at a.image.now (byte a.working) a.block.0) a.card.0 (sym c.holds.ensures ∙ c.if-holds.false)

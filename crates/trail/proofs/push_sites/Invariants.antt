@@ -1,0 +1,20 @@
+-- After n turns the first n sites are added where they hold the block. Assumes nothing.
+use mathlib.Core.Bool.{Bool}
+use mathlib.Core.List.{List}
+use mathlib.Core.Path.{◌∙◌, ◌≡◌, ap, subst, sym}
+use Prim.Native.Nat.{ℕ, ◌-◌, ◌≤◌}
+use native.Mathlib.Omega.{arith}
+use lib.ListN.{get_or, length, take}
+use borrow.Author.Rules.{rules}
+use Rattle.mask.specs.Masks.{byte}
+use Rattle.mask.specs.Placements.{site_list}
+use Rattle.mask.proofs.SiteLaws.{listed_at, listed-card, site-count}
+use Rattle.trail.specs.Trail.{Adds, holds_at, shown_at}
+use Rattle.trail.proofs.Listed.{add-all, add-more, add_none}
+use Rattle.trail.proofs.push_sites.Given as goal
+
+abbrev pub invariant-loop-n : goal.invariant-loop-n
+invariant-loop-n l = (l.n ≤ l.count) × Adds l.initial.all (holds_at l.image (byte l.working) l.block.0) (take l.n (site_list l.sites)) l.all
+
+abbrev pub decreases-loop-n : goal.decreases-loop-n
+decreases-loop-n l = l.count - l.n
