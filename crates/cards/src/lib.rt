@@ -1,4 +1,6 @@
 // start, fit, withdraw and place: which cards there are and which of them the records are placed on.
+#![tactic(auto)]
+
 ghost use Rattle.std.specs.Prelude.{◌≡◌, ◌<◌};
 ghost use Rattle.lists.specs.Tests.{any_below};
 ghost use Rattle.image.specs.Layout.{card_count, tran_bound};

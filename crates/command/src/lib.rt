@@ -1,4 +1,6 @@
 // Commands: the five bytes that ask for a call, read and written, and the call that performs them.
+#![tactic(auto)]
+
 ghost use Rattle.std.specs.Prelude.{◌≡◌, false, true, length};
 ghost use Rattle.command.specs.Commands.{
   call_at,

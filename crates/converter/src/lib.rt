@@ -1,4 +1,6 @@
 // The converters of images from before requests A.6 and A.7, each to the length of the request that follows.
+#![tactic(auto)]
+
 ghost use Rattle.std.specs.Prelude.{◌≡◌, true, ◌≤◌, ◌<◌, ℕ, get_or, length};
 ghost use Rattle.lists.specs.Tabulate.{tabulate};
 ghost use Rattle.lists.specs.Tests.{all_below};

@@ -1,4 +1,6 @@
 // fail: a card is lost, and the store goes on without it or stops; one that has stopped marks it.
+#![tactic(auto)]
+
 ghost use Rattle.std.specs.Prelude.{false, ◌≡◌};
 ghost use Rattle.image.specs.Parts.{Whole};
 ghost use Rattle.method.specs.Rules.{stopping};

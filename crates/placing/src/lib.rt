@@ -1,4 +1,6 @@
 // place by table: the plant's lines say which two cards each block lies on.
+#![tactic(auto)]
+
 ghost use Rattle.std.specs.Prelude.{◌≡◌, true, ◌<◌};
 ghost use Rattle.image.specs.Layout.{most_active};
 ghost use Rattle.table_lines.specs.Lines.{are_lines};

@@ -1,4 +1,6 @@
 // get, store and delete: the calls on one record.
+#![tactic(auto)]
+
 ghost use Rattle.promise.specs.Promise.{Done, asked};
 ghost use Rattle.promise.specs.declared.Call.{Call};
 

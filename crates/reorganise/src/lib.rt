@@ -1,4 +1,6 @@
 // The calls that reorganise the store: move and settle.
+#![tactic(auto)]
+
 ghost use Rattle.promise.specs.Promise.{Done, asked};
 ghost use Rattle.promise.specs.declared.Call.{Call};
 

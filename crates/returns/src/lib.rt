@@ -1,4 +1,6 @@
 // The return of a failed card to a stopped store, with its table as it is.
+#![tactic(auto)]
+
 ghost use Rattle.std.specs.Prelude.{◌≡◌, ◌<◌};
 ghost use Rattle.image.specs.Layout.{card_count};
 ghost use Rattle.method.specs.Returning.{can_run};

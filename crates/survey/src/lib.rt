@@ -1,4 +1,6 @@
 // The calls that tell how the store stands and change nothing: state and load.
+#![tactic(auto)]
+
 ghost use Rattle.promise.specs.Promise.{Done, asked};
 ghost use Rattle.promise.specs.declared.Call.{Call};
 

@@ -1,4 +1,6 @@
 // begin, commit and rollback: a transaction opens, and ends in all held blocks.
+#![tactic(auto)]
+
 ghost use Rattle.std.specs.Prelude.{◌≡◌, ◌<◌, eqb};
 ghost use Rattle.image.specs.Layout.{tran_bound};
 ghost use Rattle.image.specs.Parts.{Whole};

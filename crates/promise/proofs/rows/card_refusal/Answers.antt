@@ -19,8 +19,8 @@ returns-then-k c = rw (lt-ltb _ card_count c.if-card-ge-MOST_CARDS.false, c.if-k
 
 pub returns-then-not-has : goal.returns-then-not-has
 unfolding card_rows meaning
-returns-then-not-has c = rw (lt-ltb _ card_count c.if-card-ge-MOST_CARDS.false, c.if-k.false, sym c.has.ensures ∙ not-true _ (ap not c.if-not-has.true))
+returns-then-not-has c = rw (lt-ltb _ card_count c.if-card-ge-MOST_CARDS.false, c.if-k.false, sym c.has.ensures ∙ c.if-not-has.true)
 
 pub returns : goal.returns
 unfolding card_rows meaning
-returns c = rw (lt-ltb _ card_count c.if-card-ge-MOST_CARDS.false, c.if-k.false, sym c.has.ensures ∙ not-false _ (ap not c.if-not-has.false))
+returns c = rw (lt-ltb _ card_count c.if-card-ge-MOST_CARDS.false, c.if-k.false, sym c.has.ensures ∙ c.if-not-has.false)

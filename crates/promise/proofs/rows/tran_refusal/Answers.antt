@@ -13,23 +13,23 @@ use Rattle.promise.proofs.rows.tran_refusal.Goals as goal
 
 pub returns-then-not-is_tran : goal.returns-then-not-is_tran
 unfolding tran_rows
-returns-then-not-is_tran c = rw (sym c.is_tran.ensures ∙ not-true _ (ap not c.if-not-is_tran.true))
+returns-then-not-is_tran c = rw (sym c.is_tran.ensures ∙ c.if-not-is_tran.true)
 
 pub returns-then-k : goal.returns-then-k
 unfolding tran_rows meaning
 returns-then-k c =
-    rw (sym c.is_tran.ensures ∙ not-false _ (ap not c.if-not-is_tran.false), c.if-k.true)
+    rw (sym c.is_tran.ensures ∙ c.if-not-is_tran.false, c.if-k.true)
 
 pub is_open_at-requires : goal.is_open_at-requires
 is_open_at-requires c =
-    record { control_size_in_bounds = omega (arith, given-whole c.requires); tran_nonzero = tran-range _ (sym c.is_tran.ensures ∙ not-false _ (ap not c.if-not-is_tran.false)) }
+    record { control_size_in_bounds = omega (arith, given-whole c.requires); tran_nonzero = tran-range _ (sym c.is_tran.ensures ∙ c.if-not-is_tran.false) }
 
 pub returns-then-not-is_open_at : goal.returns-then-not-is_open_at
 unfolding tran_rows meaning
 returns-then-not-is_open_at c =
     rw (
-      open-given c.requires _ ∙ sym c.is_open_at.ensures ∙ not-true _ (ap not c.if-not-is_open_at.true),
-      sym c.is_tran.ensures ∙ not-false _ (ap not c.if-not-is_tran.false),
+      open-given c.requires _ ∙ sym c.is_open_at.ensures ∙ c.if-not-is_open_at.true,
+      sym c.is_tran.ensures ∙ c.if-not-is_tran.false,
       c.if-k.false,
     )
 
@@ -37,7 +37,7 @@ pub returns : goal.returns
 unfolding tran_rows meaning
 returns c =
     rw (
-      open-given c.requires _ ∙ sym c.is_open_at.ensures ∙ not-false _ (ap not c.if-not-is_open_at.false),
-      sym c.is_tran.ensures ∙ not-false _ (ap not c.if-not-is_tran.false),
+      open-given c.requires _ ∙ sym c.is_open_at.ensures ∙ c.if-not-is_open_at.false,
+      sym c.is_tran.ensures ∙ c.if-not-is_tran.false,
       c.if-k.false,
     )

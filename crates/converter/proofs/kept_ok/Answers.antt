@@ -1,0 +1,31 @@
+-- By the mark of the placement: its pairs, or zero bytes, in the part that is lent. Assumes nothing.
+use mathlib.Core.Path.{◌≡◌, ◌∙◌, sym}
+use Prim.Native.Nat.{ℕ, ◌*◌, ◌+◌, ◌-◌}
+use native.Mathlib.Omega.{arith}
+use lib.ListN.{get_or}
+use Rattle.image.specs.Layout.{pairs_size}
+use Rattle.mask.specs.Masks.{byte}
+use Rattle.control.specs.ControlBytes.{marks_at, masks_at}
+use Rattle.control_form.proofs.Kept.{kept-bare, kept_table, part-pairs, part-zero, table-clear, table-set}
+use borrow.Author.Rules.{rules}
+use Rattle.converter.proofs.kept_ok.Goals as goal
+
+-- How long the part is.
+size : (a : ℕ) → a + pairs_size - a ≡ pairs_size
+size a = omega arith
+
+pub returns-then-front-mark-ne0 : goal.returns-then-front-mark-ne0
+returns-then-front-mark-ne0 c =
+    let l = c.args.front.now in
+    let i = c.args.i in
+    c.pairs_ok.ensures ∙ part-pairs c.args.tail.now i (i * pairs_size + pairs_size - i * pairs_size) (byte (get_or l (masks_at + i) 0)) (size (i * pairs_size))
+    ∙ sym (kept_table l (λ n. get_or c.args.tail.now n 0) i
+    (table-set (get_or l marks_at 0) i (c.shared_slice_known-3-1.given marks_at).fits c.requires.2 c.if-front-mark-ne0.true))
+
+pub returns : goal.returns
+returns c =
+    let l = c.args.front.now in
+    let i = c.args.i in
+    c.all_zero.ensures ∙ part-zero c.args.tail.now (i * pairs_size) (i * pairs_size + pairs_size - i * pairs_size) pairs_size (size (i * pairs_size)) (omega (arith, c.requires))
+    ∙ sym (kept-bare l (λ n. get_or c.args.tail.now n 0) i
+    (table-clear (get_or l marks_at 0) i (c.shared_slice_known-3-1.given marks_at).fits c.requires.2 c.if-front-mark-ne0.false))

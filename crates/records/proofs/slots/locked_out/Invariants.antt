@@ -1,0 +1,19 @@
+-- The members that are taken off have no such slot, so some member of the mask has one
+-- exactly where one that is left has. Assumes nothing.
+use mathlib.Core.Path.{◌∙◌, ◌≡◌, ap, refl, sym}
+use Prim.Native.Nat.{◌<◌}
+use lib.ListN.{length}
+use borrow.Author.Rules.{rules}
+use Rattle.lists.specs.Tests.{any_in}
+use Rattle.mask.specs.Masks.{byte, members}
+use Rattle.mask.proofs.FirstMember.{no-members, one_fewer, some-members}
+use Rattle.records.specs.Slots.{locked_at}
+use Rattle.records.proofs.Reading.{any-hit, any-miss, locked-out-is}
+use Rattle.records.proofs.slots.locked_out.Given as goal
+
+abbrev pub invariant-loop-left : goal.invariant-loop-left
+invariant-loop-left l =
+    (l.left < 256) × (any_in (locked_at l.image l.tran.0 l.rec.0) (members (byte l.left)) ≡ any_in (locked_at l.image l.tran.0 l.rec.0) (members (byte l.initial.left)))
+
+abbrev pub decreases-loop-left : goal.decreases-loop-left
+decreases-loop-left l = length (members (byte l.left))
