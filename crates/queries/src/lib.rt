@@ -1,5 +1,7 @@
 // Questions about the store that are none of its calls: they change nothing. Those of the control part are answered of a
 // stopped store too.
+#![tactic(auto)]
+
 ghost use Rattle.std.specs.Prelude.{◌≡◌};
 ghost use Rattle.control.specs.Meaning.{Counted, meaning};
 ghost use Rattle.queries.specs.declared.Query.TheVariants.{Home, Placement as Query-as-Placement};

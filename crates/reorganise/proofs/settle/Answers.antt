@@ -52,4 +52,4 @@ returns c =
     let is = given c.read-found.ensures c.if-found-ne0.false in
     by_whole settle refl g is.formed (Retired (k.count - 1)) (only_newest (control_in g)) _
     (sym c.if-refusal-ne0.false ∙ c.refusal-refusal.ensures) (settle-plan k g is)
-    (c.write.ensures ∙ ap₂ put_control c.retire_pairs.ensures (c.retire.ensures.means ∙ ap (λ (p : Part). only_newest c) is.is.means))
+    (c.write.ensures ∙ ap₂ put_control c.retire_pairs.ensures (c.retire.ensures.means ∙ ap (λ (p : Part). only_newest p) is.is.means))

@@ -1,0 +1,17 @@
+-- The transactions below t are open. Assumes nothing.
+use Prim.Native.Nat.{◌-◌, ◌<◌, ◌≤◌}
+use borrow.Author.Rules.{rules}
+use borrow.Author.Tests.{not-false, not-true}
+use mathlib.Core.Path.{◌∙◌, ◌≡◌, sym}
+use native.Mathlib.Omega.{arith}
+use Rattle.image.specs.Layout.{tran_bound}
+use Rattle.control.specs.Meaning.{meaning}
+use Rattle.queries.specs.Queries.{free_from, free_in}
+use Rattle.queries.proofs.Telling.{free-first, free-found, free-none, free-passed}
+use Rattle.queries.proofs.free_transaction.Given as goal
+
+abbrev pub invariant-loop-t : goal.invariant-loop-t
+invariant-loop-t l = (1 ≤ l.t) × (l.t ≤ tran_bound) × (free_in (meaning l.k) ≡ free_from (meaning l.k) l.t (tran_bound - l.t))
+
+abbrev pub decreases-loop-t : goal.decreases-loop-t
+decreases-loop-t l = tran_bound - l.t
