@@ -1,5 +1,7 @@
 // The moves that let settle succeed, for the service tablet (request A.3): what is found of them in one pass over
 // the card tables, the n-th of them, and their number.
+#![tactic(auto)]
+
 ghost use Rattle.std.specs.Prelude.{◌≡◌};
 ghost use Rattle.move_list.specs.Plans.{Plans, plan_answer, move_at, moves_in, stored_by};
 ghost use Rattle.move_list.specs.Promise.{blank_list};
