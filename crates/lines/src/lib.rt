@@ -1,4 +1,6 @@
 // One line of the listing: its number, the digits of its command, and the answer in words.
+#![tactic(auto)]
+
 mod text;
 
 ghost use Rattle.std.specs.Prelude.{◌+◌, ◌≤◌, ◌++◌, ◌≡◌, length};

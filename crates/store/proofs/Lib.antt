@@ -4,6 +4,5 @@ mod MoveRuns
 pub mod MoveList
 pub mod NoMoves
 mod MoveRows
-mod LocalArray
 pub mod ThroughStops
 pub mod Twins

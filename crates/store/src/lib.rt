@@ -1,6 +1,8 @@
 // The store: the calls on a lent image of any length and contents, one entry that runs any of the fifteen that have a
 // command, one that runs the bytes of a command, one that returns a card, and two that make an older image longer. Each
 // promises that its answer and what it leaves are those of the rules.
+#![tactic(auto)]
+
 ghost use Rattle.command.specs.Meaning.{Obeyed};
 ghost use Rattle.method.specs.Rules.{place};
 ghost use Rattle.cabinet_rules.specs.Places.{by_lines};
