@@ -1,5 +1,7 @@
 // The moves that let settle succeed, as bytes in a buffer that the caller lends: an entry is two bytes, its card and
 // its block. For callers that have no list of entries.
+#![tactic(auto)]
+
 ghost use Rattle.std.specs.Prelude.{◌≡◌, ◌*◌, ◌+◌, ◌≤◌, length};
 ghost use Rattle.lists.specs.Segments.{splice};
 ghost use Rattle.move_list.specs.Promise.{most_moves};

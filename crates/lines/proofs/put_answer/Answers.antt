@@ -19,31 +19,31 @@ said a = words (shown a)
 
 pub put_count-requires : goal.put_count-requires
 put_count-requires c =
-    let n : ℕ = c.answer-1.given.0.0 in
+    let n : ℕ = c.in-Value.n in
     let f : Fits w16 n = search rules in
     omega (arith, length-16 n f.fits)
 
 pub put_count-requires-in-Copied : goal.put_count-requires-in-Copied
 put_count-requires-in-Copied c =
-    let n : ℕ = c.answer-in-Copied-1.given.0.0 in
+    let n : ℕ = c.in-Copied.n in
     let f : Fits w8 n = search rules in
     omega (arith, length-8 n f.fits)
 
 pub put_count-requires-in-Retired : goal.put_count-requires-in-Retired
 put_count-requires-in-Retired c =
-    let n : ℕ = c.answer-in-Retired-1.given.0.0 in
+    let n : ℕ = c.in-Retired.n in
     let f : Fits w8 n = search rules in
     omega (arith, length-8 n f.fits)
 
 pub put_count-requires-in-Loaded : goal.put_count-requires-in-Loaded
 put_count-requires-in-Loaded c =
-    let n : ℕ = c.answer-in-Loaded-1.given.0.0 in
+    let n : ℕ = c.in-Loaded.n in
     let f : Fits w16 n = search rules in
     omega (arith, length-16 n f.fits)
 
 pub put_count-requires-in-Refused : goal.put_count-requires-in-Refused
 put_count-requires-in-Refused c =
-    let n : ℕ = c.answer-in-Refused-1.given.0.0 in
+    let n : ℕ = c.in-Refused.n in
     let f : Fits w8 n = search rules in
     omega (arith, length-8 n f.fits)
 
@@ -58,7 +58,7 @@ returns-in-Ok c = (
 pub returns-in-Value : goal.returns-in-Value
 unfolding words
 returns-in-Value c =
-    let n : ℕ = c.answer-1.given.0.0 in
+    let n : ℕ = c.in-Value.n in
     let f : Fits w16 n = search rules in (
       puts-same (sym (ap said c.in-Value.is)) c.put_count.ensures,
       omega
@@ -76,7 +76,7 @@ returns-in-Absent c = (
 pub returns-in-Placed : goal.returns-in-Placed
 unfolding words
 returns-in-Placed c =
-    let f : Fits w8 c.answer-in-Placed-1.given.0.0 = search rules in (
+    let f : Fits w8 c.in-Placed.mask = search rules in (
       puts-same (placed-words _ f.fits ∙ sym (ap said c.in-Placed.is)) c.put_mask.ensures,
       omega
           (arith, c.put_mask.ensures.ends),
@@ -101,7 +101,7 @@ returns-in-Stopped c = (
 pub returns-in-Copied : goal.returns-in-Copied
 unfolding words
 returns-in-Copied c =
-    let n : ℕ = c.answer-in-Copied-1.given.0.0 in
+    let n : ℕ = c.in-Copied.n in
     let f : Fits w8 n = search rules in (
       puts-same (sym (ap said c.in-Copied.is)) c.put_count-in-Copied.ensures,
       omega
@@ -111,7 +111,7 @@ returns-in-Copied c =
 pub returns-in-Retired : goal.returns-in-Retired
 unfolding words
 returns-in-Retired c =
-    let n : ℕ = c.answer-in-Retired-1.given.0.0 in
+    let n : ℕ = c.in-Retired.n in
     let f : Fits w8 n = search rules in (
       puts-same (sym (ap said c.in-Retired.is)) c.put_count-in-Retired.ensures,
       omega
@@ -137,7 +137,7 @@ returns-in-Unprotected c = (
 pub returns-in-Loaded : goal.returns-in-Loaded
 unfolding words
 returns-in-Loaded c =
-    let n : ℕ = c.answer-in-Loaded-1.given.0.0 in
+    let n : ℕ = c.in-Loaded.n in
     let f : Fits w16 n = search rules in (
       puts-same (sym (ap said c.in-Loaded.is)) c.put_count-in-Loaded.ensures,
       omega
@@ -147,7 +147,7 @@ returns-in-Loaded c =
 pub returns-in-Refused : goal.returns-in-Refused
 unfolding words
 returns-in-Refused c =
-    let n : ℕ = c.answer-in-Refused-1.given.0.0 in
+    let n : ℕ = c.in-Refused.n in
     let f : Fits w8 n = search rules in (
       puts-same (sym (ap said c.in-Refused.is)) c.put_count-in-Refused.ensures,
       omega

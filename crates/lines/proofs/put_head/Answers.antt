@@ -20,7 +20,7 @@ pub put_byte-at-requires : goal.put_byte-at-requires
 put_byte-at-requires c =
     let f : Fits w64 c.args.number = search rules in
     let d : length (decimal c.args.number) ≤ 20 = length-64 _ f.fits in
-    omega (arith, c.requires, c.put_decimal-behind_number.ensures.ends, c.put_decimal-behind_number.auto.0)
+    omega (arith, c.requires, c.put_decimal-behind_number.ensures.ends, c.put_decimal-behind_number.auto.out)
 
 pub put_hexes-behind_digits-requires : goal.put_hexes-behind_digits-requires
 put_hexes-behind_digits-requires c =
@@ -30,9 +30,9 @@ put_hexes-behind_digits-requires c =
       arith,
       c.requires,
       c.put_decimal-behind_number.ensures.ends,
-      c.put_decimal-behind_number.auto.0,
+      c.put_decimal-behind_number.auto.out,
       c.put_byte-at.ensures.ends,
-      c.put_byte-at.auto.0,
+      c.put_byte-at.auto.out,
     )
 
 pub put_byte-requires : goal.put_byte-requires
@@ -44,11 +44,11 @@ put_byte-requires c =
       arith,
       c.requires,
       c.put_decimal-behind_number.ensures.ends,
-      c.put_decimal-behind_number.auto.0,
+      c.put_decimal-behind_number.auto.out,
       c.put_byte-at.ensures.ends,
-      c.put_byte-at.auto.0,
+      c.put_byte-at.auto.out,
       c.put_hexes-behind_digits.ensures.ends,
-      c.put_hexes-behind_digits.auto.0,
+      c.put_hexes-behind_digits.auto.out,
     )
 
 pub returns : goal.returns

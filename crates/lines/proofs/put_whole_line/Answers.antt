@@ -16,7 +16,7 @@ put_answer-behind_answer-requires c =
     let f : Fits w64 a.number = search rules in
     let h : length (line_head a.number a.command.now) ≤ 22 + 2 * length a.command.now = head-length _ _ f.fits in
     let p = c.put_head-at in
-    omega (arith, c.requires, p.ensures.ends, p.auto.0)
+    omega (arith, c.requires, p.ensures.ends, p.auto.out)
 
 pub put_byte-requires : goal.put_byte-requires
 put_byte-requires c =
@@ -25,7 +25,7 @@ put_byte-requires c =
     let h : length (line_head a.number a.command.now) ≤ 22 + 2 * length a.command.now = head-length _ _ f.fits in
     let p = c.put_head-at in
     let q = c.put_answer-behind_answer in
-    omega (arith, c.requires, p.ensures.ends, p.auto.0, q.ensures.1, q.auto.0)
+    omega (arith, c.requires, p.ensures.ends, p.auto.out, q.ensures.1, q.auto.out)
 
 pub returns : goal.returns
 unfolding line

@@ -23,7 +23,7 @@ loop-i-preserved c =
     let a = c.args in
     let p = c.put_hex-end in
     let n = hex-taken a.bytes.now l.i l.invariant.0 in
-    (omega arith, p.auto.0 ∙ l.invariant.1, p.ensures.ends ∙ omega arith, puts-same (hex-turn a.bytes.now l.i (omega arith)) (puts_then l.invariant.3 p.ensures (omega arith)))
+    (omega arith, p.auto.out ∙ l.invariant.1, p.ensures.ends ∙ omega arith, puts-same (hex-turn a.bytes.now l.i (omega arith)) (puts_then l.invariant.3 p.ensures (omega arith)))
 
 pub returns : goal.returns
 returns c =
