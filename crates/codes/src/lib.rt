@@ -1,4 +1,6 @@
 // Answers as numbers of 32 bits, for callers in other languages.
+#![tactic(auto)]
+
 ghost use Rattle.std.specs.Prelude.{◌≡◌, ◌<◌};
 ghost use Rattle.promise.specs.Promise.{shown, shown_filled};
 ghost use Rattle.move_list.specs.Promise.{shown_list};

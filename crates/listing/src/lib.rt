@@ -1,4 +1,6 @@
 // The listing: commands performed on a lent image, and a line for each in a lent buffer.
+#![tactic(auto)]
+
 ghost use Rattle.std.specs.Prelude.{◌*◌, ◌+◌, ◌-◌, ◌<◌, ◌≤◌, ◌≡◌, length};
 ghost use Rattle.lists.specs.Segments.{segment};
 ghost use Rattle.command.specs.Commands.{command_size};
