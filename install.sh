@@ -16,8 +16,8 @@ esac
 to=${DESTDIR-}$prefix
 root=$(CDPATH='' cd "$(dirname "$0")" && pwd)
 header=$root/include/nolpigat.h
-archive=$root/target/staticlib/libnolpigat.a
-[ -f "$archive" ] || fail "$archive is missing: run 'rt staticlib nolpigat' in $root"
+. "$root/tests/built.sh"
+[ -f "$archive" ] || fail "$archive is missing: run 'rt lib' in $root/crates/nolpigat"
 # The version stands in the header and nowhere else.
 version=$(sed -n 's/^#define NOLPIGAT_VERSION "\([0-9.]*\)"$/\1/p' "$header")
 [ -n "$version" ] || fail "$header has no version"

@@ -1,6 +1,9 @@
 # earlier.sh: read by before.sh and settles.sh, in the repository's folder. The archive of an earlier commit, and a
 # program that runs it beside the archive of this tree.
 
+root=$PWD
+. tests/built.sh
+
 fail() {
     echo "${0##*/}: $1" >&2
     exit 1
@@ -13,27 +16,19 @@ needs() {
     done
 }
 
-# archive_crate TREE: the crate of the archive, which earlier commits named abi.
-archive_crate() {
-    for crate in nolpigat abi; do
-        [ ! -d "$1/crates/$crate" ] || { echo "$crate" && return; }
-    done
-    return 1
-}
-
-# Proves the tree of the commit and builds its archive. The tree is removed: rt would name its files as ones that no
-# crate of this tree has.
+# Proves the tree of the commit and builds its archive, in a folder outside this tree, which is removed: rt ci refuses a
+# second crates.txt in a checkout, and files of Rattle that no crate of it has.
 build() (
     needs tar rt
-    tree=$before/tree
+    tree=$(mktemp -d) || exit 1
     trap 'rm -rf "$tree"' EXIT
     trap 'exit 1' HUP INT TERM
-    mkdir -p "$tree" &&
-        git archive --output="$tree/tree.tar" "$commit" &&
-        tar -x -C "$tree" -f "$tree/tree.tar" &&
-        crate=$(archive_crate "$tree") &&
-        (cd "$tree" && rt staticlib "$crate") >&2 &&
-        mv "$tree/target/staticlib/lib$crate.a" "$before/archive.a"
+    git archive --output="$tree/tree.tar" "$commit" && tar -x -C "$tree" -f "$tree/tree.tar" && rm "$tree/tree.tar" || exit 1
+    grep -Eq '^nolpigat +staticlib( |:)' "$tree/crates.txt" ||
+        fail "$commit is written for an older Rattle, which this rt ($(rt version)) cannot build: its crates.txt names no static library. Build its archive with the toolchain of its time, and put it at $before/archive.a"
+    root=$tree
+    . tests/built.sh
+    build_archive >&2 && mkdir -p "$before" && cp "$archive" "$before/archive.a"
 )
 
 # Makes libbefore.a, in which the functions have other names, so that both archives link into one program.
@@ -51,7 +46,7 @@ beside() {
     before=$PWD/bench/target/before/$commit
     [ -f "$before/archive.a" ] || build || fail "the archive of $commit is not built"
     rename || fail "the functions of $before/archive.a are not renamed"
-    [ -n "${NOLPIGAT_LIB_DIR-}" ] || [ -f target/staticlib/libnolpigat.a ] || rt staticlib nolpigat >&2
+    [ -n "${NOLPIGAT_LIB_DIR-}" ] || [ -f "$archive" ] || build_archive >&2
     NOLPIGAT_BEFORE_DIR=$before cargo build --release --offline --quiet -j1 --manifest-path bench/Cargo.toml \
         --features before --bin "$2"
     exec "bench/target/release/$2"

@@ -1,7 +1,8 @@
 #!/bin/sh
 # settles.sh [COMMIT]: prints a table of 10,000 settles by the archive of COMMIT ("before"), by that of this tree
 # ("after") and by the model: times, instructions of one settle, and ratios. Without valgrind the instructions are left
-# out. The first run for a commit proves its tree.
+# out. The first run for a commit proves its tree; the archive of one that is written for an older Rattle has to be at
+# bench/target/before/COMMIT/archive.a.
 set -eu
 cd "$(dirname "$0")/.."
 . bench/earlier.sh

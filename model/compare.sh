@@ -2,7 +2,7 @@
 # compare.sh [FIRST_SEED] [FILES_PER_KIND] [COMMANDS]
 # Compares the program with the model over generated files of every kind and over
 # bad inputs: shorter than a command, and noise that ends within one. Exit 1 on a
-# difference. PROGRAM names another program than target/bin/cabinet.
+# difference. PROGRAM names another program than the proved one.
 set -eu
 case ${PROGRAM-} in
 /* | '') ;;
@@ -11,7 +11,9 @@ esac
 cd "$(dirname "$0")"
 cargo build --release --offline --quiet
 if [ -z "${PROGRAM-}" ]; then
-    PROGRAM=../target/bin/cabinet
-    [ -x "$PROGRAM" ] || (cd .. && rt check cabinet)
+    root=$PWD/..
+    . ../tests/built.sh
+    PROGRAM=$cabinet
+    [ -x "$PROGRAM" ] || build_cabinet
 fi
 exec target/release/compare "$PROGRAM" all "${1:-1}" "${2:-10}" "${3:-2000}"

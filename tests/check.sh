@@ -1,7 +1,7 @@
 # check.sh: read by native.sh and packaging.sh. One line a test, and what a failed one printed.
 
 root=$(CDPATH='' cd "$(dirname "$0")/.." && pwd) || exit 1
-archive=$root/target/staticlib/libnolpigat.a
+. "$root/tests/built.sh"
 scratch=$(mktemp -d) || exit 1
 trap 'rm -rf "$scratch"' EXIT
 trap 'exit 1' HUP INT TERM
@@ -30,9 +30,5 @@ check_with() {
         echo "skipped $1: $tool is missing"
     fi
 }
-
-build_archive() (
-    cd "$root" && rt staticlib nolpigat
-)
 
 [ -f "$archive" ] || check 'archive' build_archive

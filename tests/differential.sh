@@ -6,7 +6,9 @@
 # whole path, names another folder of libnolpigat.a.
 set -eu
 cd "$(dirname "$0")/.."
-[ -n "${NOLPIGAT_LIB_DIR-}" ] || [ -f target/staticlib/libnolpigat.a ] || rt staticlib nolpigat
+root=$PWD
+. tests/built.sh
+[ -n "${NOLPIGAT_LIB_DIR-}" ] || [ -f "$archive" ] || build_archive
 cargo build --release --offline --quiet -j1 --manifest-path differential/Cargo.toml
 if [ "${1-}" = move-lists ]; then
     exec differential/target/release/differential move-lists "${2:-1}" "${3:-1000000}"

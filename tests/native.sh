@@ -1,7 +1,7 @@
 #!/bin/sh
 # Tests the header, the archive's symbols, the C examples, the recipes, the Rust wrapper and the packaging with
-# target/staticlib/libnolpigat.a, which is built if it is missing. One line a test, and what a failed one printed. Exit 1
-# on any failure. Clang, cmake and pkg-config are used if present; the rest is needed.
+# libnolpigat.a, which is built if it is missing. One line a test, and what a failed one printed. Exit 1 on any failure.
+# Clang, cmake and pkg-config are used if present; the rest is needed.
 set -u
 . "$(dirname "$0")/check.sh"
 program=$scratch/program

@@ -1,4 +1,4 @@
-//! Links libnolpigat.a: from the repository's target/staticlib, or the folder that NOLPIGAT_LIB_DIR names.
+//! Links libnolpigat.a: from the repository's crates/nolpigat/out, or the folder that NOLPIGAT_LIB_DIR names.
 
 use std::path::{Path, PathBuf};
 use std::{env, process};
@@ -27,8 +27,8 @@ fn named(folder: PathBuf) -> PathBuf {
 fn main() {
     println!("cargo:rerun-if-env-changed={VARIABLE}");
     let given = env::var_os(VARIABLE).filter(|value| !value.is_empty()).map(PathBuf::from);
-    let folder =
-        given.clone().map_or_else(|| Path::new(env!("CARGO_MANIFEST_DIR")).join("../../target/staticlib"), named);
+    let crate_folder = Path::new(env!("CARGO_MANIFEST_DIR")).join("../../crates/nolpigat");
+    let folder = given.clone().map_or_else(|| crate_folder.join("out"), named);
     let archive = folder.join(ARCHIVE);
     println!("cargo:rerun-if-changed={}", archive.display());
     if !archive.is_file() {
@@ -40,9 +40,9 @@ fn main() {
                 value.display()
             ),
             None => format!(
-                "{} is missing: run `rt staticlib nolpigat` in the repository, or set {VARIABLE} to the folder of \
-                 {ARCHIVE}",
-                archive.display()
+                "{} is missing: run `rt lib` in {}, or set {VARIABLE} to the folder of {ARCHIVE}",
+                archive.display(),
+                crate_folder.display()
             ),
         });
     }
