@@ -1,6 +1,8 @@
 // The store for callers in other languages: its calls, a command's bytes, the move list, the converters of older images,
 // questions that are no calls, and commands by their fields. An image is lent as a pointer and a length. An answer is one
 // number of 32 bits.
+#![tactic(auto)]
+
 ghost use Rattle.std.specs.Prelude.{◌≡◌};
 ghost use Rattle.method.specs.Rules.{begin, commit, delete, fail, fit, get, load, move, place, rollback, settle};
 ghost use Rattle.method.specs.Rules.{start, state, store, withdraw};

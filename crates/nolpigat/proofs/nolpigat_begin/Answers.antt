@@ -1,0 +1,7 @@
+-- `nolpigat_begin` meets its contract: the store's answer, coded. Assumes nothing.
+use Rattle.codes.proofs.Codes.{coded-done}
+use borrow.Author.Rules.{rules}
+use Rattle.nolpigat.proofs.nolpigat_begin.Goals as goal
+
+pub returns : goal.returns
+returns c = coded-done c.begin.ensures c.code.ensures

@@ -1,0 +1,8 @@
+-- What is told, coded. Assumes nothing.
+use mathlib.Core.Path.{◌∙◌, ap}
+use Rattle.codes.specs.ToldCodes.{told_code}
+use borrow.Author.Rules.{rules}
+use Rattle.nolpigat.proofs.nolpigat_home.Goals as goal
+
+pub returns : goal.returns
+returns c = c.told_code.ensures ∙ ap told_code c.ask.ensures
