@@ -1,7 +1,7 @@
 -- Laws of segment and splice: the lens through which bytes are read and written. Assumes nothing.
 use mathlib.Core.Path.{◌≡◌, refl, sym, ap, ◌∙◌}
 use mathlib.Core.List.{List, [], ◌∷◌, ◌++◌}
-use mathlib.Core.Logic.{◌⊎◌, ⊎_elim}
+use mathlib.Core.Logic.{⊎_elim}
 use Prim.Native.Nat.{ℕ, ◌+◌, ◌-◌, ◌≤◌, ◌<◌}
 use Rattle.lists.specs.Segments.{segment, splice}
 use Rattle.lists.proofs.Cases.{lt-or-ge}

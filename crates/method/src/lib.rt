@@ -1,1 +1,3 @@
+#![tactic(auto)]
+
 // The D3 method.

@@ -1,14 +1,11 @@
 -- The transactions whose bytes stand before i were not begun at the card: a search that stops at the first that was. Assumes nothing.
-use borrow.Author.Rules.{rules}
-use mathlib.Core.Path.{◌≡◌, sym, ◌∙◌}
+use mathlib.Core.Path.{◌≡◌}
 use mathlib.Core.Bool.{false}
 use Prim.Native.Nat.{◌+◌, ◌-◌, ◌≤◌}
-use native.Mathlib.Omega.{arith}
 use Rattle.lists.specs.Tests.{any_below}
 use Rattle.image.specs.Layout.{tran_count}
 use Rattle.method.specs.ControlPart.{begun_at}
 use Rattle.control.specs.Meaning.{meaning}
-use Rattle.cards.proofs.Searches.{found-begun, none-begun, none_yet, still-unbegun}
 use Rattle.cards.proofs.begun_here.Given as goal
 
 abbrev pub invariant-loop-i : goal.invariant-loop-i

@@ -1,5 +1,4 @@
 -- A zeroed table is the card's blocks written empty, and the control part is written over that. Assumes nothing.
-use borrow.Author.Rules.{rules}
 use mathlib.Core.Path.{◌∙◌, ap}
 use Rattle.control.specs.Meaning.{meaning, put_control}
 use Rattle.cabinet_rules.specs.Images.{Image}

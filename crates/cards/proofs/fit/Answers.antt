@@ -1,5 +1,4 @@
 -- Refused by the form or by a row; else the card's table is emptied and the card admitted. Assumes nothing.
-use borrow.Author.Rules.{rules}
 use mathlib.Core.Path.{refl}
 use Rattle.method.specs.Rules.{fit}
 use Rattle.promise.specs.Given.{Given}

@@ -1,12 +1,10 @@
 -- The placements before i lack the card: a search that stops at the first that has it. Assumes nothing.
-use borrow.Author.Rules.{rules}
-use mathlib.Core.Path.{◌≡◌, refl, sym, ◌∙◌}
+use mathlib.Core.Path.{◌≡◌}
 use mathlib.Core.Bool.{true}
 use Prim.Native.Nat.{◌≤◌, ◌-◌}
-use native.Mathlib.Omega.{arith}
 use Rattle.lists.specs.Tests.{all_below}
 use Rattle.control.proofs.Active.{mask_passes}
-use Rattle.cards.proofs.Searches.{lacks, found-active, none-active, still-none}
+use Rattle.cards.proofs.Searches.{lacks}
 use Rattle.cards.proofs.in_active.Given as goal
 
 abbrev pub invariant-loop-i : goal.invariant-loop-i

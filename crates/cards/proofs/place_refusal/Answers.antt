@@ -1,6 +1,5 @@
 -- Each return is the number that its test and the tests before it give. Assumes nothing.
-use borrow.Author.Rules.{rules}
-use borrow.Author.Tests.{le-ltb, lt-ltb, not-false, not-true}
+use borrow.Author.Tests.{le-ltb, lt-ltb}
 use lib.Dec.{ltb}
 use native.Mathlib.Omega.{arith}
 use Prim.Native.Nat.{ℕ, ◌<◌, ◌≤◌}
@@ -11,8 +10,6 @@ use Rattle.mask.specs.Masks.{byte, size}
 use Rattle.control.specs.Meaning.{meaning}
 use Rattle.cabinet_rules.specs.Places.{again_by_rails}
 use Rattle.cards.proofs.Rows.{again-says-9, few-says-9, full-says-10, idle-says-9, room-says-0, spent-says-20, says-4, few, works}
-use mathlib.Core.Bool.{not}
-use mathlib.Core.Path.{ap}
 use Rattle.cards.proofs.place_refusal.Goals as goal
 
 -- fewer members than copies, and not

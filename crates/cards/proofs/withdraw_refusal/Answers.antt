@@ -2,7 +2,6 @@
 use mathlib.Core.Path.{refl}
 use Rattle.control.specs.Meaning.{meaning}
 use Rattle.cards.proofs.Rows.{withdraw-by, withdraw-refused}
-use borrow.Author.Rules.{rules}
 use Rattle.cards.proofs.withdraw_refusal.Goals as goal
 
 pub returns-then-on_card-ne0 : goal.returns-then-on_card-ne0

@@ -3,7 +3,6 @@ use mathlib.Core.Path.{◌∙◌, ap, sym}
 use Rattle.promise.specs.Promise.{shown_filled}
 use Rattle.promise.specs.declared.Filled.{Filled as FilledValue}
 use Rattle.codes.specs.FilledCodes.{filled_code, filled_kind, filled_number}
-use borrow.Author.Rules.{rules}
 use Rattle.codes.proofs.filled_code.Goals as goal
 
 pub returns-in-Bytes : goal.returns-in-Bytes

@@ -1,7 +1,6 @@
 -- By the test. Assumes nothing.
 use Rattle.codes.specs.Codes.{answer_number, kind_of}
 use Rattle.codes.specs.CommandCodes.{form_code}
-use borrow.Author.Rules.{rules}
 use Rattle.codes.proofs.form_code.Goals as goal
 
 pub returns-then-formed : goal.returns-then-formed

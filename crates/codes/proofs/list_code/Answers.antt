@@ -1,6 +1,5 @@
 -- Each arm has its answer's kind and number. Assumes nothing.
 use Prim.Native.Nat.{ℕ}
-use borrow.Author.Rules.{rules}
 use mathlib.Core.Path.{◌∙◌, ap, sym}
 use Rattle.move_list.specs.Promise.{shown_list}
 use Rattle.move_list.specs.declared.Listed.{Listed}

@@ -1,7 +1,6 @@
 -- Each arm has its kind and number. Assumes nothing.
 use mathlib.Core.Path.{◌∙◌, ap, sym}
 use Rattle.codes.specs.ToldCodes.{told_code, told_kind, told_number}
-use borrow.Author.Rules.{rules}
 use Rattle.codes.proofs.told_code.Goals as goal
 
 pub returns-in-Number : goal.returns-in-Number

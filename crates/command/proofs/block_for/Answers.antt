@@ -1,7 +1,6 @@
 -- `block_for` meets its contract: the test of the number says which case of `block_for` holds. Assumes nothing.
 use borrow.Author.Tests.{le-leb, lt-leb}
 use Rattle.command.specs.Commands.{most_block}
-use borrow.Author.Rules.{rules}
 use Rattle.command.proofs.block_for.Goals as goal
 
 pub returns-then-number-le-MOST_BLOCK : goal.returns-then-number-le-MOST_BLOCK

@@ -2,7 +2,6 @@
 use mathlib.Core.Path.{◌∙◌, ap, sym}
 use Rattle.promise.specs.declared.Call.TheVariants.{Move}
 use Rattle.command.specs.Meaning.{call_for}
-use borrow.Author.Rules.{rules}
 use Rattle.command.proofs.call_for.Goals as goal
 
 pub returns-in-WideMove : goal.returns-in-WideMove

@@ -3,7 +3,6 @@ use mathlib.Core.Path.{◌∙◌, ap, sym}
 use mathlib.Core.Bool.{false, true}
 use Rattle.command.proofs.Answers.{command-is}
 use Rattle.command.specs.declared.Command.TheVariants.{Of}
-use borrow.Author.Rules.{rules}
 use Rattle.command.proofs.command_at.Goals as goal
 
 pub returns-then-is_wide_move : goal.returns-then-is_wide_move

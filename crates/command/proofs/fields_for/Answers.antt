@@ -1,7 +1,6 @@
 -- `fields_for` meets its contract: each arm is told the command's constructor. Assumes nothing.
 use mathlib.Core.Path.{◌∙◌, ap, sym}
 use Rattle.command.specs.Commands.{fields_for}
-use borrow.Author.Rules.{rules}
 use Rattle.command.proofs.fields_for.Goals as goal
 
 pub returns-in-Of : goal.returns-in-Of

@@ -4,7 +4,6 @@ use mathlib.Core.Logic.{inl, inr}
 use Prim.Native.Nat.{ℕ}
 use native.Mathlib.Omega.{arith}
 use Rattle.command.proofs.Forms.{form_of, form-of-two, no-form, one-or-next}
-use borrow.Author.Rules.{rules}
 use Rattle.command.proofs.is_formed.Goals as goal
 
 pub returns-in-0 : goal.returns-in-0

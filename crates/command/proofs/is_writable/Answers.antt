@@ -1,7 +1,6 @@
 -- The case of the command decides, then the form of its fields. Assumes nothing.
 use mathlib.Core.Path.{◌∙◌}
 use Rattle.command.proofs.Answers.{writable-call, writable-small, writable-wide}
-use borrow.Author.Rules.{rules}
 use Rattle.command.proofs.is_writable.Goals as goal
 
 pub returns-in-Of : goal.returns-in-Of

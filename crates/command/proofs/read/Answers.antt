@@ -2,7 +2,6 @@
 use mathlib.Core.Path.{◌∙◌, ap, sym}
 use Rattle.command.proofs.FieldCodec.{asks_none, asks-shown, shown-formed}
 use Rattle.command.specs.declared.Reading.TheVariants.{Asks}
-use borrow.Author.Rules.{rules}
 use Rattle.command.proofs.read.Goals as goal
 
 pub command_at-requires : goal.command_at-requires

@@ -4,7 +4,6 @@ use mathlib.Core.Bool.{false, true}
 use Rattle.command.proofs.Answers.{writable-formed, write-fit, write-length}
 use Rattle.command.specs.declared.Command.{Command}
 use Rattle.command.specs.Commands.{bytes_for, encoded, formed, is_writable}
-use borrow.Author.Rules.{rules}
 use Rattle.command.proofs.write.Goals as goal
 
 pub returns-then-bytes-ne-SIZE : goal.returns-then-bytes-ne-SIZE

@@ -1,6 +1,5 @@
 -- By whether the byte is open with the card. Assumes nothing.
 use mathlib.Core.Path.{◌∙◌, sym}
-use borrow.Author.Rules.{rules}
 use Rattle.control.specs.Meaning.{kept_home}
 use Rattle.control.proofs.kept_home.Goals as goal
 

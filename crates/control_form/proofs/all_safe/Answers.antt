@@ -1,13 +1,12 @@
 -- The masks before i are safe. Assumes nothing.
-use mathlib.Core.Path.{◌≡◌, refl}
+use mathlib.Core.Path.{refl}
 use mathlib.Core.Bool.{true}
-use Prim.Native.Nat.{◌≤◌, ◌-◌}
+use Prim.Native.Nat.{◌-◌}
 use native.Mathlib.Omega.{arith}
 use borrow.Author.Rules.{rules}
-use Rattle.lists.specs.Tests.{all_below}
 use Rattle.control_form.specs.ControlForm.{is_safe}
 use Rattle.control.specs.Meaning.{meaning}
-use Rattle.control.proofs.Active.{every-passed, mask_passes, one-fails, one_passes}
+use Rattle.control.proofs.Active.{every-passed, one-fails, one_passes}
 use Rattle.control_form.proofs.Checks.{failed-is, passed_is}
 use mathlib.Core.Bool.{not}
 use mathlib.Core.Path.{ap}

@@ -1,14 +1,11 @@
 -- The masks before i are safe. Assumes nothing.
-use mathlib.Core.Path.{◌≡◌, refl}
+use mathlib.Core.Path.{◌≡◌}
 use mathlib.Core.Bool.{true}
 use Prim.Native.Nat.{◌≤◌, ◌-◌}
-use native.Mathlib.Omega.{arith}
-use borrow.Author.Rules.{rules}
 use Rattle.lists.specs.Tests.{all_below}
 use Rattle.control_form.specs.ControlForm.{is_safe}
 use Rattle.control.specs.Meaning.{meaning}
-use Rattle.control.proofs.Active.{every-passed, mask_passes, one-fails, one_passes}
-use Rattle.control_form.proofs.Checks.{failed-is, passed_is}
+use Rattle.control.proofs.Active.{mask_passes}
 use Rattle.control_form.proofs.all_safe.Given as goal
 
 abbrev pub invariant-loop-i : goal.invariant-loop-i

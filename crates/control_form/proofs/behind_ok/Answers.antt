@@ -1,7 +1,7 @@
 -- Placement by placement: those before i pass. Assumes nothing.
 use mathlib.Core.Path.{◌≡◌, refl, subst, sym}
 use mathlib.Core.Bool.{true}
-use Prim.Native.Nat.{◌-◌, ◌≤◌, ℕ}
+use Prim.Native.Nat.{◌-◌, ℕ}
 use native.Mathlib.Omega.{arith}
 use lib.ListN.{get_or}
 use Rattle.lists.specs.Tests.{all_below}
@@ -9,7 +9,6 @@ use Rattle.lists.proofs.Counts.{all-fails, all_more}
 use Rattle.image.specs.Layout.{most_active}
 use Rattle.control_form.specs.Reading.{kept_ok_at}
 use Rattle.control_form.proofs.Checks.{failed-is, passed_is}
-use borrow.Author.Rules.{rules}
 use mathlib.Core.Bool.{not}
 use mathlib.Core.Path.{ap}
 use Rattle.control_form.proofs.behind_ok.Goals as goal

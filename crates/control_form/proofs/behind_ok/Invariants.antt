@@ -1,15 +1,11 @@
 -- Placement by placement: those before i pass. Assumes nothing.
-use mathlib.Core.Path.{◌≡◌, refl, subst, sym}
+use mathlib.Core.Path.{◌≡◌}
 use mathlib.Core.Bool.{true}
-use Prim.Native.Nat.{◌-◌, ◌≤◌, ℕ}
-use native.Mathlib.Omega.{arith}
+use Prim.Native.Nat.{◌-◌, ◌≤◌}
 use lib.ListN.{get_or}
 use Rattle.lists.specs.Tests.{all_below}
-use Rattle.lists.proofs.Counts.{all-fails, all_more}
 use Rattle.image.specs.Layout.{most_active}
 use Rattle.control_form.specs.Reading.{kept_ok_at}
-use Rattle.control_form.proofs.Checks.{failed-is, passed_is}
-use borrow.Author.Rules.{rules}
 use Rattle.control_form.proofs.behind_ok.Given as goal
 
 abbrev pub invariant-loop-i : goal.invariant-loop-i

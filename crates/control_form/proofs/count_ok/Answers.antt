@@ -1,7 +1,6 @@
 -- By the lower bound. Assumes nothing.
 use borrow.Author.Tests.{le-leb, lt-leb}
 use Rattle.control_form.specs.ControlForm.{count_ok}
-use borrow.Author.Rules.{rules}
 use Rattle.control_form.proofs.count_ok.Goals as goal
 
 pub returns-then-count-lt1 : goal.returns-then-count-lt1

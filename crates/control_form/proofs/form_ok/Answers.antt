@@ -10,7 +10,6 @@ use Rattle.control_form.specs.ControlForm.{control_form, form_ok}
 use Rattle.control_form.specs.Reading.{kept_ok_at}
 use Rattle.control_form.proofs.Checks.{failed-is, passed_is}
 use Rattle.control_form.proofs.Kept.{behind-front, none_kept, part_end, part-zero}
-use borrow.Author.Rules.{rules}
 use mathlib.Core.Bool.{not}
 use Rattle.control_form.proofs.form_ok.Goals as goal
 

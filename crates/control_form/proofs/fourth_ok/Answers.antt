@@ -13,7 +13,6 @@ use Rattle.control_form.specs.ControlForm.{count_ok}
 use Rattle.control_form.specs.Reading.{chain_in, mask_at}
 use Rattle.control_form.proofs.Checks.{chain_by}
 use Rattle.control_form.proofs.ZeroFields.{count-few, count-some}
-use borrow.Author.Rules.{rules}
 use Rattle.control_form.proofs.fourth_ok.Goals as goal
 
 -- the clause, by whether the count is the greatest

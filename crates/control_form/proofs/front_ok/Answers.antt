@@ -11,7 +11,6 @@ use Rattle.control_form.proofs.Checks.{failed-is, passed_is}
 use Rattle.control_form.specs.Reading.{all_from, chain_in, home_fits_at, newest_in, other_zeros, serials_in}
 use Rattle.control_form.proofs.Clauses.{all-fail, apart_in, clauses, form-by, others-left, placements_fit}
 use Rattle.control_form.proofs.Clauses.{from_apart, from_chain, from_homes, from_newest, from_placements}
-use borrow.Author.Rules.{rules}
 use Rattle.control.specs.ControlBytes.{homes_at, homes_end}
 use mathlib.Core.Bool.{not}
 use mathlib.Core.Path.{ap}

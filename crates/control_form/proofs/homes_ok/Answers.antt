@@ -6,7 +6,6 @@ use Rattle.control_form.specs.Reading.{all_from, home_fits_at, home_ok_at, is_ho
 use lib.ListN.{get_or}
 use Rattle.control_form.proofs.Checks.{failed-is, passed_is}
 use Rattle.control_form.proofs.Homes.{all-homes, fits_by}
-use borrow.Author.Rules.{rules}
 use Rattle.control.specs.ControlBytes.{homes_at, homes_end, stopped_bit, stopped_in}
 use mathlib.Core.Bool.{not}
 use mathlib.Core.Path.{ap}

@@ -2,7 +2,6 @@
 use mathlib.Core.Path.{sym}
 use borrow.Author.Tests.{le-ltb, lt-ltb}
 use Rattle.control_form.specs.ControlForm.{is_safe}
-use borrow.Author.Rules.{rules}
 use Rattle.control_form.proofs.is_safe.Goals as goal
 
 pub returns-then-common-ge-COPIES : goal.returns-then-common-ge-COPIES

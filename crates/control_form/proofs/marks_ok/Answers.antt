@@ -7,7 +7,6 @@ use lib.Bits.{bit_and}
 use lib.Dec.{eqb}
 use Rattle.control.specs.Meaning.{free_marks}
 use Rattle.control_form.specs.Reading.{marks_ok}
-use borrow.Author.Rules.{rules}
 use Rattle.control_form.proofs.marks_ok.Goals as goal
 
 marks-fail : {r : ℕ} (m n : ℕ) → r ≡ free_marks n → (bit_and m r ≡ 0 → ⊥) → eqb (bit_and m (free_marks n)) 0 ≡ false

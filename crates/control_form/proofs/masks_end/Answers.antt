@@ -1,6 +1,5 @@
 -- The bytes of the number from the count on. Assumes nothing.
 use Rattle.control_form.proofs.Zeros.{masks-by}
-use borrow.Author.Rules.{rules}
 use Rattle.control_form.proofs.masks_end.Goals as goal
 
 pub returns : goal.returns

@@ -2,7 +2,6 @@
 use mathlib.Core.Path.{sym}
 use borrow.Author.Tests.{le-leb, lt-leb}
 use Rattle.control_form.specs.ControlForm.{members_ok}
-use borrow.Author.Rules.{rules}
 use Rattle.control_form.proofs.members_ok.Goals as goal
 
 pub returns-then-members-lt-LEAST_MEMBERS : goal.returns-then-members-lt-LEAST_MEMBERS

@@ -1,7 +1,6 @@
 -- By whether the store is stopped. Assumes nothing.
 use borrow.Author.Tests.{le-leb, lt-leb}
 use Rattle.control_form.specs.Reading.{newest_in}
-use borrow.Author.Rules.{rules}
 use Rattle.control_form.proofs.newest_works.Goals as goal
 
 pub returns-then-s-ge-STOPPED : goal.returns-then-s-ge-STOPPED

@@ -7,7 +7,6 @@ use lib.Dec.{eqb}
 use lib.ListN.{get_or}
 use Rattle.lists.specs.Bytes.{of_bytes}
 use Rattle.control_form.proofs.Zeros.{open_by}
-use borrow.Author.Rules.{rules}
 use Rattle.control_form.specs.Reading.{second_at, word_size}
 use Rattle.control_form.proofs.none_open.Goals as goal
 

@@ -1,7 +1,6 @@
 -- The clauses in their order. Assumes nothing.
 use Rattle.control_form.specs.Reading.{placement_ok}
 use Rattle.control_form.proofs.Checks.{failed-is, passed_is}
-use borrow.Author.Rules.{rules}
 use mathlib.Core.Bool.{not}
 use mathlib.Core.Path.{ap}
 use Rattle.control_form.proofs.placement_ok.Goals as goal

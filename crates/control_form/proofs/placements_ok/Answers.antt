@@ -1,13 +1,12 @@
 -- The masks before i pass. Assumes nothing.
 use mathlib.Core.Path.{◌≡◌, refl, sym, ap, ◌∙◌}
 use mathlib.Core.Bool.{true}
-use Prim.Native.Nat.{ℕ, ◌≤◌, ◌<◌, ◌-◌}
+use Prim.Native.Nat.{ℕ, ◌-◌}
 use native.Mathlib.Omega.{arith}
 use lib.ListN.{get_or}
-use borrow.Author.Rules.{rules}
 use Rattle.lists.specs.Tests.{all_below}
 use Rattle.lists.proofs.Counts.{all-fails, all_more}
-use Rattle.control.specs.ControlBytes.{count_in, field_bound, stopped_in}
+use Rattle.control.specs.ControlBytes.{count_in, stopped_in}
 use Rattle.control_form.specs.Reading.{mask_test, placement_ok}
 use Rattle.control_form.proofs.Checks.{failed-is, passed_is}
 use mathlib.Core.Bool.{not}

@@ -4,7 +4,6 @@ use native.Mathlib.Omega.{arith}
 use borrow.Author.Tests.{eq-eqb, ne_eqb}
 use Rattle.control_form.specs.ControlForm.{form_refusal}
 use Rattle.control_form.proofs.Checks.{failed-is, form-reads, passed_is}
-use borrow.Author.Rules.{rules}
 use mathlib.Core.Bool.{not}
 use mathlib.Core.Path.{ap}
 use Rattle.control_form.proofs.read.Goals as goal

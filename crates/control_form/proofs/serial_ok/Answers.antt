@@ -5,7 +5,6 @@ use Rattle.mask.specs.Masks.{byte}
 use Rattle.mask.proofs.MaskSites.{size-le}
 use Rattle.control.specs.ControlBytes.{count_in, last_mask_at}
 use Rattle.control_form.proofs.SerialForm.{below-count, by_members, up-to-limit}
-use borrow.Author.Rules.{rules}
 use Rattle.control_form.proofs.serial_ok.Goals as goal
 
 pub returns-then-serial-count : goal.returns-then-serial-count

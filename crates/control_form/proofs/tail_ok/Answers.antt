@@ -1,6 +1,5 @@
 -- The last word, but for its first two bytes, as a number. Assumes nothing.
 use Rattle.control_form.proofs.Zeros.{tail-by}
-use borrow.Author.Rules.{rules}
 use Rattle.control_form.proofs.tail_ok.Goals as goal
 
 pub returns : goal.returns

@@ -1,5 +1,4 @@
 -- The control part beside a refusal is that of a start with no cards. Assumes nothing.
-use borrow.Author.Rules.{rules}
 use mathlib.Core.Path.{refl}
 use Rattle.control_form.proofs.unread.Goals as goal
 

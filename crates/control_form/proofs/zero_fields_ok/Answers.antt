@@ -3,7 +3,6 @@ use borrow.Author.Tests.{eq-eqb, ne_eqb}
 use Rattle.control_form.specs.Reading.{other_zeros}
 use Rattle.control_form.proofs.Checks.{failed-is, passed_is}
 use Rattle.control_form.proofs.ZeroFields.{count-few, count-some}
-use borrow.Author.Rules.{rules}
 use mathlib.Core.Bool.{not}
 use mathlib.Core.Path.{ap}
 use Rattle.control_form.proofs.zero_fields_ok.Goals as goal

@@ -12,7 +12,6 @@ use Rattle.control.specs.Stamps.{put_stamps}
 use Rattle.cabinet_rules.specs.Converting.{older_size}
 use Rattle.cabinet_rules.specs.Retired.{converted_serial}
 use Rattle.converter.proofs.Stamped.{carried-is}
-use borrow.Author.Rules.{rules}
 use Rattle.converter.proofs.carry.Goals as goal
 
 pub returns : goal.returns

@@ -9,7 +9,6 @@ use Rattle.image.proofs.Parts.{part-is}
 use Rattle.control.specs.Stamps.{no_stamp, put_stamp}
 use Rattle.cabinet_rules.specs.Retired.{pairs_behind}
 use Rattle.converter.specs.Steps.{carry_table}
-use borrow.Author.Rules.{rules}
 use Rattle.converter.proofs.carry_table.Goals as goal
 
 -- How long the part is.

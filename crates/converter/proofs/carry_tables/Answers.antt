@@ -1,8 +1,7 @@
 -- The tables of the cards below i are carried; a turn is one card more. Assumes nothing.
 use mathlib.Core.Path.{◌≡◌, ◌∙◌, refl, subst, sym}
-use Prim.Native.Nat.{ℕ, ◌+◌, ◌-◌, ◌≤◌}
+use Prim.Native.Nat.{ℕ, ◌+◌, ◌-◌}
 use native.Mathlib.Omega.{arith}
-use lib.ListN.{length}
 use borrow.Author.Rules.{rules}
 use Rattle.image.specs.Layout.{card_count}
 use Rattle.cabinet_rules.specs.Images.{Image}

@@ -1,13 +1,9 @@
 -- The tables of the cards below i are carried; a turn is one card more. Assumes nothing.
-use mathlib.Core.Path.{◌≡◌, ◌∙◌, refl, subst, sym}
-use Prim.Native.Nat.{ℕ, ◌+◌, ◌-◌, ◌≤◌}
-use native.Mathlib.Omega.{arith}
+use mathlib.Core.Path.{◌≡◌}
+use Prim.Native.Nat.{◌-◌, ◌≤◌}
 use lib.ListN.{length}
-use borrow.Author.Rules.{rules}
 use Rattle.image.specs.Layout.{card_count}
-use Rattle.cabinet_rules.specs.Images.{Image}
 use Rattle.converter.specs.Steps.{TablesCarried}
-use Rattle.converter.proofs.Tables.{none-carried, one-carried}
 use Rattle.converter.proofs.carry_tables.Given as goal
 
 abbrev pub invariant-loop-i : goal.invariant-loop-i

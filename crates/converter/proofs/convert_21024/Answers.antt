@@ -13,7 +13,6 @@ use Rattle.control_form.proofs.Checks.{failed-is, passed_is}
 use Rattle.cabinet_rules.specs.Converting.{older_size}
 use Rattle.converter.proofs.Longer.{filled_is, length-copied}
 use Rattle.converter.proofs.Refusals.{broken-form, converted, wrong-lent, wrong-older}
-use borrow.Author.Rules.{rules}
 use mathlib.Core.Bool.{not}
 use Rattle.converter.proofs.convert_21024.Goals as goal
 

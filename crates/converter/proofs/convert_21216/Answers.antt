@@ -1,7 +1,6 @@
 -- The lengths, then the form; then the whole image is written. Assumes nothing.
 use Rattle.control_form.proofs.Checks.{failed-is, passed_is}
 use Rattle.converter.proofs.Refusals.{broken-form, converted, wrong-lent, wrong-older}
-use borrow.Author.Rules.{rules}
 use mathlib.Core.Bool.{not}
 use mathlib.Core.Path.{ap}
 use Rattle.converter.proofs.convert_21216.Goals as goal

@@ -2,7 +2,6 @@
 use mathlib.Core.Path.{◌∙◌, sym}
 use Rattle.control_form.proofs.Checks.{failed-is, passed_is}
 use Rattle.converter.proofs.WireForm.{wire-form}
-use borrow.Author.Rules.{rules}
 use mathlib.Core.Bool.{not}
 use mathlib.Core.Path.{ap}
 use Rattle.converter.proofs.form_21024.Goals as goal

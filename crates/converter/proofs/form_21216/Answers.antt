@@ -10,7 +10,6 @@ use Rattle.cabinet_rules.specs.Converting.{older_size}
 use Rattle.cabinet_rules.specs.Images.{tail_by}
 use Rattle.cabinet_rules.specs.Retired.{pairs_behind}
 use Rattle.converter.proofs.TableForm.{numbered-form}
-use borrow.Author.Rules.{rules}
 use mathlib.Core.Bool.{not}
 use Rattle.converter.proofs.form_21216.Goals as goal
 

@@ -10,7 +10,6 @@ use Rattle.control_form.proofs.Checks.{failed-is, passed_is}
 use Rattle.control_form.proofs.Kept.{part-zero}
 use Rattle.converter.specs.Steps.{is_unnumbered, older_front_ok}
 use Rattle.converter.proofs.TableForm.{front-shown}
-use borrow.Author.Rules.{rules}
 use mathlib.Core.Bool.{not}
 use Rattle.converter.proofs.front_ok.Goals as goal
 

@@ -7,7 +7,6 @@ use Rattle.image.specs.Layout.{pairs_size}
 use Rattle.mask.specs.Masks.{byte}
 use Rattle.control.specs.ControlBytes.{marks_at, masks_at}
 use Rattle.control_form.proofs.Kept.{kept-bare, kept_table, part-pairs, part-zero, table-clear, table-set}
-use borrow.Author.Rules.{rules}
 use Rattle.converter.proofs.kept_ok.Goals as goal
 
 -- How long the part is.

@@ -8,7 +8,6 @@ use Rattle.image.specs.Layout.{control_size}
 use Rattle.image.proofs.Parts.{part-is}
 use Rattle.control.specs.ControlBytes.{serial_at}
 use Rattle.converter.proofs.Front.{numbered_is}
-use borrow.Author.Rules.{rules}
 use Rattle.converter.proofs.numbered.Goals as goal
 
 pub returns : goal.returns

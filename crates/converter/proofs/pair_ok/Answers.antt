@@ -1,5 +1,4 @@
 -- Each return is by the test that was taken: a card that is no member, or one card twice. Assumes nothing.
-use borrow.Author.Rules.{rules}
 use borrow.Author.Tests.{not-false, not-true}
 use mathlib.Core.Path.{◌∙◌, sym}
 use Rattle.mask.specs.Pairs.{is_pair_of}

@@ -1,17 +1,14 @@
 -- Block by block: the pairs of those before b pass. Assumes nothing.
 use mathlib.Core.Path.{◌∙◌, ◌≡◌, ap, refl, subst, sym}
-use mathlib.Core.Bool.{Bool, true}
-use Prim.Native.Nat.{◌-◌, ◌≤◌, ℕ}
+use mathlib.Core.Bool.{true}
+use Prim.Native.Nat.{◌-◌, ℕ}
 use native.Mathlib.Omega.{arith}
-use lib.ListN.{get_or}
-use mathlib.Core.List.{List}
 use Rattle.lists.specs.Tests.{all_below}
 use Rattle.lists.proofs.Counts.{all-fails, all_more}
 use Rattle.image.specs.Layout.{block_count}
 use Rattle.mask.specs.Masks.{byte}
 use Rattle.mask.specs.Pairs.{is_pair_of, pair_at}
 use Rattle.control_form.proofs.Checks.{failed-is, passed_is}
-use borrow.Author.Rules.{rules}
 use Rattle.converter.proofs.pairs_ok.Invariants.{is_good}
 use mathlib.Core.Bool.{not}
 use Rattle.converter.proofs.pairs_ok.Goals as goal

@@ -1,7 +1,6 @@
 -- Refused by the form or by a row; else the card is marked, which is all in a store that has stopped; in a running one the test of the marked part
 -- is the stop rule. Assumes nothing.
 use Prim.Native.Nat.{◌≤◌}
-use borrow.Author.Rules.{rules}
 use lib.ListN.{length}
 use mathlib.Core.Bool.{not}
 use mathlib.Core.Path.{◌∙◌, ◌≡◌, ap, refl, sym}

@@ -1,12 +1,9 @@
 -- Each return is the row whose test was taken, the rows above it left. Assumes nothing.
-use borrow.Author.Rules.{rules}
-use borrow.Author.Tests.{le-ltb, lt-ltb, not-false, not-true}
+use borrow.Author.Tests.{le-ltb, lt-ltb}
 use mathlib.Core.Path.{◌∙◌, sym}
 use Rattle.image.specs.Layout.{card_count}
 use Rattle.control.specs.Meaning.{meaning}
 use Rattle.failure.specs.Failing.{fail_rows}
-use mathlib.Core.Bool.{not}
-use mathlib.Core.Path.{ap}
 use Rattle.failure.proofs.refusal.Goals as goal
 
 pub returns-then-card-ge-MOST_CARDS : goal.returns-then-card-ge-MOST_CARDS

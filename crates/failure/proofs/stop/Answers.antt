@@ -1,5 +1,4 @@
 -- The two steps one after the other are what `stopped_on` says. Assumes nothing.
-use borrow.Author.Rules.{rules}
 use mathlib.Core.Path.{◌∙◌}
 use Rattle.control.specs.Meaning.{meaning}
 use Rattle.failure.proofs.Stopping.{stopped_by}

@@ -1,12 +1,9 @@
 -- The first i bytes or-ed are zero where each of them is. Assumes nothing.
-use mathlib.Core.Path.{◌∙◌, ◌≡◌, ap, refl}
-use Prim.Native.Nat.{◌-◌, ◌≤◌, ℕ}
-use native.Mathlib.Omega.{arith}
+use mathlib.Core.Path.{◌≡◌}
+use Prim.Native.Nat.{◌-◌, ◌≤◌}
 use lib.Dec.{eqb}
 use lib.ListN.{get_or, length}
-use borrow.Author.Rules.{rules}
 use Rattle.lists.specs.Tests.{all_below}
-use Rattle.image.proofs.Zeros.{zeros-more}
 use Rattle.image.proofs.all_zero.Given as goal
 
 abbrev pub invariant-loop-i : goal.invariant-loop-i

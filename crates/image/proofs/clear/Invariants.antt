@@ -1,14 +1,7 @@
 -- The first i bytes are zero; at the end all are. Assumes nothing.
-use mathlib.Core.Path.{◌≡◌, refl, sym, ◌∙◌}
+use mathlib.Core.Path.{◌≡◌}
 use Prim.Native.Nat.{ℕ, ◌≤◌, ◌<◌, ◌-◌}
-use native.Mathlib.Omega.{arith}
-use native.Mathlib.Nat.{not-suc-le-zero}
-use lib.Seq.{ext_get_or}
-use lib.ListN.{length, get_or, length-set}
-use borrow.Author.Rules.{rules}
-use Rattle.lists.proofs.Segments.{fill_more}
-use Rattle.image.specs.Parts.{zeros}
-use Rattle.image.proofs.Zeros.{length-zeros, zeros-at}
+use lib.ListN.{length, get_or}
 use Rattle.image.proofs.clear.Given as goal
 
 abbrev pub invariant-loop-i : goal.invariant-loop-i

@@ -2,7 +2,6 @@
 use mathlib.Core.Path.{◌≡◌, ◌∙◌, ap}
 use Prim.Native.Nat.{ℕ, ◌+◌, ◌-◌}
 use native.Mathlib.Omega.{arith}
-use borrow.Author.Rules.{rules}
 use Rattle.lists.specs.Segments.{splice}
 use Rattle.image.specs.Layout.{table_size, table_start}
 use Rattle.image.specs.Parts.{put_table, zeros}

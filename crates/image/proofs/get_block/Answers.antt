@@ -1,5 +1,4 @@
 -- The bytes read at a block's address are the block. Assumes nothing.
-use borrow.Author.Rules.{rules}
 use Rattle.image.specs.Parts.{block_at}
 use Rattle.image.proofs.get_block.Goals as goal
 

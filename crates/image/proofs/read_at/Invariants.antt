@@ -1,13 +1,7 @@
 -- The first i bytes are those behind the address; at the end all are. Assumes nothing.
-use mathlib.Core.Path.{◌≡◌, refl, sym, ◌∙◌}
+use mathlib.Core.Path.{◌≡◌}
 use Prim.Native.Nat.{ℕ, ◌≤◌, ◌<◌, ◌-◌, ◌+◌}
-use native.Mathlib.Omega.{arith}
-use native.Mathlib.Nat.{not-suc-le-zero}
-use lib.Seq.{ext_get_or}
-use lib.ListN.{length, get_or, length-set}
-use borrow.Author.Rules.{rules}
-use Rattle.lists.specs.Segments.{segment}
-use Rattle.lists.proofs.Segments.{length-segment, get_or-segment, fill_more}
+use lib.ListN.{length, get_or}
 use Rattle.image.specs.Layout.{block_size}
 use Rattle.image.proofs.read_at.Given as goal
 

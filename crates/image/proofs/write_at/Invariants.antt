@@ -1,12 +1,8 @@
 -- The first i bytes are spliced in; each turn splices in one more. Assumes nothing.
-use mathlib.Core.Path.{◌≡◌, refl, sym, ap, ◌∙◌}
+use mathlib.Core.Path.{◌≡◌}
 use Prim.Native.Nat.{◌≤◌, ◌-◌}
-use native.Mathlib.Omega.{arith}
-use lib.Seq.{take_all}
-use lib.ListN.{length, take, length-set}
-use borrow.Author.Rules.{rules}
+use lib.ListN.{length, take}
 use Rattle.lists.specs.Segments.{splice}
-use Rattle.lists.proofs.Segments.{splice-none, splice-more}
 use Rattle.image.proofs.write_at.Given as goal
 
 abbrev pub invariant-loop-i : goal.invariant-loop-i

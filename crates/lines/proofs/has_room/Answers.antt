@@ -1,6 +1,5 @@
 -- The subtraction and the division undo the sum and the product of the longest line. Assumes nothing.
 use Rattle.lines.proofs.Lines.{no_room, room-test}
-use borrow.Author.Rules.{rules}
 use Rattle.lines.proofs.has_room.Goals as goal
 
 pub returns-then-out-lt-LONGEST_REST : goal.returns-then-out-lt-LONGEST_REST

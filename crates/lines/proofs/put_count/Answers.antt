@@ -1,6 +1,5 @@
 -- `put_count` meets its contract: the word, then the number. Assumes nothing.
 use Rattle.lines.proofs.Puts.{puts_then}
-use borrow.Author.Rules.{rules}
 use Rattle.lines.proofs.put_count.Goals as goal
 
 pub returns : goal.returns

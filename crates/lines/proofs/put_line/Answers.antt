@@ -5,7 +5,6 @@ use Rattle.lists.proofs.Bools.{not_is, not-not-is}
 use Rattle.promise.specs.Promise.{shown}
 use Rattle.lines.proofs.Lines.{line-there, no_line, room-is}
 use Rattle.lines.proofs.Puts.{puts_none, puts-same}
-use borrow.Author.Rules.{rules}
 use mathlib.Core.Bool.{not}
 use mathlib.Core.Path.{ap}
 use Rattle.lines.proofs.put_line.Goals as goal

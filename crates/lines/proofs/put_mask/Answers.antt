@@ -1,7 +1,6 @@
 -- `put_mask` meets its contract: the word, then two digits. Assumes nothing.
 use native.Mathlib.Omega.{arith}
 use Rattle.lines.proofs.Puts.{puts_then}
-use borrow.Author.Rules.{rules}
 use Rattle.lines.proofs.put_mask.Goals as goal
 
 pub returns : goal.returns

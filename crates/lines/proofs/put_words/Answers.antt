@@ -1,7 +1,6 @@
 -- `put_words` meets its contract: by the room. Assumes nothing.
 use Prim.Native.Nat.{zero-le}
 use native.Mathlib.Omega.{arith}
-use borrow.Author.Rules.{rules}
 use Rattle.lines.proofs.Lines.{no_words, words-there}
 use Rattle.lines.proofs.Puts.{puts_none, puts-same}
 use Rattle.lines.proofs.put_words.Goals as goal

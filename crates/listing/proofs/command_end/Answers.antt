@@ -5,7 +5,6 @@ use native.Mathlib.Omega.{arith}
 use Rattle.lists.specs.Segments.{segment}
 use Rattle.command.specs.Commands.{command_size}
 use Rattle.listing.proofs.Steps.{last-command}
-use borrow.Author.Rules.{rules}
 use Rattle.listing.proofs.command_end.Goals as goal
 
 pub returns-then-input-start-lt-SIZE : goal.returns-then-input-start-lt-SIZE

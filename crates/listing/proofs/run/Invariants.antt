@@ -1,16 +1,11 @@
 -- `run` meets its contract: a turn puts one line more. Assumes nothing.
-use mathlib.Core.Path.{◌∙◌, ◌≡◌, refl, sym}
-use Prim.Native.Nat.{◌*◌, ◌+◌, ◌-◌, ◌^◌, ◌≤◌, zero-le}
-use native.Mathlib.Omega.{arith}
+use mathlib.Core.Path.{◌≡◌}
+use Prim.Native.Nat.{◌*◌, ◌-◌, ◌≤◌}
 use lib.ListN.{length}
-use borrow.Author.Rules.{rules}
-use Rattle.lists.proofs.Bools.{not_is, not-not-is}
 use Rattle.command.specs.Commands.{command_size}
 use Rattle.lines.specs.Lines.{longest_line}
-use Rattle.listing.specs.Listing.{command_count, image_behind, listing}
+use Rattle.listing.specs.Listing.{image_behind, listing}
 use Rattle.lines.specs.Text.{Puts}
-use Rattle.lines.proofs.Puts.{puts_none}
-use Rattle.listing.proofs.Steps.{room_out, image-more, listing-more, no_run, whole_run}
 use Rattle.listing.proofs.run.Given as goal
 
 abbrev pub invariant-loop-i : goal.invariant-loop-i

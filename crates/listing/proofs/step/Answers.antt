@@ -3,7 +3,6 @@ use mathlib.Core.Path.{◌∙◌, sym}
 use Prim.Native.Nat.{zero-le}
 use Rattle.lists.proofs.Bools.{not_is, not-not-is}
 use Rattle.listing.proofs.Steps.{no_step, one-step}
-use borrow.Author.Rules.{rules}
 use mathlib.Core.Bool.{not}
 use mathlib.Core.Path.{ap}
 use Rattle.listing.proofs.step.Goals as goal

@@ -2,7 +2,6 @@
 use mathlib.Core.Path.{◌∙◌}
 use native.Mathlib.Omega.{arith}
 use lib.ListN.{get_or}
-use borrow.Author.Rules.{rules}
 use Rattle.lists.proofs.Lists.{any-default}
 use Rattle.mask.specs.Masks.{byte, members}
 use Rattle.mask.proofs.FirstMember.{no-members, some-members}

@@ -7,7 +7,6 @@ use lib.Dec.{eqb}
 use native.Mathlib.Omega.{arith}
 use Rattle.mask.specs.Masks.{byte}
 use Rattle.mask.proofs.Sets.{bit_is_lem, no-card}
-use borrow.Author.Rules.{rules}
 use Rattle.mask.proofs.has.Goals as goal
 
 pub returns-then-card-lt-MOST_CARDS : goal.returns-then-card-lt-MOST_CARDS

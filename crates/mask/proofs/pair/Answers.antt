@@ -1,5 +1,4 @@
 -- One card and then the other is put into the empty mask. Assumes nothing.
-use borrow.Author.Rules.{rules}
 use Rattle.mask.proofs.SiteMasks.{pair_is}
 use Rattle.mask.proofs.pair.Goals as goal
 

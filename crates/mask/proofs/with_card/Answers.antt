@@ -5,7 +5,6 @@ use lib.Bits.{bit_or}
 use native.Mathlib.Omega.{arith}
 use Rattle.mask.specs.Masks.{byte}
 use Rattle.mask.proofs.Sets.{with-is}
-use borrow.Author.Rules.{rules}
 use Rattle.mask.proofs.with_card.Goals as goal
 
 pub returns : goal.returns

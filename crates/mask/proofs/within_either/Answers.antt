@@ -3,7 +3,6 @@ use mathlib.Core.Path.{◌∙◌}
 use native.Mathlib.Omega.{arith}
 use Rattle.mask.proofs.Sets.{within-either-is}
 use Rattle.mask.specs.Masks.{byte}
-use borrow.Author.Rules.{rules}
 use Rattle.mask.proofs.within_either.Goals as goal
 
 pub returns : goal.returns

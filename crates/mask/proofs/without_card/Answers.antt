@@ -5,7 +5,6 @@ use lib.Bits.{bit_and}
 use native.Mathlib.Omega.{arith}
 use Rattle.mask.specs.Masks.{byte}
 use Rattle.mask.proofs.Sets.{without_is}
-use borrow.Author.Rules.{rules}
 use Rattle.mask.proofs.without_card.Goals as goal
 
 pub returns : goal.returns

@@ -1,7 +1,6 @@
 -- Without it the others are left, computed for every mask. Assumes nothing.
 use mathlib.Core.Path.{◌∙◌, ◌≡◌, ap}
 use native.Mathlib.Omega.{arith}
-use borrow.Author.Rules.{rules}
 use Rattle.mask.specs.Masks.{byte, members, without_card}
 use lib.ListN.{get_or}
 use Rattle.mask.proofs.FirstMember.{rest-is}

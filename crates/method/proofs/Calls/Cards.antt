@@ -7,7 +7,6 @@ use mathlib.Core.List.{[], ◌∷◌}
 use mathlib.Core.Logic.{◌⊎◌, inl, inr}
 use mathlib.Core.Option.{none, some}
 use mathlib.Core.Path.{◌∙◌, ◌≡◌, ap, refl, sym}
-use Rattle.lists.specs.Segments.{each}
 use Rattle.lists.specs.Tests.{In}
 use Rattle.lists.proofs.Bools.{and_l, and_r, never_true, nor-l, nor-r, not_is, split, tf}
 use Rattle.lists.proofs.Lists.{any_none, in_left}
@@ -17,7 +16,7 @@ use Rattle.method.specs.OneRecordList.{plain_observe, quiet}
 use Rattle.method.specs.Parameters.{Parameters}
 use Rattle.method.specs.PlainList.{plain_act, plain_next, plain_refusal, plain_start}
 use Rattle.method.specs.Rules.{unless_refused}
-use Rattle.method.specs.Rules.{View, act, clear_card, fit, guarded, in_active, ok, place, plan, refusal, refused}
+use Rattle.method.specs.Rules.{View, act, clear_card, fit, guarded, in_active, place, plan, refusal, refused}
 use Rattle.method.specs.Rules.{start, updated, withdraw}
 use Rattle.method.specs.Slots.{Slot, blank}
 use Rattle.method.proofs.Calls.Agreement.{Agrees, Good, idle-still, plain_of}

@@ -2,14 +2,12 @@
 use Prim.Native.Nat.{◌≤◌, suc, ℕ}
 use borrow.Author.Tests.{lt-ltb, ne_eqb}
 use lib.Dec.{eqb, ltb}
-use lib.ListN.{set}
 use mathlib.Core.Bool.{Bool, ◌&&◌, ◌||◌, and-true, cond, false, not, true}
 use mathlib.Core.List.{[], ◌∷◌}
 use mathlib.Core.Logic.{◌⊎◌, inl, inr}
 use mathlib.Core.Option.{none}
 use mathlib.Core.Path.{◌∙◌, ◌≡◌, ap, refl, subst, sym}
 use native.Mathlib.Omega.{arith}
-use Rattle.lists.specs.Segments.{each}
 use Rattle.lists.specs.Tests.{In, count_below}
 use Rattle.lists.proofs.Bools.{and_in, and_l, and_r, nor-l, nor-r, not_is, split, tf}
 use Rattle.lists.proofs.Counts.{count-mono}

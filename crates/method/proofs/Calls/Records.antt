@@ -7,7 +7,6 @@ use mathlib.Core.List.{List, [], ◌∷◌}
 use mathlib.Core.Logic.{◌⊎◌, inl, inr}
 use mathlib.Core.Option.{Option, none, some}
 use mathlib.Core.Path.{◌∙◌, ◌≡◌, ap, refl, subst, sym}
-use Rattle.lists.specs.Segments.{each}
 use Rattle.lists.specs.Tests.{elem}
 use Rattle.lists.proofs.Bools.{and_l, and_r, eqb-self, or_l, split, tf}
 use Rattle.method.specs.Changes.{Control}

@@ -7,7 +7,6 @@ use mathlib.Core.List.{[], ◌∷◌}
 use mathlib.Core.Logic.{◌⊎◌, inl, inr}
 use mathlib.Core.Option.{none}
 use mathlib.Core.Path.{◌∙◌, ◌≡◌, ap, refl, sym}
-use Rattle.lists.specs.Segments.{each}
 use Rattle.lists.specs.Tests.{all_in, elem}
 use Rattle.lists.proofs.Bools.{and_l, and_r, not-not-is, split, tf}
 use Rattle.lists.proofs.Counts.{below_all}

@@ -6,7 +6,6 @@ use mathlib.Core.Bool.{Bool, cond, false, not, true}
 use mathlib.Core.Logic.{◌⊎◌, inl, inr}
 use mathlib.Core.Option.{Option, none, some}
 use mathlib.Core.Path.{◌∙◌, ◌≡◌, ap, refl}
-use Rattle.lists.specs.Segments.{each}
 use Rattle.lists.proofs.Bools.{split}
 use Rattle.method.specs.Changes.{Control}
 use Rattle.method.specs.ControlPart.{is_open, with_home}

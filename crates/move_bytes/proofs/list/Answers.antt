@@ -1,5 +1,4 @@
 -- By the answer: the entries are written where they fit, and else no byte. Assumes nothing.
-use borrow.Author.Rules.{rules}
 use Prim.Native.Nat.{ℕ}
 use mathlib.Core.List.{List}
 use mathlib.Core.Path.{subst, sym}

@@ -1,5 +1,4 @@
 -- Two stores are the two bytes of the entry. Assumes nothing.
-use borrow.Author.Rules.{rules}
 use lib.ListN.{length-set}
 use native.Mathlib.Omega.{arith}
 use Rattle.move_bytes.proofs.EntryBytes.{set-entry}

@@ -1,5 +1,4 @@
 -- Refused by the form or as stopped; else the plan that was found is the rules'. Assumes nothing.
-use borrow.Author.Rules.{rules}
 use mathlib.Core.Path.{subst, sym}
 use Rattle.promise.proofs.Finish.{given}
 use Rattle.move_list.specs.Plans.{Plans}

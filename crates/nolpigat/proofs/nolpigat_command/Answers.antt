@@ -1,6 +1,5 @@
 -- `nolpigat_command` meets its contract: the store's answer, coded. Assumes nothing.
 use Rattle.codes.proofs.Codes.{coded-obeyed}
-use borrow.Author.Rules.{rules}
 use Rattle.nolpigat.proofs.nolpigat_command.Goals as goal
 
 pub returns : goal.returns

@@ -1,6 +1,5 @@
 -- `nolpigat_convert_21216` meets its contract: the converter's answer, coded. Assumes nothing.
 use Rattle.codes.proofs.FilledCodes.{coded-conversion}
-use borrow.Author.Rules.{rules}
 use Rattle.nolpigat.proofs.nolpigat_convert_21216.Goals as goal
 
 pub returns : goal.returns

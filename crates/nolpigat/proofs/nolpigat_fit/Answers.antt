@@ -1,6 +1,5 @@
 -- `nolpigat_fit` meets its contract: the store's answer, coded. Assumes nothing.
 use Rattle.codes.proofs.Codes.{coded-done}
-use borrow.Author.Rules.{rules}
 use Rattle.nolpigat.proofs.nolpigat_fit.Goals as goal
 
 pub returns : goal.returns

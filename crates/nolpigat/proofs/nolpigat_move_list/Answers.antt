@@ -1,5 +1,4 @@
 -- The answer on bytes, coded. Assumes nothing.
-use borrow.Author.Rules.{rules}
 use Rattle.codes.proofs.ListCodes.{coded-list}
 use Rattle.nolpigat.proofs.nolpigat_move_list.Goals as goal
 

@@ -1,6 +1,5 @@
 -- `nolpigat_place_by_table` meets its contract: the store's answer, coded. Assumes nothing.
 use Rattle.codes.proofs.Codes.{coded-done}
-use borrow.Author.Rules.{rules}
 use Rattle.nolpigat.proofs.nolpigat_place_by_table.Goals as goal
 
 pub returns : goal.returns

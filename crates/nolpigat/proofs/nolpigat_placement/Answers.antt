@@ -1,7 +1,6 @@
 -- What is told, coded. Assumes nothing.
 use mathlib.Core.Path.{◌∙◌, ap}
 use Rattle.codes.specs.ToldCodes.{told_code}
-use borrow.Author.Rules.{rules}
 use Rattle.nolpigat.proofs.nolpigat_placement.Goals as goal
 
 pub returns : goal.returns

@@ -1,7 +1,6 @@
 -- The fields that are shown, or none, and whether they are, coded. Assumes nothing.
 use mathlib.Core.Path.{◌∙◌, sym}
 use Rattle.codes.proofs.CommandCodes.{read_has, read_none}
-use borrow.Author.Rules.{rules}
 use Rattle.nolpigat.proofs.nolpigat_read_command.Goals as goal
 
 pub returns-in-Has : goal.returns-in-Has

@@ -1,6 +1,5 @@
 -- `nolpigat_return_card` meets its contract: the store's answer, coded. Assumes nothing.
 use Rattle.codes.proofs.Codes.{coded-return}
-use borrow.Author.Rules.{rules}
 use Rattle.nolpigat.proofs.nolpigat_return_card.Goals as goal
 
 pub returns : goal.returns

@@ -1,6 +1,5 @@
 -- Whether the command was written, coded. Assumes nothing.
 use Rattle.codes.proofs.CommandCodes.{write_done, write-refused}
-use borrow.Author.Rules.{rules}
 use Rattle.nolpigat.proofs.nolpigat_write_command.Goals as goal
 
 pub returns-in-Written : goal.returns-in-Written

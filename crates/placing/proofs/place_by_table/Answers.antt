@@ -1,5 +1,4 @@
 -- Refused by the form or by a row; else the placement of the lines is written. Assumes nothing.
-use borrow.Author.Rules.{rules}
 use mathlib.Core.Path.{◌∙◌, refl, sym}
 use Rattle.method.specs.Rules.{place}
 use Rattle.cabinet_rules.specs.Places.{by_lines}

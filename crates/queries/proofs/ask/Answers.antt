@@ -5,7 +5,6 @@ use Rattle.cabinet_rules.specs.Images.{control_in}
 use Rattle.promise.proofs.Finish.{given}
 use Rattle.queries.specs.Queries.{told_of, told_on}
 use Rattle.queries.proofs.Telling.{refused-by, told-by, told-front}
-use borrow.Author.Rules.{rules}
 use Rattle.queries.proofs.ask.Goals as goal
 
 pub returns-then-found-ne0 : goal.returns-then-found-ne0

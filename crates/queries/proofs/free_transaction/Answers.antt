@@ -1,12 +1,11 @@
 -- The transactions below t are open. Assumes nothing.
-use Prim.Native.Nat.{◌-◌, ◌<◌, ◌≤◌}
+use Prim.Native.Nat.{◌-◌, ◌<◌}
 use borrow.Author.Rules.{rules}
 use borrow.Author.Tests.{not-false, not-true}
 use mathlib.Core.Path.{◌∙◌, ◌≡◌, sym}
 use native.Mathlib.Omega.{arith}
 use Rattle.image.specs.Layout.{tran_bound}
 use Rattle.control.specs.Meaning.{meaning}
-use Rattle.queries.specs.Queries.{free_from, free_in}
 use Rattle.queries.proofs.Telling.{free-first, free-found, free-none, free-passed}
 use mathlib.Core.Bool.{not}
 use mathlib.Core.Path.{ap}

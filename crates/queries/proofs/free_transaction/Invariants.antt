@@ -1,13 +1,9 @@
 -- The transactions below t are open. Assumes nothing.
-use Prim.Native.Nat.{◌-◌, ◌<◌, ◌≤◌}
-use borrow.Author.Rules.{rules}
-use borrow.Author.Tests.{not-false, not-true}
-use mathlib.Core.Path.{◌∙◌, ◌≡◌, sym}
-use native.Mathlib.Omega.{arith}
+use Prim.Native.Nat.{◌-◌, ◌≤◌}
+use mathlib.Core.Path.{◌≡◌}
 use Rattle.image.specs.Layout.{tran_bound}
 use Rattle.control.specs.Meaning.{meaning}
 use Rattle.queries.specs.Queries.{free_from, free_in}
-use Rattle.queries.proofs.Telling.{free-first, free-found, free-none, free-passed}
 use Rattle.queries.proofs.free_transaction.Given as goal
 
 abbrev pub invariant-loop-t : goal.invariant-loop-t

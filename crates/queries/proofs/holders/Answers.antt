@@ -1,6 +1,5 @@
 -- Refused as the get is, or the number of the holders' mask. Assumes nothing.
 use Prim.Native.Nat.{ℕ}
-use borrow.Author.Rules.{rules}
 use mathlib.Core.Path.{◌∙◌, ap}
 use native.Mathlib.Omega.{arith}
 use Rattle.mask.specs.Masks.{byte}

@@ -1,6 +1,5 @@
 -- Each return is one of the laws of a call on a record. Assumes nothing.
 use mathlib.Core.Path.{◌∙◌, ap}
-use borrow.Author.Rules.{rules}
 use borrow.Author.Tests.{not-false, not-true}
 use Rattle.slot.specs.Words.{state_of}
 use Rattle.slot.specs.declared.Entry.{Entry}
@@ -9,7 +8,6 @@ use Rattle.cabinet_rules.specs.Cabinet.{cabinet}
 use Rattle.cabinet_rules.specs.Images.{control_in, state_in}
 use Rattle.promise.specs.Laid.{laid}
 use Rattle.records.proofs.Calls.{delete-absent, delete-done, delete-refused, rec-fits, tran-fits, whole}
-use mathlib.Core.Bool.{not}
 use Rattle.records.proofs.delete.Goals as goal
 
 pub returns-then-found-ne0 : goal.returns-then-found-ne0

@@ -1,5 +1,4 @@
 -- Each return is one of the laws of a call on a record. Assumes nothing.
-use borrow.Author.Rules.{rules}
 use Rattle.records.proofs.Calls.{get-done, get_refused, rec-fits, whole}
 use Rattle.records.proofs.get.Goals as goal
 

@@ -2,7 +2,6 @@
 use mathlib.Core.Path.{◌∙◌, refl, sym}
 use Rattle.method.specs.Rules.{move}
 use Rattle.promise.proofs.Finish.{by_form, by-rules, given}
-use borrow.Author.Rules.{rules}
 use Rattle.reorganise.proofs.move_block.Goals as goal
 
 pub returns-then-found-ne0 : goal.returns-then-found-ne0

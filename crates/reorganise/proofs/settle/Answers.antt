@@ -12,7 +12,6 @@ use Rattle.promise.specs.declared.Answer.TheVariants.{Retired}
 use Rattle.promise.proofs.Finish.{by_form, by-rules, given, given-whole}
 use Rattle.promise.proofs.WholePart.{by_whole, whole-tail}
 use Rattle.reorganise.proofs.Settles.{settle-plan}
-use borrow.Author.Rules.{rules}
 use Rattle.reorganise.proofs.settle.Goals as goal
 
 pub returns-then-found-ne0 : goal.returns-then-found-ne0

@@ -1,5 +1,4 @@
 -- A member is missing, or the test of the placements decides. Assumes nothing.
-use borrow.Author.Rules.{rules}
 use Rattle.lists.proofs.Bools.{not_is, not-not-is}
 use Rattle.returns.proofs.Running.{all-members, member-missing}
 use mathlib.Core.Bool.{not}

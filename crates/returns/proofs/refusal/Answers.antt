@@ -5,8 +5,6 @@ use mir.Val.{Fits}
 use Rattle.lists.proofs.Bools.{not_is, not-not-is}
 use Rattle.promise.proofs.Finish.{given-whole}
 use Rattle.returns.proofs.Rows.{FailedCard, failed-card, not-failed, other-stamp, out_of_range_lem, runs, same-stamp}
-use mathlib.Core.Bool.{not}
-use mathlib.Core.Path.{ap}
 use Rattle.returns.proofs.refusal.Goals as goal
 
 pub returns-then-card-ge-MOST_CARDS : goal.returns-then-card-ge-MOST_CARDS

@@ -1,5 +1,4 @@
 -- The locks, the control part with the card, and whether it runs, one after the other. Assumes nothing.
-use borrow.Author.Rules.{rules}
 use mathlib.Core.Path.{◌∙◌, refl}
 use native.Mathlib.Omega.{arith}
 use Rattle.promise.proofs.Finish.{given-whole}

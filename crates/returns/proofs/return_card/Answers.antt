@@ -1,5 +1,4 @@
 -- Refused by the form or by a row, or taken. Assumes nothing.
-use borrow.Author.Rules.{rules}
 use mathlib.Core.Path.{◌∙◌, sym}
 use Rattle.promise.specs.Given.{Given}
 use Rattle.promise.proofs.Finish.{given}

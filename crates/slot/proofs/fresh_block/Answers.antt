@@ -1,6 +1,5 @@
 -- The array is the fresh block, byte by byte. Assumes nothing.
 use mathlib.Core.Path.{refl}
-use borrow.Author.Rules.{rules}
 use Rattle.lists.specs.Tabulate.{tabulate}
 use Rattle.slot.proofs.fresh_block.Goals as goal
 

@@ -1,7 +1,6 @@
 -- `store::perform` meets its contract: each arm is given which call was asked, and its callee keeps that promise.
 -- Assumes nothing.
 use mathlib.Core.Path.{◌≡◌, sym, subst}
-use borrow.Author.Rules.{rules}
 use Rattle.cabinet_rules.specs.Images.{Image}
 use Rattle.promise.specs.Promise.{Done, asked}
 use Rattle.promise.specs.declared.Call.{Call}

@@ -2,7 +2,6 @@
 -- bytes. Assumes nothing.
 use mathlib.Core.Path.{◌∙◌, sym}
 use Rattle.command.proofs.Meaning.{obeyed-asked, obeyed-malformed}
-use borrow.Author.Rules.{rules}
 use Rattle.store.proofs.perform_command.Goals as goal
 
 pub returns-in-Asks : goal.returns-in-Asks

@@ -8,7 +8,6 @@ use Rattle.promise.proofs.Finish.{by_form, by-look, by-rules, given, given-whole
 use Rattle.promise.specs.Rows.{card_rows}
 use Rattle.promise.proofs.SharedRows.{card-accepted, card-given}
 use Rattle.survey.proofs.Loads.{load-plan, load-rows}
-use borrow.Author.Rules.{rules}
 use Rattle.survey.proofs.load.Goals as goal
 
 pub returns-then-found-ne0 : goal.returns-then-found-ne0

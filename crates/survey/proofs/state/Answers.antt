@@ -7,7 +7,6 @@ use Rattle.promise.specs.declared.Answer.TheVariants.{Protected, Unprotected}
 use Rattle.promise.proofs.Finish.{by_form, by-look, by-rules, given}
 use Rattle.promise.proofs.SharedRows.{state-rows}
 use Rattle.survey.proofs.States.{state-plan}
-use borrow.Author.Rules.{rules}
 use Rattle.survey.proofs.state.Goals as goal
 
 pub returns-then-found-ne0 : goal.returns-then-found-ne0

@@ -1,13 +1,9 @@
 -- The lines before i are in range: a search that stops at the first that is not. Assumes nothing.
 use mathlib.Core.Bool.{true}
-use mathlib.Core.Path.{◌∙◌, ◌≡◌, ap, refl, sym}
-use Prim.Native.Nat.{ℕ, ◌-◌, ◌<◌, ◌≤◌}
-use native.Mathlib.Omega.{arith}
-use borrow.Author.Rules.{rules}
-use borrow.Author.Tests.{not-false, not-true}
+use mathlib.Core.Path.{◌≡◌}
+use Prim.Native.Nat.{◌-◌, ◌≤◌}
 use Rattle.lists.specs.Tests.{all_below}
-use Rattle.lists.proofs.Counts.{all-fails, all_more}
-use Rattle.table_lines.specs.Lines.{line_at, line_count, line_in_range}
+use Rattle.table_lines.specs.Lines.{line_at, line_in_range}
 use Rattle.table_lines.proofs.all_in_range.Given as goal
 
 abbrev pub invariant-loop-i : goal.invariant-loop-i

@@ -2,7 +2,6 @@
 use mathlib.Core.Bool.{false, true}
 use mathlib.Core.Path.{◌∙◌, ◌≡◌, sym}
 use native.Mathlib.Omega.{arith}
-use borrow.Author.Rules.{rules}
 use Rattle.table_lines.specs.Lines.{has_block}
 use Rattle.table_lines.specs.Meant.{meant}
 use Rattle.table_lines.proofs.count_line.Goals as goal

@@ -1,12 +1,11 @@
 -- What is found is of the blocks below b, each looked up once. Assumes nothing.
 use mathlib.Core.Bool.{Bool, ◌||◌}
 use mathlib.Core.Path.{◌∙◌, ◌≡◌, ap₂, refl, sym}
-use Prim.Native.Nat.{ℕ, ◌-◌, ◌≤◌}
+use Prim.Native.Nat.{ℕ, ◌-◌}
 use native.Mathlib.Omega.{arith}
 use lib.Dec.{eqb, ltb}
-use borrow.Author.Rules.{rules}
 use Rattle.image.specs.Layout.{block_count}
-use Rattle.table_lines.proofs.Lines.{gap_is, gap_more, gap_below, overlap-is, overlap-more, overlap_below}
+use Rattle.table_lines.proofs.Lines.{gap_is, gap_more, overlap-is, overlap-more}
 use Rattle.table_lines.proofs.coverage.Goals as goal
 
 pub loop-b-init : goal.loop-b-init

@@ -2,7 +2,6 @@
 use Prim.Native.Nat.{◌%◌}
 use native.Mathlib.Omega.{arith}
 use lib.ListN.{length}
-use borrow.Author.Rules.{rules}
 use borrow.Author.Tests.{eq-eqb, le-leb, lt-leb, ne_eqb}
 use Rattle.table_lines.specs.Lines.{are_lines, line_count, line_size, most_lines}
 use Rattle.table_lines.proofs.in_range.Goals as goal

@@ -1,6 +1,5 @@
 -- Each test of the definition is tried in its turn, and the first that fails is the answer. Assumes nothing.
 use native.Mathlib.Omega.{arith}
-use borrow.Author.Rules.{rules}
 use borrow.Author.Tests.{le-leb, le-ltb, lt-leb, lt-ltb}
 use Rattle.image.specs.Layout.{block_count, card_count}
 use Rattle.table_lines.specs.Lines.{line_in_range}

@@ -3,7 +3,6 @@ use mathlib.Core.Bool.{false, true}
 use mathlib.Core.Path.{◌∙◌, ◌≡◌, sym}
 use native.Mathlib.Omega.{arith}
 use lib.Dec.{eqb}
-use borrow.Author.Rules.{rules}
 use borrow.Author.Tests.{eq-eqb, ne_eqb, not-false, not-true}
 use Rattle.mask.specs.Masks.{byte, has_card}
 use Rattle.table_lines.specs.Lines.{line_works}

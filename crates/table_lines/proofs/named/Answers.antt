@@ -1,9 +1,9 @@
 -- The mask has the cards that the first i lines name. Assumes nothing.
 use mathlib.Core.Path.{◌∙◌, ◌≡◌, ap, ap₂, refl, sym}
-use Prim.Native.Nat.{◌-◌, ◌<◌, ◌≤◌}
+use Prim.Native.Nat.{◌-◌, ◌<◌}
 use native.Mathlib.Omega.{arith}
 use borrow.Author.Rules.{rules}
-use Rattle.mask.specs.Masks.{Byte, byte, with_card}
+use Rattle.mask.specs.Masks.{Byte, with_card}
 use Rattle.table_lines.specs.Lines.{Line, line_count, named_by}
 use Rattle.table_lines.specs.Meant.{meant}
 use Rattle.table_lines.proofs.Lines.{line-cards, named_more}

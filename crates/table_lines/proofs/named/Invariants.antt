@@ -1,12 +1,8 @@
 -- The mask has the cards that the first i lines name. Assumes nothing.
-use mathlib.Core.Path.{◌∙◌, ◌≡◌, ap, ap₂, refl, sym}
-use Prim.Native.Nat.{◌-◌, ◌<◌, ◌≤◌}
-use native.Mathlib.Omega.{arith}
-use borrow.Author.Rules.{rules}
-use Rattle.mask.specs.Masks.{Byte, byte, with_card}
-use Rattle.table_lines.specs.Lines.{Line, line_count, named_by}
-use Rattle.table_lines.specs.Meant.{meant}
-use Rattle.table_lines.proofs.Lines.{line-cards, named_more}
+use mathlib.Core.Path.{◌≡◌}
+use Prim.Native.Nat.{◌-◌, ◌≤◌}
+use Rattle.mask.specs.Masks.{byte}
+use Rattle.table_lines.specs.Lines.{named_by}
 use Rattle.table_lines.proofs.named.Given as goal
 
 abbrev pub invariant-loop-i : goal.invariant-loop-i

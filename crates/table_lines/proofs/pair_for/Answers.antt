@@ -1,11 +1,10 @@
 -- The pair is that of the last of the first i lines that has the block. Assumes nothing.
 use mathlib.Core.Bool.{cond}
 use mathlib.Core.Path.{◌∙◌, ◌≡◌, ap, ap₂, refl, sym}
-use Prim.Native.Nat.{ℕ, ◌+◌, ◌*◌, ◌-◌, ◌<◌, ◌≤◌}
+use Prim.Native.Nat.{ℕ, ◌+◌, ◌*◌, ◌-◌, ◌<◌}
 use native.Mathlib.Omega.{arith}
 use borrow.Author.Rules.{rules}
 use Rattle.image.specs.Layout.{card_count}
-use Rattle.mask.specs.Pairs.{pair_bound}
 use Rattle.table_lines.specs.Lines.{Line, has_block, line_count, pair_by}
 use Rattle.table_lines.specs.Meant.{meant}
 use Rattle.table_lines.proofs.Lines.{line-cards, pair-more}

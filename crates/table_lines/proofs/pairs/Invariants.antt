@@ -1,14 +1,11 @@
 -- The first b elements are the pairs of the blocks below b; at the end all are, and what is packed of them is what is packed of the pairs.
 -- Assumes nothing.
-use mathlib.Core.Path.{◌∙◌, ◌≡◌, refl}
-use Prim.Native.Nat.{◌+◌, ◌-◌, ◌≤◌}
-use native.Mathlib.Omega.{arith}
-use lib.ListN.{get_or, length, length-set}
-use borrow.Author.Rules.{rules}
+use mathlib.Core.Path.{◌≡◌}
+use Prim.Native.Nat.{◌-◌, ◌≤◌}
+use lib.ListN.{length}
 use Rattle.image.specs.Layout.{block_count}
-use Rattle.mask.proofs.PairLaws.{Holds, set_more}
+use Rattle.mask.proofs.PairLaws.{Holds}
 use Rattle.table_lines.specs.Lines.{line_count, pair_by}
-use Rattle.table_lines.proofs.Packed.{from-same}
 use Rattle.table_lines.proofs.pairs.Given as goal
 
 abbrev pub invariant-loop-b : goal.invariant-loop-b

@@ -1,6 +1,5 @@
 -- One card and then the other is put into the mask. Assumes nothing.
 use mathlib.Core.Path.{◌∙◌, ap}
-use borrow.Author.Rules.{rules}
 use Rattle.mask.specs.Masks.{Byte, with_card}
 use Rattle.table_lines.proofs.with_line.Goals as goal
 

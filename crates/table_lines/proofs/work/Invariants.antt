@@ -1,14 +1,10 @@
 -- The lines before i have different cards that work: a search that stops at the first that has not. Assumes nothing.
 use mathlib.Core.Bool.{true}
-use mathlib.Core.Path.{◌∙◌, ◌≡◌, ap, refl, sym}
-use Prim.Native.Nat.{ℕ, ◌-◌, ◌<◌, ◌≤◌}
-use native.Mathlib.Omega.{arith}
-use borrow.Author.Rules.{rules}
-use borrow.Author.Tests.{not-false, not-true}
+use mathlib.Core.Path.{◌≡◌}
+use Prim.Native.Nat.{◌-◌, ◌≤◌}
 use Rattle.lists.specs.Tests.{all_below}
-use Rattle.lists.proofs.Counts.{all-fails, all_more}
 use Rattle.mask.specs.Masks.{byte}
-use Rattle.table_lines.specs.Lines.{line_at, line_count, line_works, lines_work}
+use Rattle.table_lines.specs.Lines.{line_at, line_works}
 use Rattle.table_lines.proofs.work.Given as goal
 
 abbrev pub invariant-loop-i : goal.invariant-loop-i

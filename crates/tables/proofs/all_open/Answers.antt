@@ -1,5 +1,4 @@
 -- With every, the set of what was begun is the set of what is open. Assumes nothing.
-use borrow.Author.Rules.{rules}
 use Rattle.control.specs.Meaning.{meaning}
 use Rattle.tables.proofs.all_open.Goals as goal
 

@@ -1,5 +1,4 @@
 -- The bytes of the homes mean what the control part says. Assumes nothing.
-use borrow.Author.Rules.{rules}
 use Rattle.control.specs.Meaning.{meaning}
 use Rattle.tables.proofs.begun_at.Goals as goal
 

@@ -1,10 +1,8 @@
 -- The set of the transactions up to i has been collected, and each new bit is above it. Assumes nothing.
-use Prim.Native.Nat.{◌+◌, ◌-◌, ◌≤◌, ℕ}
-use borrow.Author.Rules.{rules}
-use mathlib.Core.Path.{◌∙◌, ◌≡◌, ap}
-use native.Mathlib.Omega.{arith}
-use Rattle.tables.specs.Tables.{set_below, set_of}
-use Rattle.tables.proofs.Sets.{begun, begun-fits, begun-start, begun-turn}
+use Prim.Native.Nat.{◌+◌, ◌-◌, ◌≤◌}
+use mathlib.Core.Path.{◌≡◌}
+use Rattle.tables.specs.Tables.{set_below}
+use Rattle.tables.proofs.Sets.{begun}
 use Rattle.tables.proofs.begun_set.Given as goal
 
 abbrev pub invariant-loop-i : goal.invariant-loop-i

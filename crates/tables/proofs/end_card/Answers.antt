@@ -8,7 +8,6 @@ use Rattle.image.proofs.Parts.{part-within}
 use Rattle.slot.specs.Blocks.{in_set}
 use Rattle.tables.specs.Tables.{ended_table}
 use Rattle.tables.proofs.Ends.{card-off, card-on, keeps-table}
-use borrow.Author.Rules.{rules}
 use Rattle.tables.proofs.end_card.Goals as goal
 
 pub returns-then-on : goal.returns-then-on

@@ -1,18 +1,11 @@
 -- The cards below c have their tables ended; with an empty set nothing is picked. Assumes nothing.
-use Prim.Native.Nat.{◌-◌, ◌≤◌, ℕ}
-use borrow.Author.Rules.{rules}
+use Prim.Native.Nat.{◌-◌, ◌≤◌}
 use lib.ListN.{length}
-use mathlib.Core.Bool.{Bool}
-use mathlib.Core.List.{List}
-use mathlib.Core.Path.{◌∙◌, ◌≡◌, ap, refl, sym}
-use native.Mathlib.Omega.{arith}
-use Rattle.lists.specs.Segments.{within}
-use Rattle.lists.proofs.Each.{each_more, each_none}
-use Rattle.image.specs.Layout.{card_count, control_size, table_size, table_start}
+use mathlib.Core.Path.{◌≡◌}
+use Rattle.image.specs.Layout.{card_count}
 use Rattle.mask.specs.Masks.{byte}
 use Rattle.slot.specs.Blocks.{in_set}
-use Rattle.tables.specs.Tables.{ended_on}
-use Rattle.tables.proofs.Ends.{all-ended, card_wise, none-ended, up_to}
+use Rattle.tables.proofs.Ends.{up_to}
 use Rattle.tables.proofs.end_held.Given as goal
 
 abbrev pub invariant-loop-c : goal.invariant-loop-c

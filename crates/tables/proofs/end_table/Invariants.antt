@@ -1,17 +1,10 @@
 -- The blocks below b have ended, each as the part that was lent. Assumes nothing.
-use Prim.Native.Nat.{◌*◌, ◌+◌, ◌-◌, ◌≤◌, ℕ}
-use borrow.Author.Rules.{rules}
+use Prim.Native.Nat.{◌-◌, ◌≤◌}
 use lib.ListN.{length}
-use mathlib.Core.List.{List}
-use mathlib.Core.Path.{◌∙◌, ◌≡◌, ap, refl, sym}
-use native.Mathlib.Omega.{arith}
-use Rattle.lists.specs.Segments.{each, within}
-use Rattle.lists.proofs.Each.{each_more, each_none}
+use mathlib.Core.Path.{◌≡◌}
+use Rattle.lists.specs.Segments.{each}
 use Rattle.image.specs.Layout.{block_count, block_size}
-use Rattle.image.proofs.Parts.{part-within}
-use Rattle.slot.specs.Blocks.{ended_block, in_set}
-use Rattle.slot.proofs.Ends.{length-ended}
-use Rattle.tables.specs.Tables.{ended_table}
+use Rattle.slot.specs.Blocks.{in_set}
 use Rattle.tables.proofs.Ends.{block_wise}
 use Rattle.tables.proofs.end_table.Given as goal
 

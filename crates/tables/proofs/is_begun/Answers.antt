@@ -1,5 +1,4 @@
 -- Open at all, or open with the card. Assumes nothing.
-use borrow.Author.Rules.{rules}
 use Rattle.control.proofs.Struct.{open-bit}
 use Rattle.tables.proofs.is_begun.Goals as goal
 

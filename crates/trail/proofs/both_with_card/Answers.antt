@@ -1,6 +1,5 @@
 -- The card is taken where it works and holds the block, for each of two blocks. Assumes nothing.
 use Prim.Native.Nat.{◌+◌}
-use borrow.Author.Rules.{rules}
 use mathlib.Core.Path.{◌∙◌, subst, sym}
 use Rattle.mask.specs.Masks.{byte}
 use Rattle.trail.specs.Trail.{WithCard}

@@ -1,12 +1,7 @@
 -- After i turns the holders among the sites of the first i placements are found. Assumes nothing.
-use mathlib.Core.Path.{◌∙◌, ◌≡◌, ap, refl, subst}
 use Prim.Native.Nat.{◌-◌, ◌≤◌}
-use native.Mathlib.Omega.{arith}
-use borrow.Author.Rules.{rules}
-use Rattle.promise.proofs.Finish.{given-whole}
 use Rattle.trail.specs.Trail.{Lists}
-use Rattle.trail.proofs.Holding.{first-all, first_more, first-none, first_holders, usable_at}
-use Rattle.trail.proofs.Listed.{list-none}
+use Rattle.trail.proofs.Holding.{first_holders}
 use Rattle.trail.proofs.find.Given as goal
 
 abbrev pub invariant-loop-i : goal.invariant-loop-i

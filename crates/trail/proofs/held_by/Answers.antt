@@ -1,11 +1,7 @@
 -- The cards before c that hold the block have been found. Assumes nothing.
-use Prim.Native.Nat.{◌-◌, ◌≤◌}
-use borrow.Author.Rules.{rules}
-use lib.Dec.{ltb}
-use mathlib.Core.Bool.{◌&&◌}
+use Prim.Native.Nat.{◌-◌}
 use native.Mathlib.Omega.{arith}
-use Rattle.image.specs.Layout.{card_count}
-use Rattle.mask.specs.Masks.{AreMembers, byte}
+use Rattle.mask.specs.Masks.{byte}
 use Rattle.mask.proofs.Masks.{card-more, none_below}
 use Rattle.trail.specs.Trail.{holds_at}
 use Rattle.trail.proofs.Holding.{all_held}

@@ -1,14 +1,10 @@
 -- The cards before c that hold the block have been found. Assumes nothing.
 use Prim.Native.Nat.{◌-◌, ◌≤◌}
-use borrow.Author.Rules.{rules}
 use lib.Dec.{ltb}
 use mathlib.Core.Bool.{◌&&◌}
-use native.Mathlib.Omega.{arith}
 use Rattle.image.specs.Layout.{card_count}
 use Rattle.mask.specs.Masks.{AreMembers, byte}
-use Rattle.mask.proofs.Masks.{card-more, none_below}
 use Rattle.trail.specs.Trail.{holds_at}
-use Rattle.trail.proofs.Holding.{all_held}
 use Rattle.trail.proofs.held_by.Given as goal
 
 abbrev pub invariant-loop-c : goal.invariant-loop-c

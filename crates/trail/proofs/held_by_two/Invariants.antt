@@ -1,16 +1,11 @@
 -- The cards before c that hold each of the two blocks have been found. Assumes nothing.
 use Prim.Native.Nat.{◌+◌, ◌-◌, ◌≤◌, ℕ}
-use borrow.Author.Rules.{rules}
 use lib.Dec.{ltb}
 use mathlib.Core.Bool.{Bool, ◌&&◌}
-use mathlib.Core.Path.{refl}
-use native.Mathlib.Omega.{arith}
 use Rattle.image.specs.Layout.{card_count}
 use Rattle.mask.specs.Masks.{AreMembers, byte}
-use Rattle.mask.proofs.Masks.{card-more, none_below}
 use Rattle.cabinet_rules.specs.Images.{Image}
 use Rattle.trail.specs.Trail.{holds_at}
-use Rattle.trail.proofs.Holding.{all_held}
 use Rattle.trail.proofs.held_by_two.Given as goal
 
 -- The cards below c that hold block b.

@@ -1,6 +1,5 @@
 -- A card holds the block where it works and its block is held. Assumes nothing.
 use mathlib.Core.Path.{◌∙◌, sym}
-use borrow.Author.Rules.{rules}
 use Rattle.trail.specs.Trail.{holds_at}
 use Rattle.trail.proofs.holds.Goals as goal
 

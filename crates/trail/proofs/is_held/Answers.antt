@@ -1,7 +1,6 @@
 -- The first byte of the block, read in the image, shows whether it is held. Assumes nothing.
 use native.Mathlib.Omega.{arith}
 use Rattle.trail.proofs.Holding.{held-byte}
-use borrow.Author.Rules.{rules}
 use Rattle.trail.proofs.is_held.Goals as goal
 
 pub returns : goal.returns

@@ -1,6 +1,5 @@
 -- The card stands at the end of the list where it holds the block. Assumes nothing.
 use mathlib.Core.Path.{◌∙◌, sym}
-use borrow.Author.Rules.{rules}
 use Rattle.mask.specs.Masks.{byte}
 use Rattle.trail.specs.Trail.{holds_at}
 use Rattle.trail.proofs.Listed.{push-no, push-yes}

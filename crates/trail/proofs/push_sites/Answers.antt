@@ -2,10 +2,9 @@
 use mathlib.Core.Bool.{Bool}
 use mathlib.Core.List.{List}
 use mathlib.Core.Path.{◌∙◌, ◌≡◌, ap, subst, sym}
-use Prim.Native.Nat.{ℕ, ◌-◌, ◌≤◌}
+use Prim.Native.Nat.{ℕ, ◌-◌}
 use native.Mathlib.Omega.{arith}
-use lib.ListN.{get_or, length, take}
-use borrow.Author.Rules.{rules}
+use lib.ListN.{get_or, length}
 use Rattle.mask.specs.Masks.{byte}
 use Rattle.mask.specs.Placements.{site_list}
 use Rattle.mask.proofs.SiteLaws.{listed_at, listed-card, site-count}

@@ -1,16 +1,9 @@
 -- After n turns the first n sites are added where they hold the block. Assumes nothing.
-use mathlib.Core.Bool.{Bool}
-use mathlib.Core.List.{List}
-use mathlib.Core.Path.{◌∙◌, ◌≡◌, ap, subst, sym}
-use Prim.Native.Nat.{ℕ, ◌-◌, ◌≤◌}
-use native.Mathlib.Omega.{arith}
-use lib.ListN.{get_or, length, take}
-use borrow.Author.Rules.{rules}
+use Prim.Native.Nat.{◌-◌, ◌≤◌}
+use lib.ListN.{take}
 use Rattle.mask.specs.Masks.{byte}
 use Rattle.mask.specs.Placements.{site_list}
-use Rattle.mask.proofs.SiteLaws.{listed_at, listed-card, site-count}
-use Rattle.trail.specs.Trail.{Adds, holds_at, shown_at}
-use Rattle.trail.proofs.Listed.{add-all, add-more, add_none}
+use Rattle.trail.specs.Trail.{Adds, holds_at}
 use Rattle.trail.proofs.push_sites.Given as goal
 
 abbrev pub invariant-loop-n : goal.invariant-loop-n

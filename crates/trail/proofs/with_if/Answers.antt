@@ -1,5 +1,4 @@
 -- The card is added where the test says so. Assumes nothing.
-use borrow.Author.Rules.{rules}
 use Rattle.trail.proofs.with_if.Goals as goal
 
 pub returns-then-on : goal.returns-then-on

@@ -1,5 +1,4 @@
 -- Refused by the form or by a row; else the transaction opens, and only the control part changes. Assumes nothing.
-use borrow.Author.Rules.{rules}
 use mathlib.Core.Path.{◌∙◌, ap, refl, sym}
 use native.Mathlib.Omega.{arith}
 use Rattle.method.specs.Rules.{begin}

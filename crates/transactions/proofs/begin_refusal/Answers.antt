@@ -2,15 +2,13 @@
 use Prim.Native.Nat.{ℕ}
 use mathlib.Core.Bool.{Bool}
 use mathlib.Core.Path.{◌∙◌, ◌≡◌, ap, sym}
-use borrow.Author.Rules.{rules}
-use borrow.Author.Tests.{le-ltb, lt-ltb, not-false, not-true}
+use borrow.Author.Tests.{le-ltb, lt-ltb}
 use Rattle.mask.specs.Masks.{byte, has_card}
 use Rattle.method.specs.Rules.{refusal}
 use Rattle.control.specs.Meaning.{meaning, newest_mask}
 use Rattle.control.specs.declared.Control.{Control}
 use Rattle.promise.proofs.SharedRows.{tran-range}
 use Rattle.transactions.specs.Transactions.{begin_rows}
-use mathlib.Core.Bool.{not}
 use Rattle.transactions.proofs.begin_refusal.Goals as goal
 
 -- Whether the newest placement has card h, by its mask.

@@ -1,5 +1,4 @@
 -- Refused by the form or by a row; else the transaction has ended in the blocks and is closed. Assumes nothing.
-use borrow.Author.Rules.{rules}
 use mathlib.Core.Path.{◌∙◌, sym}
 use Rattle.control.specs.Meaning.{meaning}
 use Rattle.promise.proofs.Finish.{by_form, given}

@@ -1,6 +1,5 @@
 -- What the tables' end leaves, with the control part written over it. Assumes nothing.
 use Prim.Native.Nat.{ℕ}
-use borrow.Author.Rules.{rules}
 use lib.Dec.{eqb}
 use mathlib.Core.List.{List}
 use mathlib.Core.Path.{◌∙◌, ap}

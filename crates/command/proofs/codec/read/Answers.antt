@@ -5,7 +5,6 @@ use Rattle.command.proofs.FieldCodec.{shown-form, shown-length}
 use Rattle.command.specs.declared.Fields.{Fields}
 use Rattle.command.specs.declared.codec.Shown.TheVariants.{Has}
 use Rattle.command.specs.Commands.{fields_in, formed}
-use borrow.Author.Rules.{rules}
 use Rattle.command.proofs.codec.read.Goals as goal
 
 pub returns-then-bytes-ne-SIZE : goal.returns-then-bytes-ne-SIZE

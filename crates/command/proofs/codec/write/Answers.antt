@@ -2,7 +2,6 @@
 use mathlib.Core.Path.{◌∙◌, sym}
 use mathlib.Core.Bool.{false, true}
 use Rattle.command.proofs.FieldCodec.{fields_fit_lem, fields-length}
-use borrow.Author.Rules.{rules}
 use Rattle.command.proofs.codec.write.Goals as goal
 
 pub returns-then-bytes-ne-SIZE : goal.returns-then-bytes-ne-SIZE

@@ -1,13 +1,12 @@
 -- The bytes before i are what is kept of them, the others as they were. Assumes nothing.
-use mathlib.Core.Path.{◌≡◌, refl, ap, ◌∙◌}
-use Prim.Native.Nat.{ℕ, ◌≤◌, ◌<◌, ◌-◌}
+use mathlib.Core.Path.{refl, ap, ◌∙◌}
+use Prim.Native.Nat.{ℕ, ◌-◌}
 use native.Mathlib.Nat.{not-suc-le-zero}
 use native.Mathlib.Omega.{arith}
 use borrow.Author.Rules.{rules}
-use lib.ListN.{length, get_or, set, length-set}
+use lib.ListN.{get_or, set, length-set}
 use lib.Seq.{get_or-set_other}
 use Rattle.lists.proofs.Segments.{fill_more}
-use Rattle.image.specs.Layout.{tran_count}
 use Rattle.control.specs.Meaning.{kept_home}
 use Rattle.control.proofs.Changes.{close-at-is}
 use Rattle.control.proofs.Control.close_at.Goals as goal

@@ -2,7 +2,6 @@
 use mathlib.Core.Path.{refl}
 use Rattle.control.specs.Meaning.{meaning}
 use Rattle.control.proofs.Changes.{cards-are}
-use borrow.Author.Rules.{rules}
 use Rattle.control.proofs.Control.dismiss.Goals as goal
 
 pub returns : goal.returns

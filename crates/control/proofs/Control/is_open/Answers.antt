@@ -1,7 +1,6 @@
 -- Open is the highest bit of the transaction's byte (`open-bit`). Assumes nothing.
 use Prim.Native.Nat.{◌-◌}
 use lib.ListN.{get_or}
-use borrow.Author.Rules.{rules}
 use borrow.Author.Tests.{lt-ltb}
 use Rattle.image.specs.Layout.{tran_bound}
 use Rattle.control.specs.Meaning.{meaning}

@@ -1,7 +1,6 @@
 -- With other working and failed cards the struct means what the cards alone change (`cards-are`). Assumes nothing.
 use Rattle.control.specs.Meaning.{meaning}
 use Rattle.control.proofs.Changes.{cards-are}
-use borrow.Author.Rules.{rules}
 use Rattle.control.proofs.Control.mark_failed.Goals as goal
 
 pub returns : goal.returns

@@ -1,6 +1,5 @@
 -- The newest mask alone, with its marks in the first place, means the newest placement (`retire-is`). Assumes nothing.
 use Rattle.control.proofs.Changes.{retire-is}
-use borrow.Author.Rules.{rules}
 use Rattle.control.proofs.Control.retire.Goals as goal
 
 pub returns : goal.returns

@@ -2,7 +2,6 @@
 use mathlib.Core.Path.{ap}
 use Prim.Native.Nat.{ℕ, ◌*◌, ◌-◌, ◌%◌}
 use lib.Bits.{bit_and}
-use borrow.Author.Rules.{rules}
 use Rattle.control.specs.Meaning.{clean_marks}
 use Rattle.control.proofs.codec.clean_marks.Goals as goal
 

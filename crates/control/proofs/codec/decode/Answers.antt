@@ -1,6 +1,5 @@
 -- Each field is read at its offset, as the definition names it, the serial by its reader. Assumes nothing.
 use Rattle.control.proofs.Struct.{decoded}
-use borrow.Author.Rules.{rules}
 use Rattle.control.proofs.codec.decode.Goals as goal
 
 pub returns : goal.returns

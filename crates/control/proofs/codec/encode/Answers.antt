@@ -1,11 +1,10 @@
 -- The bytes are written from the front, field by field, each as the rules give it. Assumes nothing.
 use mathlib.Core.Path.{◌≡◌, ap, subst, ◌∙◌}
-use Prim.Native.Nat.{ℕ, ◌+◌, ◌*◌, ◌-◌, ◌≤◌}
+use Prim.Native.Nat.{ℕ, ◌+◌, ◌*◌, ◌-◌}
 use native.Mathlib.Omega.{arith}
 use mir.Syntax.{w8}
 use mir.Val.{Fits}
 use borrow.Author.Rules.{rules}
-use Rattle.image.specs.Layout.{most_active, tran_count}
 use Rattle.control.specs.ControlBytes.{control_byte, failed_at, field, homes_at, marks_at, masks_at, serial_at, serial_end, working_at}
 use Rattle.control.specs.Meaning.{mask_in, meaning}
 use Rattle.control.proofs.Struct.{byte-first, byte-mask-at, byte-working, byte-failed, byte-marks, byte-home}

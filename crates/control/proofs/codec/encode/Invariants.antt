@@ -1,16 +1,9 @@
 -- The bytes are written from the front, field by field, each as the rules give it. Assumes nothing.
-use mathlib.Core.Path.{◌≡◌, ap, subst, ◌∙◌}
-use Prim.Native.Nat.{ℕ, ◌+◌, ◌*◌, ◌-◌, ◌≤◌}
-use native.Mathlib.Omega.{arith}
-use mir.Syntax.{w8}
-use mir.Val.{Fits}
-use borrow.Author.Rules.{rules}
+use Prim.Native.Nat.{◌+◌, ◌-◌, ◌≤◌}
 use Rattle.image.specs.Layout.{most_active, tran_count}
-use Rattle.control.specs.ControlBytes.{control_byte, failed_at, field, homes_at, marks_at, masks_at, serial_at, serial_end, working_at}
-use Rattle.control.specs.Meaning.{mask_in, meaning}
-use Rattle.control.proofs.Struct.{byte-first, byte-mask-at, byte-working, byte-failed, byte-marks, byte-home}
-use Rattle.control.proofs.Struct.{byte-rest, bit_le, written-serial}
-use Rattle.control.proofs.Written.{Written, none_written, one_written, all-written}
+use Rattle.control.specs.ControlBytes.{control_byte, homes_at, masks_at}
+use Rattle.control.specs.Meaning.{meaning}
+use Rattle.control.proofs.Written.{Written}
 use Rattle.control.proofs.codec.encode.Given as goal
 
 abbrev pub invariant-loop-i : goal.invariant-loop-i

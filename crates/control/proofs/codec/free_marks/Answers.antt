@@ -1,7 +1,6 @@
 -- A shift by the count is a division by its power of two. Assumes nothing.
 use mathlib.Core.Path.{refl}
 use native.Mathlib.Omega.{arith}
-use borrow.Author.Rules.{rules}
 use Rattle.control.specs.Meaning.{free_marks}
 use Rattle.control.proofs.Marks.{free-small}
 use Rattle.control.proofs.codec.free_marks.Goals as goal

@@ -1,6 +1,5 @@
 -- By whether the byte is open. Assumes nothing.
 use borrow.Author.Tests.{le-leb, lt-leb}
-use borrow.Author.Rules.{rules}
 use Rattle.control.proofs.codec.home_byte.Goals as goal
 
 pub home_of-requires : goal.home_of-requires

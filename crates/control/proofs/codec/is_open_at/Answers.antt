@@ -9,7 +9,6 @@ use Rattle.method.specs.Slots.{is_some}
 use Rattle.control.specs.ControlBytes.{home_at, tail_at}
 use Rattle.control.proofs.Fields.{shown-home}
 use Rattle.control.proofs.Struct.{open-bit}
-use borrow.Author.Rules.{rules}
 use Rattle.control.proofs.codec.is_open_at.Goals as goal
 
 pub returns : goal.returns

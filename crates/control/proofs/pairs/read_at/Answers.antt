@@ -5,7 +5,6 @@ use Prim.Native.Nat.{ℕ, ◌-◌, ◌+◌}
 use native.Mathlib.Omega.{arith}
 use lib.Seq.{ext_get_or}
 use lib.ListN.{length, get_or}
-use borrow.Author.Rules.{rules}
 use Rattle.lists.specs.Segments.{splice}
 use Rattle.lists.proofs.Segments.{get_or-in, length-segment, length-splice}
 use Rattle.image.specs.Layout.{pairs_size}

@@ -10,7 +10,6 @@ use Rattle.image.specs.Parts.{zeros}
 use Rattle.image.proofs.Parts.{length_part, part_left}
 use Rattle.image.proofs.Zeros.{length-zeros}
 use Rattle.control.proofs.PutTail.{length_front, put-retired}
-use borrow.Author.Rules.{rules}
 use Rattle.control.proofs.pairs.retire.Goals as goal
 
 pub returns : goal.returns

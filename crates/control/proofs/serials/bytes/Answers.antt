@@ -1,7 +1,6 @@
 -- Each byte is the serial's by its weight. Assumes nothing.
 use mathlib.Core.Path.{refl}
 use Rattle.lists.specs.Tabulate.{tabulate}
-use borrow.Author.Rules.{rules}
 use Rattle.control.proofs.serials.bytes.Goals as goal
 
 pub returns : goal.returns

@@ -1,7 +1,6 @@
 -- Each byte with its weight. Assumes nothing.
 use native.Mathlib.Omega.{arith}
 use Rattle.control.proofs.SerialLaws.{three-bytes}
-use borrow.Author.Rules.{rules}
 use Rattle.control.proofs.serials.read.Goals as goal
 
 pub returns : goal.returns

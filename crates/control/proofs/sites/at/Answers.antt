@@ -4,7 +4,6 @@ use lib.ListN.{get_or}
 use Rattle.mask.specs.Placements.{AreSites, Placement, meant}
 use Rattle.control.specs.ControlBytes.{tail_at}
 use Rattle.control.proofs.ShownSites.{masked-enough, of-masked, table-sites-are}
-use borrow.Author.Rules.{rules}
 use Rattle.control.proofs.sites.at.Goals as goal
 
 pub returns-then-by_table : goal.returns-then-by_table

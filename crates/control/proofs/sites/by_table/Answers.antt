@@ -6,7 +6,6 @@ use native.Mathlib.Omega.{arith}
 use lib.Bits.{bit_and}
 use lib.Dec.{eqb}
 use lib.ListN.{get_or}
-use borrow.Author.Rules.{rules}
 use Rattle.image.specs.Layout.{most_active}
 use Rattle.control.specs.ControlBytes.{marks_at}
 use Rattle.control.proofs.Marks.{mark-is, table-bit}

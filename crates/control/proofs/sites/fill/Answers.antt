@@ -9,7 +9,6 @@ use Rattle.mask.specs.Placements.{Placement, meant}
 use Rattle.mask.specs.SiteMasks.{SitesIn}
 use Rattle.control.specs.ControlBytes.{tail_at}
 use Rattle.control.proofs.ShownSites.{lent-pair, masked-enough, of-masked, table-masks}
-use borrow.Author.Rules.{rules}
 use Rattle.control.proofs.sites.fill.Goals as goal
 
 pub returns-then-by_table : goal.returns-then-by_table

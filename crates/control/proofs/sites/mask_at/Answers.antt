@@ -5,7 +5,6 @@ use Rattle.mask.specs.Masks.{AreMembers}
 use Rattle.mask.specs.Placements.{Placement, is_site, meant}
 use Rattle.control.specs.ControlBytes.{tail_at}
 use Rattle.control.proofs.ShownSites.{masked-enough, of-masked, table-mask-is}
-use borrow.Author.Rules.{rules}
 use Rattle.control.proofs.sites.mask_at.Goals as goal
 
 pub returns-then-by_table : goal.returns-then-by_table

@@ -7,7 +7,6 @@ use lib.ListN.{get_or}
 use Rattle.mask.specs.Masks.{byte}
 use Rattle.control.specs.ControlBytes.{marks_at, masks_at}
 use Rattle.control.proofs.Marks.{mark-is}
-use borrow.Author.Rules.{rules}
 use Rattle.control.proofs.sites.masked.Goals as goal
 
 pub returns : goal.returns

@@ -4,7 +4,6 @@ use Prim.Native.Nat.{◌+◌, ◌-◌}
 use native.Mathlib.Omega.{arith}
 use Rattle.image.specs.Layout.{pairs_size}
 use Rattle.control.proofs.ShownSites.{lent-pair}
-use borrow.Author.Rules.{rules}
 use Rattle.control.proofs.sites.pair.Goals as goal
 
 pub returns : goal.returns

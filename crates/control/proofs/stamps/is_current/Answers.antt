@@ -6,7 +6,6 @@ use Rattle.image.specs.Layout.{end_start}
 use Rattle.control.specs.ControlBytes.{serial_size}
 use Rattle.control.specs.Serials.{serial_in}
 use Rattle.control.proofs.StampLaws.{by_mask_lem, other-serial}
-use borrow.Author.Rules.{rules}
 use Rattle.control.proofs.stamps.is_current.Goals as goal
 
 pub returns-then-read-serial : goal.returns-then-read-serial

@@ -6,7 +6,6 @@ use Rattle.lists.specs.Segments.{splice}
 use Rattle.image.specs.Parts.{put_end}
 use Rattle.control.specs.Stamps.{put_stamp}
 use Rattle.control.proofs.StampLaws.{stamp-row}
-use borrow.Author.Rules.{rules}
 use Rattle.control.proofs.stamps.put.Goals as goal
 
 pub returns : goal.returns

@@ -1,13 +1,10 @@
 -- The cards below i have their stamps; a turn is one card more. Assumes nothing.
-use mathlib.Core.Path.{◌≡◌, refl, sym, ap, ◌∙◌}
-use Prim.Native.Nat.{◌+◌, ◌-◌, ◌≤◌}
-use native.Mathlib.Omega.{arith}
+use mathlib.Core.Path.{◌≡◌}
+use Prim.Native.Nat.{◌-◌, ◌≤◌}
 use lib.ListN.{length}
-use borrow.Author.Rules.{rules}
 use Rattle.image.specs.Layout.{card_count}
 use Rattle.mask.specs.Masks.{byte}
-use Rattle.control.specs.Stamps.{Stamp, put_stamps}
-use Rattle.control.proofs.StampLaws.{stamps-start, stamps-turn, whole-stamps}
+use Rattle.control.specs.Stamps.{put_stamps}
 use Rattle.control.proofs.stamps.put_all.Given as goal
 
 abbrev pub invariant-loop-i : goal.invariant-loop-i

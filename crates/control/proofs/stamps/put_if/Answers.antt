@@ -1,6 +1,5 @@
 -- By whether the card is among them. Assumes nothing.
 use mathlib.Core.Path.{◌∙◌, sym}
-use borrow.Author.Rules.{rules}
 use Rattle.control.proofs.stamps.put_if.Goals as goal
 
 pub returns-then-has : goal.returns-then-has

@@ -2,7 +2,6 @@
 use native.Mathlib.Omega.{arith}
 use lib.Bits.{and_le_r}
 use Rattle.control_form.proofs.Homes.{homes_at_lem, opens}
-use borrow.Author.Rules.{rules}
 use Rattle.control_form.proofs.words.are_homes.Goals as goal
 
 pub overflow_mul-result : goal.overflow_mul-result

@@ -1,7 +1,6 @@
 -- Each byte with its weight. Assumes nothing.
 use native.Mathlib.Omega.{arith}
 use Rattle.lists.proofs.Bytes.{four_bytes}
-use borrow.Author.Rules.{rules}
 use Rattle.control_form.proofs.words.half.Goals as goal
 
 pub returns : goal.returns

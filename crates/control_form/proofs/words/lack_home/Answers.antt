@@ -5,7 +5,6 @@ use native.Mathlib.Omega.{arith}
 use lib.Bits.{bit_and, bit_xor, xor_lt}
 use lib.Dec.{eqb}
 use Rattle.control_form.proofs.Homes.{carries, lack-at, nibbles, ones}
-use borrow.Author.Rules.{rules}
 use Rattle.control.specs.ControlBytes.{field}
 use Rattle.control_form.proofs.words.lack_home.Goals as goal
 

@@ -1,6 +1,5 @@
 -- Two halves. Assumes nothing.
 use Rattle.lists.proofs.Bytes.{eight-bytes}
-use borrow.Author.Rules.{rules}
 use Rattle.control_form.proofs.words.word.Goals as goal
 
 pub returns : goal.returns

@@ -1,6 +1,5 @@
 -- `glyph` meets its contract: a digit below ten, or a letter. Assumes nothing.
 use Rattle.lines.proofs.Digits.{glyph-letter, glyph-number}
-use borrow.Author.Rules.{rules}
 use Rattle.lines.proofs.text.glyph.Goals as goal
 
 pub returns-then-digit-lt10 : goal.returns-then-digit-lt10

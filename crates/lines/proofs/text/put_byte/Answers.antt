@@ -1,6 +1,5 @@
 -- `put_byte` meets its contract. Assumes nothing.
 use Rattle.lines.proofs.Puts.{puts-byte}
-use borrow.Author.Rules.{rules}
 use Rattle.lines.proofs.text.put_byte.Goals as goal
 
 pub returns : goal.returns

@@ -1,6 +1,5 @@
 -- `put_hex` meets its contract: two digits, one behind the other. Assumes nothing.
 use Rattle.lines.proofs.Puts.{puts-pair}
-use borrow.Author.Rules.{rules}
 use Rattle.lines.proofs.text.put_hex.Goals as goal
 
 pub returns : goal.returns

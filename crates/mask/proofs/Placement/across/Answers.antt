@@ -1,7 +1,6 @@
 -- By whether the sites are by rails. Assumes nothing.
 use mathlib.Core.Path.{ap}
 use lib.Bits.{bit_and}
-use borrow.Author.Rules.{rules}
 use Rattle.mask.proofs.Placement.across.Goals as goal
 
 pub returns-then-self : goal.returns-then-self

@@ -3,7 +3,6 @@ use mathlib.Core.List.{[], ◌∷◌}
 use mathlib.Core.Path.{◌∙◌, ap, sym}
 use Prim.Native.Nat.{ℕ, ◌<◌}
 use lib.Dec.{eqb}
-use borrow.Author.Rules.{rules}
 use Rattle.lists.specs.Tests.{elem}
 use Rattle.lists.proofs.Bools.{eqb-self, or_l, or_r}
 use Rattle.image.specs.Layout.{card_count}

@@ -1,6 +1,5 @@
 -- The two cards in the rules' order are the list. Assumes nothing.
 use mathlib.Core.Path.{◌∙◌, refl}
-use borrow.Author.Rules.{rules}
 use Rattle.mask.specs.Placements.{meant, placed}
 use Rattle.mask.proofs.SiteLaws.{are-sites, placed-sites, placed-usable}
 use Rattle.mask.proofs.Placement.sites.Goals as goal

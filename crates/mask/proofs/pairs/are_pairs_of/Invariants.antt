@@ -1,16 +1,12 @@
 -- The highest bit is set as long as the pairs of the groups so far are good. Assumes nothing.
-use mathlib.Core.Path.{◌≡◌, refl}
-use Prim.Native.Nat.{◌*◌, ◌+◌, ◌-◌, ◌≤◌, ℕ}
-use native.Mathlib.Omega.{arith}
-use lib.Bits.{bit_and}
+use mathlib.Core.Path.{◌≡◌}
+use Prim.Native.Nat.{◌*◌, ◌-◌, ◌≤◌, ℕ}
 use lib.ListN.{get_or}
-use borrow.Author.Rules.{rules}
 use Rattle.lists.specs.Tests.{all_below, one_if}
 use Rattle.image.specs.Layout.{block_count}
 use Rattle.mask.specs.Masks.{byte}
 use Rattle.mask.specs.Pairs.{blocks_in_group, is_pair_of, pair_at}
 use Rattle.mask.specs.PairSets.{top_bit}
-use Rattle.mask.proofs.PairSets.{top-tells, top-turn}
 use Rattle.mask.proofs.pairs.are_pairs_of.Given as goal
 
 -- The blocks of a turn.

@@ -1,14 +1,11 @@
 -- Group by group the masks are of the cards of the blocks' pairs (`masks-turn`). Assumes nothing.
 use mathlib.Core.Path.{◌≡◌}
 use Prim.Native.Nat.{◌*◌, ◌-◌, ◌≤◌}
-use native.Mathlib.Nat.{not-suc-le-zero}
-use native.Mathlib.Omega.{arith}
-use lib.ListN.{get_or, length, length-set}
-use borrow.Author.Rules.{rules}
+use lib.ListN.{get_or, length}
 use Rattle.image.specs.Layout.{block_count}
 use Rattle.mask.specs.Pairs.{blocks_in_group, pair_at}
 use Rattle.mask.specs.SiteMasks.{MasksBelow}
-use Rattle.mask.proofs.PairLaws.{is_card_of, masks-turn}
+use Rattle.mask.proofs.PairLaws.{is_card_of}
 use Rattle.mask.proofs.pairs.fill.Given as goal
 
 abbrev pub invariant-loop-q : goal.invariant-loop-q

@@ -2,7 +2,6 @@
 use mathlib.Core.Path.{refl}
 use Prim.Native.Nat.{◌%◌, ◌/◌, ◌^◌}
 use native.Mathlib.Omega.{arith}
-use borrow.Author.Rules.{rules}
 use Rattle.mask.specs.Pairs.{pair_bound}
 use Rattle.mask.proofs.PairSets.{top-four}
 use Rattle.mask.proofs.pairs.four_in.Goals as goal

@@ -3,7 +3,6 @@ use mathlib.Core.Path.{◌∙◌, ap}
 use Prim.Native.Nat.{◌*◌, ℕ}
 use native.Mathlib.Omega.{arith}
 use lib.Bits.{and_le_r}
-use borrow.Author.Rules.{rules}
 use Rattle.mask.specs.Masks.{byte}
 use Rattle.mask.specs.Pairs.{is_pair_of}
 use Rattle.mask.proofs.PairSets.{good-fits, good-is, good-own, ones, own_bits}

@@ -2,7 +2,6 @@
 use mathlib.Core.List.{[], ◌∷◌}
 use mathlib.Core.Path.{◌∙◌, ap}
 use Prim.Native.Nat.{ℕ}
-use borrow.Author.Rules.{rules}
 use Rattle.lists.specs.Tests.{elem}
 use Rattle.mask.specs.Pairs.{first_card, second_card}
 use Rattle.mask.proofs.pairs.mask_in.Goals as goal

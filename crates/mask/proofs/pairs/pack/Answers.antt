@@ -1,13 +1,10 @@
 -- Group by group the bytes are those of what is packed (`pack-turn`). Assumes nothing.
-use mathlib.Core.Path.{◌≡◌, refl}
-use Prim.Native.Nat.{◌*◌, ◌-◌, ◌≤◌}
+use mathlib.Core.Path.{refl}
+use Prim.Native.Nat.{◌-◌}
 use native.Mathlib.Nat.{not-suc-le-zero}
 use native.Mathlib.Omega.{arith}
-use lib.ListN.{get_or, length, length-set}
-use borrow.Author.Rules.{rules}
-use Rattle.image.specs.Layout.{pairs_size}
-use Rattle.mask.specs.Pairs.{group_size}
-use Rattle.mask.proofs.PairLaws.{Holds, are-packed, pack-turn, packed_byte}
+use lib.ListN.{get_or, length-set}
+use Rattle.mask.proofs.PairLaws.{are-packed, pack-turn}
 use Rattle.mask.proofs.pairs.pack.Goals as goal
 
 pub loop-q-init : goal.loop-q-init

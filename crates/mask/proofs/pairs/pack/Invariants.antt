@@ -1,13 +1,10 @@
 -- Group by group the bytes are those of what is packed (`pack-turn`). Assumes nothing.
-use mathlib.Core.Path.{◌≡◌, refl}
+use mathlib.Core.Path.{◌≡◌}
 use Prim.Native.Nat.{◌*◌, ◌-◌, ◌≤◌}
-use native.Mathlib.Nat.{not-suc-le-zero}
-use native.Mathlib.Omega.{arith}
-use lib.ListN.{get_or, length, length-set}
-use borrow.Author.Rules.{rules}
+use lib.ListN.{get_or, length}
 use Rattle.image.specs.Layout.{pairs_size}
 use Rattle.mask.specs.Pairs.{group_size}
-use Rattle.mask.proofs.PairLaws.{Holds, are-packed, pack-turn, packed_byte}
+use Rattle.mask.proofs.PairLaws.{Holds, packed_byte}
 use Rattle.mask.proofs.pairs.pack.Given as goal
 
 abbrev pub invariant-loop-q : goal.invariant-loop-q

@@ -1,7 +1,6 @@
 -- The block's place in the bits of its group. Assumes nothing.
 use mathlib.Core.Path.{◌∙◌, ap}
 use Prim.Native.Nat.{◌%◌, ℕ}
-use borrow.Author.Rules.{rules}
 use Rattle.mask.specs.Pairs.{blocks_in_group, pair_at, pair_in_group}
 use Rattle.mask.proofs.pairs.pair_at.Goals as goal
 

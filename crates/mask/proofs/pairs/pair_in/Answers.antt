@@ -1,6 +1,5 @@
 -- The digit at a place, by a shift (`shifted`). Assumes nothing.
 use native.Mathlib.Omega.{arith}
-use borrow.Author.Rules.{rules}
 use Rattle.mask.proofs.PairLaws.{shifted}
 use Rattle.mask.proofs.pairs.pair_in.Goals as goal
 

@@ -1,14 +1,13 @@
 -- One round of the members gives the masks of as many blocks, and then the sites come again. Assumes nothing.
 use mathlib.Core.Path.{◌∙◌, ◌≡◌, ap, refl, sym}
-use Prim.Native.Nat.{◌-◌, ◌<◌, ◌≤◌}
+use Prim.Native.Nat.{◌-◌, ◌<◌}
 use native.Mathlib.Omega.{arith}
 use lib.ListN.{drop, length, length-drop, length-set}
 use lib.Seq.{drop-drop}
 use borrow.Author.Rules.{rules}
-use Rattle.image.specs.Layout.{block_count, card_count}
+use Rattle.image.specs.Layout.{card_count}
 use Rattle.mask.specs.Masks.{byte, members}
 use Rattle.mask.specs.Placements.{is_site, meant, placed}
-use Rattle.mask.specs.SiteMasks.{MasksBelow}
 use Rattle.mask.proofs.FirstMember.{no-members, some-members}
 use Rattle.mask.proofs.Masks.{size-members}
 use Rattle.mask.proofs.MaskSites.{few-members}

@@ -1,5 +1,4 @@
 -- Each return is the rules' answer by its test and the tests before it. Assumes nothing.
-use borrow.Author.Rules.{rules}
 use borrow.Author.Tests.{eq-eqb, le-ltb, lt-ltb, ne_eqb}
 use Rattle.move_list.specs.Plans.{plan_answer}
 use Rattle.move_list.proofs.Plan.answer.Goals as goal

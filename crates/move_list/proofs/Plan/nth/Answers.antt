@@ -1,15 +1,13 @@
 -- The moves of the blocks before b are passed over: what is left of n counts from block b. Assumes nothing.
-use Prim.Native.Nat.{◌+◌, ◌-◌, ◌≤◌, ℕ}
-use borrow.Author.Rules.{rules}
+use Prim.Native.Nat.{◌-◌, ℕ}
 use lib.ListN.{get_or}
-use mathlib.Core.Path.{◌∙◌, ◌≡◌, ap}
+use mathlib.Core.Path.{◌∙◌, ap}
 use native.Mathlib.Omega.{arith}
-use Rattle.image.specs.Layout.{block_count}
 use Rattle.mask.specs.Masks.{byte}
 use Rattle.mask.proofs.Masks.{size-members}
 use Rattle.mask.proofs.MaskSites.{size-le}
 use Rattle.move_list.specs.declared.Move.{Move}
-use Rattle.move_list.proofs.MovePlans.{below_next, moves_below, move-beyond, move-here, none_below}
+use Rattle.move_list.proofs.MovePlans.{below_next, move-beyond, move-here, none_below}
 use Rattle.move_list.proofs.Plan.nth.Goals as goal
 
 pub loop-b-init : goal.loop-b-init

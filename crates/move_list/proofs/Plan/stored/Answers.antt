@@ -1,5 +1,4 @@
 -- As many entries are written as the answer says: its number where it is one of moves, else none. Assumes nothing.
-use borrow.Author.Rules.{rules}
 use mathlib.Core.Path.{◌∙◌, ap, sym}
 use Rattle.move_list.specs.Plans.{filled_of}
 use Rattle.move_list.proofs.Plan.stored.Goals as goal

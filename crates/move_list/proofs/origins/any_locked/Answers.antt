@@ -1,15 +1,11 @@
 -- No member before c has a locked slot: a search that stops at the first that has one. Assumes nothing.
-use Prim.Native.Nat.{◌-◌, ◌≤◌, ℕ}
-use borrow.Author.Rules.{rules}
-use mathlib.Core.Bool.{Bool, ◌&&◌, false}
+use Prim.Native.Nat.{◌-◌, ℕ}
+use mathlib.Core.Bool.{false}
 use mathlib.Core.Path.{◌∙◌, ◌≡◌, ap, refl, sym}
 use native.Mathlib.Omega.{arith}
 use Rattle.lists.specs.Tests.{any_below}
 use Rattle.lists.proofs.Counts.{any_below_lem, any-more}
 use Rattle.image.specs.Layout.{card_count}
-use Rattle.mask.specs.Masks.{byte, has_card}
-use Rattle.slot.specs.Blocks.{some_locked}
-use Rattle.cabinet_rules.specs.Images.{Image, block_in}
 use Rattle.move_list.proofs.origins.any_locked.Invariants.{locked_at}
 use Rattle.move_list.proofs.origins.any_locked.Goals as goal
 

@@ -5,7 +5,6 @@ use native.Mathlib.Omega.{arith}
 use Rattle.image.specs.Layout.{block_size}
 use Rattle.slot.specs.Blocks.{some_locked}
 use Rattle.promise.proofs.Laid.{of_part}
-use borrow.Author.Rules.{rules}
 use Rattle.move_list.proofs.origins.locked_at.Goals as goal
 
 pub returns-then-has : goal.returns-then-has

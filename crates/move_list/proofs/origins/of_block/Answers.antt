@@ -1,6 +1,5 @@
 -- The origins by the cards that hold the block are those by the rules' holders. Assumes nothing.
 use Prim.Native.Nat.{ℕ}
-use borrow.Author.Rules.{rules}
 use mathlib.Core.Bool.{Bool}
 use mathlib.Core.Path.{◌∙◌, ap, fun_ext}
 use Rattle.image.specs.Layout.{card_count}

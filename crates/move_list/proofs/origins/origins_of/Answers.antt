@@ -1,5 +1,4 @@
 -- A settled block sends nothing; else its strays send, and where there are none the lowest holder. Assumes nothing.
-use borrow.Author.Rules.{rules}
 use mathlib.Core.Path.{◌∙◌, sym}
 use native.Mathlib.Omega.{arith}
 use Rattle.move_list.proofs.OriginMasks.{lowest-moves, settled-stays, strays-move}

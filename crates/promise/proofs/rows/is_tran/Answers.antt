@@ -1,6 +1,5 @@
 -- At most 15 is below 16; 0 is no transaction. Assumes nothing.
 use Prim.Native.Nat.{◌<◌, ◌≤◌, ℕ}
-use borrow.Author.Rules.{rules}
 use borrow.Author.Tests.{le-leb, le-ltb, leb-true, lt-ltb, ltb-true}
 use lib.Dec.{leb, ltb}
 use mathlib.Core.Path.{◌≡◌}

@@ -1,14 +1,10 @@
 -- Each return is the row whose test was taken, the rows above it left. Assumes nothing.
 use mathlib.Core.Path.{◌∙◌, sym}
 use native.Mathlib.Omega.{arith}
-use borrow.Author.Rules.{rules}
-use borrow.Author.Tests.{not-false, not-true}
 use Rattle.control.specs.Meaning.{meaning}
 use Rattle.promise.specs.Rows.{tran_rows}
 use Rattle.promise.proofs.SharedRows.{open-given, tran-range}
 use Rattle.promise.proofs.Finish.{given-whole}
-use mathlib.Core.Bool.{not}
-use mathlib.Core.Path.{ap}
 use Rattle.promise.proofs.rows.tran_refusal.Goals as goal
 
 pub returns-then-not-is_tran : goal.returns-then-not-is_tran

@@ -1,6 +1,5 @@
 -- A record out of range is 3; else the rows of an open transaction. Assumes nothing.
 use mathlib.Core.Path.{◌∙◌}
-use borrow.Author.Rules.{rules}
 use Rattle.control.specs.Meaning.{meaning}
 use Rattle.records.proofs.Rows.{early-in, early-over}
 use Rattle.records.proofs.access.early_rows.Goals as goal

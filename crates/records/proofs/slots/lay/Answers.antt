@@ -1,5 +1,5 @@
 -- Where the new block is put on each site that is left, it is put on each site. Assumes nothing.
-use mathlib.Core.Path.{◌∙◌, ◌≡◌, refl, subst, sym}
+use mathlib.Core.Path.{◌∙◌, refl, subst, sym}
 use Prim.Native.Nat.{ℕ, ◌/◌, ◌<◌}
 use native.Mathlib.Omega.{arith}
 use lib.ListN.{length}
@@ -10,7 +10,7 @@ use Rattle.mask.specs.Placements.{is_site}
 use Rattle.mask.proofs.FirstMember.{no-members, one_fewer, some-members}
 use Rattle.slot.specs.Words.{state_of}
 use Rattle.trail.specs.Trail.{shown_at}
-use Rattle.promise.proofs.PutEach.{put-end, put-turn, put_each}
+use Rattle.promise.proofs.PutEach.{put-end, put-turn}
 use Rattle.records.proofs.Locking.{lay-laid, new_block}
 use Rattle.records.proofs.slots.lay.Goals as goal
 

@@ -1,17 +1,12 @@
 -- Where the new block is put on each site that is left, it is put on each site. Assumes nothing.
-use mathlib.Core.Path.{◌∙◌, ◌≡◌, refl, subst, sym}
-use Prim.Native.Nat.{ℕ, ◌/◌, ◌<◌}
-use native.Mathlib.Omega.{arith}
+use mathlib.Core.Path.{◌≡◌}
+use Prim.Native.Nat.{◌/◌, ◌<◌}
 use lib.ListN.{length}
-use borrow.Author.Rules.{rules}
 use Rattle.image.specs.Layout.{slot_count}
-use Rattle.mask.specs.Masks.{AreMembers, byte, members}
-use Rattle.mask.specs.Placements.{is_site}
-use Rattle.mask.proofs.FirstMember.{no-members, one_fewer, some-members}
+use Rattle.mask.specs.Masks.{byte, members}
 use Rattle.slot.specs.Words.{state_of}
-use Rattle.trail.specs.Trail.{shown_at}
-use Rattle.promise.proofs.PutEach.{put-end, put-turn, put_each}
-use Rattle.records.proofs.Locking.{lay-laid, new_block}
+use Rattle.promise.proofs.PutEach.{put_each}
+use Rattle.records.proofs.Locking.{new_block}
 use Rattle.records.proofs.slots.lay.Given as goal
 
 abbrev pub invariant-loop-left : goal.invariant-loop-left

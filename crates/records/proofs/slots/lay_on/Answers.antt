@@ -1,7 +1,6 @@
 -- A fresh block is put and the record's slot locked in it: together the put of one block. Assumes nothing.
 use mathlib.Core.Path.{◌∙◌, ap}
 use Prim.Native.Nat.{ℕ}
-use borrow.Author.Rules.{rules}
 use Rattle.image.specs.Parts.{put_block}
 use Rattle.slot.specs.Words.{state_of}
 use Rattle.records.proofs.Locking.{lay-one, new_block}

@@ -4,7 +4,6 @@ use native.Mathlib.Omega.{arith}
 use Rattle.image.specs.Layout.{block_size}
 use Rattle.slot.specs.Words.{state_of}
 use Rattle.records.proofs.Locking.{lock-part}
-use borrow.Author.Rules.{rules}
 use Rattle.records.proofs.slots.lock_on.Goals as goal
 
 pub returns : goal.returns

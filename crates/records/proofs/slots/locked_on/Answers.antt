@@ -1,6 +1,5 @@
 -- The test of the record's slot on the card. Assumes nothing.
 use mathlib.Core.Path.{◌∙◌, ap}
-use borrow.Author.Rules.{rules}
 use Rattle.slot.specs.declared.Slot.{Slot}
 use Rattle.method.specs.Slots.{locked_by_other}
 use Rattle.records.specs.Slots.{locked_at, rules_slot}

@@ -1,14 +1,11 @@
 -- The members that are taken off have no such slot, so some member of the mask has one
 -- exactly where one that is left has. Assumes nothing.
-use mathlib.Core.Path.{◌∙◌, ◌≡◌, ap, refl, sym}
+use mathlib.Core.Path.{◌≡◌}
 use Prim.Native.Nat.{◌<◌}
 use lib.ListN.{length}
-use borrow.Author.Rules.{rules}
 use Rattle.lists.specs.Tests.{any_in}
 use Rattle.mask.specs.Masks.{byte, members}
-use Rattle.mask.proofs.FirstMember.{no-members, one_fewer, some-members}
 use Rattle.records.specs.Slots.{locked_at}
-use Rattle.records.proofs.Reading.{any-hit, any-miss, locked-out-is}
 use Rattle.records.proofs.slots.locked_out.Given as goal
 
 abbrev pub invariant-loop-left : goal.invariant-loop-left

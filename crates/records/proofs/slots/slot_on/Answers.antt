@@ -5,7 +5,6 @@ use borrow.Rule.Slice.PartMut.{mid_of}
 use Rattle.image.specs.Layout.{block_size}
 use Rattle.image.proofs.Parts.{part-block}
 use Rattle.records.proofs.Reading.{slot-by}
-use borrow.Author.Rules.{rules}
 use Rattle.records.proofs.slots.slot_on.Goals as goal
 
 pub returns : goal.returns

@@ -5,7 +5,6 @@ use Rattle.mask.specs.SiteMasks.{SitesIn}
 use Rattle.promise.proofs.Finish.{given-whole}
 use Rattle.trail.proofs.Holding.{newest-last}
 use Rattle.reorganise.proofs.Looks.{last-active, last-usable}
-use borrow.Author.Rules.{rules}
 use Rattle.reorganise.proofs.looking.newest_masks.Goals as goal
 
 pub fill-requires : goal.fill-requires

@@ -5,7 +5,6 @@ use Rattle.mask.specs.Placements.{Placement, is_site}
 use Rattle.promise.proofs.Finish.{given-whole}
 use Rattle.trail.proofs.Holding.{newest-last}
 use Rattle.reorganise.proofs.Looks.{last-active, last-usable}
-use borrow.Author.Rules.{rules}
 use Rattle.reorganise.proofs.looking.newest_sites.Goals as goal
 
 pub mask_at-requires : goal.mask_at-requires

@@ -1,6 +1,5 @@
 -- A site that has the block is left, another one gets it and counts as a copy. Assumes nothing.
 use native.Mathlib.Omega.{arith}
-use borrow.Author.Rules.{rules}
 use Rattle.reorganise.proofs.moving.fill.Goals as goal
 
 pub returns : goal.returns

@@ -13,7 +13,6 @@ use Rattle.method.specs.Rules.{move, row}
 use Rattle.promise.proofs.SharedRows.{card-given}
 use Rattle.promise.specs.Given.{rows_on}
 use Rattle.reorganise.proofs.MoveRows.{copy-card, copy-end, copy-rows, refused-block, refused-card}
-use borrow.Author.Rules.{rules}
 use mathlib.Core.Path.{ap}
 use Rattle.reorganise.proofs.moving.refusal.Goals as goal
 

@@ -1,5 +1,5 @@
 -- The sites that are left are looked at one by one, and a put on one changes nothing of what another holds. Assumes nothing.
-use Prim.Native.Nat.{◌+◌, ◌<◌, ℕ}
+use Prim.Native.Nat.{◌<◌, ℕ}
 use lib.ListN.{drop, length}
 use mathlib.Core.Bool.{cond, true}
 use mathlib.Core.List.{List}
@@ -17,7 +17,7 @@ use Rattle.mask.proofs.Masks.{has-card, has-without}
 use Rattle.mask.proofs.MaskSites.{few-members}
 use Rattle.mask.proofs.FirstMember.{first-in, no-members, one_fewer, some-members}
 use Rattle.promise.proofs.Finish.{given-whole}
-use Rattle.promise.proofs.PutEach.{put-end, put_each}
+use Rattle.promise.proofs.PutEach.{put-end}
 use Rattle.cabinet_rules.specs.Images.{Image}
 use Rattle.trail.specs.Trail.{holds_at}
 use Rattle.reorganise.proofs.MoveRows.{accepted}

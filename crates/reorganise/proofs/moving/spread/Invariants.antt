@@ -1,28 +1,14 @@
 -- The sites that are left are looked at one by one, and a put on one changes nothing of what another holds. Assumes nothing.
 use Prim.Native.Nat.{◌+◌, ◌<◌, ℕ}
-use lib.ListN.{drop, length}
-use mathlib.Core.Bool.{cond, true}
-use mathlib.Core.List.{List}
-use mathlib.Core.Path.{◌∙◌, ◌≡◌, ap, refl, sym}
-use native.Mathlib.Omega.{arith}
-use borrow.Author.Rules.{rules}
-use borrow.Author.Tests.{eqb-false}
-use lib.Dec.{eqb}
+use lib.ListN.{length}
+use mathlib.Core.Bool.{true}
+use mathlib.Core.Path.{◌≡◌}
 use Rattle.lists.specs.Tests.{count_not}
-use Rattle.lists.proofs.Bools.{and_l, and_r, not_is}
-use Rattle.image.specs.Layout.{block_count, block_size}
-use Rattle.image.specs.Parts.{Whole, put_block, zeros}
-use Rattle.mask.specs.Masks.{Byte, byte, has_card, members, without_card}
-use Rattle.mask.proofs.Masks.{has-card, has-without}
-use Rattle.mask.proofs.MaskSites.{few-members}
-use Rattle.mask.proofs.FirstMember.{first-in, no-members, one_fewer, some-members}
-use Rattle.promise.proofs.Finish.{given-whole}
-use Rattle.promise.proofs.PutEach.{put-end, put_each}
-use Rattle.cabinet_rules.specs.Images.{Image}
+use Rattle.image.specs.Layout.{block_size}
+use Rattle.mask.specs.Masks.{byte, has_card, members}
+use Rattle.promise.proofs.PutEach.{put_each}
 use Rattle.trail.specs.Trail.{holds_at}
-use Rattle.reorganise.proofs.MoveRows.{accepted}
-use Rattle.reorganise.proofs.MoveWrites.{count-le, count_turn, fill-turn, lacking, still-holds}
-use Rattle.reorganise.proofs.Moves.{move-done}
+use Rattle.reorganise.proofs.MoveWrites.{lacking}
 use Rattle.reorganise.proofs.moving.spread.Given as goal
 
 -- With f the cards that hold the block before the loop: what is still to be put, what those that are left hold, and the copies.

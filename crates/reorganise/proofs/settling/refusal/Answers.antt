@@ -2,7 +2,6 @@
 use borrow.Author.Tests.{not-false, not-true}
 use mathlib.Core.Path.{◌∙◌, sym}
 use Rattle.reorganise.proofs.Settles.{settle-rows}
-use borrow.Author.Rules.{rules}
 use mathlib.Core.Bool.{not}
 use mathlib.Core.Path.{ap}
 use Rattle.reorganise.proofs.settling.refusal.Goals as goal

@@ -2,7 +2,6 @@
 use mathlib.Core.Path.{◌∙◌}
 use Rattle.promise.proofs.Finish.{given-whole}
 use Rattle.reorganise.proofs.Retires.{no_pairs_lem, pairs-retired}
-use borrow.Author.Rules.{rules}
 use Rattle.reorganise.proofs.settling.retire_pairs.Goals as goal
 
 pub returns-then-k-eq0 : goal.returns-then-k-eq0

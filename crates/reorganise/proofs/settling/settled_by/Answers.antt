@@ -1,6 +1,5 @@
 -- All blocks before b are settled, two more at each turn; the place of block b among the masks is counted round. Assumes nothing.
-use Prim.Native.Nat.{◌%◌, ◌+◌, ◌-◌, ◌<◌, ◌≤◌, ℕ}
-use borrow.Author.Rules.{rules}
+use Prim.Native.Nat.{◌%◌, ◌+◌, ◌-◌, ◌<◌, ℕ}
 use borrow.Author.Tests.{not-false, not-true}
 use lib.ListN.{get_or}
 use mathlib.Core.Bool.{Bool, true}

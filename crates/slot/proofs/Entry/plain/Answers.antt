@@ -1,6 +1,5 @@
 -- An entry that is present is its value. Assumes nothing.
 use mathlib.Core.Path.{sym}
-use borrow.Author.Rules.{rules}
 use Rattle.slot.proofs.Words.{plain-some}
 use Rattle.slot.proofs.Entry.plain.Goals as goal
 

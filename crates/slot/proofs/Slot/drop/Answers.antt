@@ -1,5 +1,4 @@
 -- The fields are those of the freed slot with the committed state. Assumes nothing.
-use borrow.Author.Rules.{rules}
 use Rattle.slot.proofs.Slot.drop.Goals as goal
 
 pub returns : goal.returns

@@ -1,5 +1,4 @@
 -- Freed by taking or by dropping, as the test says. Assumes nothing.
-use borrow.Author.Rules.{rules}
 use Rattle.slot.proofs.Slot.free.Goals as goal
 
 pub returns-then-take : goal.returns-then-take

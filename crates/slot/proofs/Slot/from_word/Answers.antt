@@ -1,5 +1,4 @@
 -- The fields are quotients and remainders of the number. Assumes nothing.
-use borrow.Author.Rules.{rules}
 use Rattle.slot.specs.Words.{slot_of}
 use Rattle.slot.proofs.Slot.from_word.Goals as goal
 

@@ -1,5 +1,4 @@
 -- The fields are those of the locked slot. Assumes nothing.
-use borrow.Author.Rules.{rules}
 use Rattle.slot.proofs.Slot.lock_by.Goals as goal
 
 pub returns : goal.returns

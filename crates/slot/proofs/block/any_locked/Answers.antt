@@ -5,7 +5,6 @@ use mathlib.Core.Path.{ap, ◌∙◌}
 use lib.Dec.{eqb}
 use Rattle.slot.specs.Blocks.{of_list}
 use Rattle.slot.proofs.Locks.{locked-joined}
-use borrow.Author.Rules.{rules}
 use Rattle.slot.proofs.block.any_locked.Goals as goal
 
 pub returns : goal.returns

@@ -4,7 +4,6 @@ use native.Mathlib.Omega.{arith}
 use lib.ListN.{get_or}
 use Rattle.image.specs.Layout.{slot_start}
 use Rattle.slot.proofs.Steps.{committed-of-list}
-use borrow.Author.Rules.{rules}
 use Rattle.slot.proofs.block.committed_at.Goals as goal
 
 pub returns : goal.returns

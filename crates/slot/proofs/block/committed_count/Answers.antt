@@ -1,8 +1,7 @@
 -- The loop counts the slots below i. Assumes nothing.
 use mathlib.Core.Path.{◌≡◌, refl, ap, ◌∙◌}
-use Prim.Native.Nat.{ℕ, ◌≤◌, ◌<◌, ◌-◌, ◌+◌}
+use Prim.Native.Nat.{ℕ, ◌<◌, ◌-◌, ◌+◌}
 use native.Mathlib.Omega.{arith}
-use borrow.Author.Rules.{rules}
 use Rattle.lists.specs.Tests.{count_below, one_if}
 use Rattle.lists.proofs.Counts.{count-more}
 use Rattle.image.specs.Layout.{slot_count}

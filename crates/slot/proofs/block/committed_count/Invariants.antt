@@ -1,12 +1,9 @@
 -- The loop counts the slots below i. Assumes nothing.
-use mathlib.Core.Path.{◌≡◌, refl, ap, ◌∙◌}
-use Prim.Native.Nat.{ℕ, ◌≤◌, ◌<◌, ◌-◌, ◌+◌}
-use native.Mathlib.Omega.{arith}
-use borrow.Author.Rules.{rules}
-use Rattle.lists.specs.Tests.{count_below, one_if}
-use Rattle.lists.proofs.Counts.{count-more}
+use mathlib.Core.Path.{◌≡◌}
+use Prim.Native.Nat.{◌≤◌, ◌-◌}
+use Rattle.lists.specs.Tests.{count_below}
 use Rattle.image.specs.Layout.{slot_count}
-use Rattle.slot.specs.Blocks.{committed_count, is_committed, of_list}
+use Rattle.slot.specs.Blocks.{is_committed, of_list}
 use Rattle.slot.proofs.block.committed_count.Given as goal
 
 abbrev pub invariant-loop-i : goal.invariant-loop-i

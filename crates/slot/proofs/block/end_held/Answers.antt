@@ -2,7 +2,6 @@
 use mathlib.Core.Path.{sym, ◌∙◌}
 use Rattle.slot.specs.Blocks.{in_set}
 use Rattle.slot.proofs.Ends.{ended-bare, ended_held, ended-idle}
-use borrow.Author.Rules.{rules}
 use Rattle.slot.proofs.block.end_held.Goals as goal
 
 pub returns-then-may_pick : goal.returns-then-may_pick

@@ -5,7 +5,6 @@ use Rattle.slot.specs.declared.Slot.{Slot}
 use Rattle.slot.specs.Words.{InRange, freed_slot}
 use Rattle.slot.specs.Blocks.{in_set, of_list, put_slot, slot_at, word_at}
 use Rattle.slot.proofs.Words.{freed-in-range, slot-in-range}
-use borrow.Author.Rules.{rules}
 use Rattle.slot.proofs.block.end_slot.Goals as goal
 
 pub put_slot-requires : goal.put_slot-requires

@@ -1,12 +1,10 @@
 -- The slots below i have ended. Assumes nothing.
-use mathlib.Core.Path.{◌≡◌, ap, refl, ◌∙◌}
-use Prim.Native.Nat.{ℕ, ◌≤◌, ◌-◌}
-use native.Mathlib.Omega.{arith}
-use borrow.Author.Rules.{rules}
+use mathlib.Core.Path.{◌≡◌}
+use Prim.Native.Nat.{◌≤◌, ◌-◌}
 use lib.ListN.{length}
 use Rattle.image.specs.Layout.{slot_count}
-use Rattle.slot.specs.Blocks.{in_set, of_list, BlockBytes}
-use Rattle.slot.proofs.Ends.{up_to, start, all_done, turn}
+use Rattle.slot.specs.Blocks.{in_set, of_list}
+use Rattle.slot.proofs.Ends.{up_to}
 use Rattle.slot.proofs.block.end_slots.Given as goal
 
 abbrev pub invariant-loop-i : goal.invariant-loop-i

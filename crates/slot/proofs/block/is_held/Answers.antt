@@ -1,7 +1,6 @@
 -- The first byte shows the bit 'held'. Assumes nothing.
 use native.Mathlib.Omega.{arith}
 use Rattle.slot.proofs.Steps.{held-of-list}
-use borrow.Author.Rules.{rules}
 use Rattle.slot.proofs.block.is_held.Goals as goal
 
 pub returns : goal.returns

@@ -3,7 +3,6 @@ use Prim.Native.Nat.{◌+◌, ◌*◌}
 use native.Mathlib.Omega.{arith}
 use Rattle.image.specs.Layout.{slot_size}
 use Rattle.slot.proofs.Locks.{picked-of-list}
-use borrow.Author.Rules.{rules}
 use Rattle.slot.proofs.block.is_picked.Goals as goal
 
 pub overflow_cast-result-2 : goal.overflow_cast-result-2

@@ -6,7 +6,6 @@ use Rattle.image.specs.Layout.{slot_size}
 use Rattle.slot.specs.Blocks.{joined, joined_locks, of_list, slot_at}
 use Rattle.slot.proofs.Locks.{joined-field}
 use Rattle.slot.proofs.Steps.{lock-of-list}
-use borrow.Author.Rules.{rules}
 use Rattle.slot.proofs.block.joined_locks.Goals as goal
 
 pub returns : goal.returns

@@ -6,7 +6,6 @@ use Rattle.image.specs.Layout.{value_bound}
 use Rattle.slot.specs.Words.{InRange, locked_slot, state_of}
 use Rattle.slot.specs.Blocks.{lock_slot, of_list, word_at}
 use Rattle.slot.proofs.Words.{locked-in-range, slot-in-range, taken-lt}
-use borrow.Author.Rules.{rules}
 use Rattle.slot.proofs.block.lock_slot.Goals as goal
 
 pub put_slot-requires : goal.put_slot-requires

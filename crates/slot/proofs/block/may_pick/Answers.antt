@@ -5,7 +5,6 @@ use native.Mathlib.Omega.{arith}
 use Rattle.lists.proofs.Bools.{tf}
 use Rattle.slot.specs.Blocks.{of_list}
 use Rattle.slot.proofs.Locks.{bits-missing, no-lock, none-picked}
-use borrow.Author.Rules.{rules}
 use Rattle.slot.proofs.block.may_pick.Goals as goal
 
 pub returns-then-set-eq1 : goal.returns-then-set-eq1

@@ -2,7 +2,6 @@
 use native.Mathlib.Omega.{arith}
 use lib.ListN.{length-set}
 use Rattle.slot.proofs.Steps.{stores-slot}
-use borrow.Author.Rules.{rules}
 use Rattle.slot.proofs.block.put_slot.Goals as goal
 
 pub bounds-block-at-2 : goal.bounds-block-at-2

@@ -1,6 +1,5 @@
 -- The four constants are the sets of the numbers that lack a bit. Assumes nothing.
 use Rattle.slot.proofs.Locks.{shared-sum}
-use borrow.Author.Rules.{rules}
 use Rattle.slot.proofs.block.shared_bits.Goals as goal
 
 pub returns : goal.returns

@@ -1,5 +1,4 @@
 -- The five bytes, as one number, show the slot. Assumes nothing.
-use borrow.Author.Rules.{rules}
 use Rattle.slot.proofs.block.slot_at.Goals as goal
 
 pub returns : goal.returns

@@ -3,7 +3,6 @@ use mathlib.Core.Path.{◌≡◌}
 use Prim.Native.Nat.{ℕ, ◌%◌, ◌<◌}
 use native.Mathlib.Omega.{arith}
 use Rattle.slot.proofs.Steps.{word-of-list}
-use borrow.Author.Rules.{rules}
 use Rattle.slot.proofs.block.word_at.Goals as goal
 
 -- a byte is its own low eight bits

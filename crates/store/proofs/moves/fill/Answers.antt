@@ -2,7 +2,7 @@
 use Prim.Native.Nat.{◌<◌}
 use lib.ListN.{length, length-set, set}
 use mathlib.Core.List.{List}
-use mathlib.Core.Path.{◌∙◌, ◌≡◌, ap}
+use mathlib.Core.Path.{◌∙◌, ap}
 use native.Mathlib.Omega.{arith}
 use Rattle.move_list.specs.Plans.{move_at, moves_in}
 use Rattle.move_list.specs.declared.Move.{Move}

@@ -7,7 +7,7 @@ use Rattle.move_list.specs.Plans.{first_moves, moves_in, plan_answer}
 use Rattle.move_list.specs.Promise.{ListDone}
 use Rattle.move_list.specs.declared.Listed.{Listed}
 use Rattle.move_list.specs.declared.Move.{Move}
-use Rattle.move_list.proofs.MovePlans.{left_by, list_done, stored-le}
+use Rattle.move_list.proofs.MovePlans.{list_done, stored-le}
 use Rattle.store.proofs.moves.list.Goals as goal
 
 pub fill-requires : goal.fill-requires

@@ -8,7 +8,6 @@ use Rattle.slot.specs.Blocks.{BlockBytes, committed_count, is_held, of_list}
 use Rattle.cabinet_rules.specs.Images.{block_in}
 use Rattle.promise.proofs.Laid.{of_part}
 use Rattle.survey.proofs.Loads.{load-bare, load-held}
-use borrow.Author.Rules.{rules}
 use Rattle.survey.proofs.loading.load_block.Goals as goal
 
 pub returns-then-is_held : goal.returns-then-is_held

@@ -1,14 +1,8 @@
 -- The load of the blocks before b has been added up, and it is at most eight a block. Assumes nothing.
-use Prim.Native.Nat.{◌*◌, ◌+◌, ◌-◌, ◌≤◌}
-use borrow.Author.Rules.{rules}
-use mathlib.Core.Path.{◌∙◌, ◌≡◌, ap}
-use native.Mathlib.Omega.{arith}
+use Prim.Native.Nat.{◌*◌, ◌-◌, ◌≤◌}
+use mathlib.Core.Path.{◌≡◌}
 use Rattle.image.specs.Layout.{block_count, slot_count}
-use Rattle.method.specs.Rules.{committed_in}
-use Rattle.cabinet_rules.specs.Cabinet.{cabinet}
-use Rattle.cabinet_rules.specs.Images.{block_in}
 use Rattle.survey.specs.Loads.{load_below}
-use Rattle.survey.proofs.Loads.{load-more, load-none}
 use Rattle.survey.proofs.loading.load_table.Given as goal
 
 abbrev pub invariant-loop-b : goal.invariant-loop-b

@@ -1,13 +1,12 @@
 -- The placements before i withstand one more failure: a search that stops at the first that does not. Assumes nothing.
-use Prim.Native.Nat.{◌-◌, ◌≤◌}
+use Prim.Native.Nat.{◌-◌}
 use borrow.Author.Rules.{rules}
 use mathlib.Core.Bool.{true}
-use mathlib.Core.Path.{◌≡◌, refl}
+use mathlib.Core.Path.{refl}
 use native.Mathlib.Omega.{arith}
-use Rattle.lists.specs.Tests.{all_below}
 use Rattle.method.specs.Protection.{withstands}
 use Rattle.control.specs.Meaning.{meaning}
-use Rattle.control.proofs.Active.{every-passed, mask_passes, one-fails, one_passes}
+use Rattle.control.proofs.Active.{every-passed, one-fails, one_passes}
 use Rattle.control_form.proofs.Checks.{failed-is, passed_is}
 use Rattle.cabinet_rules.specs.Cabinet.{cabinet}
 use mathlib.Core.Bool.{not}

@@ -1,6 +1,5 @@
 -- The two counts of the code are those of the rules. Assumes nothing.
 use Prim.Native.Nat.{suc}
-use borrow.Author.Rules.{rules}
 use borrow.Author.Tests.{le-ltb, lt-ltb}
 use mathlib.Core.Path.{sym}
 use native.Mathlib.Omega.{arith}
