@@ -1,12 +1,23 @@
 // The program: the commands of standard input are performed on an image of zero bytes, and standard output gets their
 // listing. It takes no argument: with one it says how it is used, and performs nothing.
-use libc::STDERR_FILENO;
+#![tactic(auto)]
 
-fn main() {
-    if os::arg_count() > 1 {
-        io::write_all(STDERR_FILENO, b"usage: cabinet < COMMANDS > LISTING\n");
+use std::env::{Env, FillError};
+
+// Whether an argument follows the program's name.
+fn has_argument(rt: &impl Env) -> bool {
+    let mut start = [0u8; 1];
+    !matches!(rt.arg(1, &mut start), Err(FillError::NotPresent))
+}
+
+fn main(rt: HostRuntime) {
+    if has_argument(&rt) {
+        let _ = eprintln!(rt; "usage: cabinet < COMMANDS > LISTING");
         return;
     }
     let mut image = [0u8; 21248];
-    console::run(&mut image);
+    let listed = console::run(&mut image, &mut rt.stdin(), &mut rt.stdout());
+    if let Err(failure) = listed {
+        let _ = eprintln!(rt; "cabinet: {failure}");
+    }
 }

@@ -1,5 +1,6 @@
 pub mod Buffers
-pub mod Answers
+pub mod ReadAnswers
 pub mod Advances
 pub mod AllListed
 pub mod Loop
+pub mod Known

@@ -53,7 +53,7 @@ read-stop {s} {s'} {x} {out} {left} {b} {step} {g} next stops e a =
     })
 
 -- ---- the bytes read rise
-not_last : (s : Standing) (x : Given) → goes_on s x ≡ true → is_last x ≡ false
+pub not_last : (s : Standing) (x : Given) → goes_on s x ≡ true → is_last x ≡ false
 not_last s x h = not_is (is_last x) (and_l (not (is_last x)) (ltb (s.number + command_count (performed s x)) (2 ^ 64)) h)
 
 more-held : (s : Standing) (x : Given) → is_last x ≡ false → length s.waiting < length (performed s x) + length (cut s x)

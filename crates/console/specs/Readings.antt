@@ -1,6 +1,8 @@
 -- The program over its readings: RULES, "Commands and the listing". An input comes in readings of any length; one that
 -- gives no byte is its end, and a read that fails performs nothing. Assumes nothing.
-use Rattle.std.specs.Prelude.{◌%◌, ◌+◌, ◌-◌, ◌^◌, ℕ, eqb, leb, ltb, negsuc, pos, ℤ, drop, length, take, Bool, ◌&&◌, cond, false, not, true, List, ◌++◌, ◌∷◌, [], ◌≡◌}
+use Rattle.std.specs.Prelude.{◌%◌, ◌*◌, ◌+◌, ◌-◌, ◌^◌, ℕ, eqb, leb, ltb, Result, Ok, Err, IfSome, drop, length, take, Bool, ◌&&◌, cond, false, not, true, List, ◌++◌, ◌∷◌, [], ◌<◌, ◌≡◌}
+use Rattle.std.specs.Io.KnownBytes.{Appends, Consumes, IsAtEnd, Keeps}
+use Rattle.std.specs.declared.option.Option.{Option}
 use Rattle.lists.specs.Segments.{segment}
 use Rattle.cabinet_rules.specs.Images.{Image}
 use Rattle.command.specs.Commands.{command_size}
@@ -8,6 +10,8 @@ use Rattle.lines.specs.Text.{Puts}
 use Rattle.listing.specs.Listing.{command_count, image_behind, listing}
 use Rattle.console.specs.declared.Position.{Position}
 use Rattle.console.specs.declared.Step.{Step}
+use Rattle.console.specs.declared.failure.Failure.{Failure}
+use Rattle.console.specs.declared.failure.Failure.TheVariants.{Input, Output}
 
 -- Where the program stands: the number of its next command, the bytes of that command that wait for the rest of it, and
 -- the image.
@@ -25,15 +29,15 @@ pub data Given : Type 0 where
   gave : List ℕ → Given
   read_failed : Given
 
--- The operating system answers the length of the reading, which then stands in a buffer behind the bytes that wait, or a
--- negative number where the read failed.
-abbrev pub given_size : ℤ → ℕ
-given_size (pos n) = n
-given_size (negsuc n) = 0
+-- A read answers the length of the reading, which then stands in a buffer behind the bytes that wait, or an error where it
+-- failed.
+abbrev pub given_size : {E : Type 0} → Result ℕ E → ℕ
+given_size (Ok n) = n
+given_size (Err e) = 0
 
-abbrev pub given_by : ℤ → ℕ → List ℕ → Given
-given_by (pos n) waiting buffer = gave (segment buffer waiting n)
-given_by (negsuc n) waiting buffer = read_failed
+abbrev pub given_by : {E : Type 0} → Result ℕ E → ℕ → List ℕ → Given
+given_by (Ok n) waiting buffer = gave (segment buffer waiting n)
+given_by (Err e) waiting buffer = read_failed
 
 -- A reading that gives no byte is the end of the input.
 abbrev pub is_end : List ℕ → Bool
@@ -149,6 +153,48 @@ pub record ReadSome (s : Standing) (next : Position) (buffer : List ℕ) (behind
   pub leaves : behind ≡ cond (numbers_fit s given) (standing_after s given).image s.image
   pub goes : next.more ≡ true → goes_on s given ≡ true
   pub stands : next.more ≡ true → standing next buffer behind ≡ standing_after s given
+
+-- The same of a read that gave a reading, and of what is known of the bytes that the reader has left and that the writer
+-- holds: the reading was the first of the bytes left, and all of them where it has no byte; its lines were written behind
+-- the bytes held.
+pub record ReadOne (s : Standing) (next : Position) (buffer : List ℕ) (behind : Image) (left left_behind held held_behind : Option (List ℕ)) : Type 0 where
+  pub reading : List ℕ
+  pub leaves : behind ≡ cond (numbers_fit s (gave reading)) (standing_after s (gave reading)).image s.image
+  pub goes : next.more ≡ goes_on s (gave reading)
+  pub stands : next.more ≡ true → standing next buffer behind ≡ standing_after s (gave reading)
+  pub takes : Consumes left left_behind reading
+  pub ends : is_end reading ≡ true → IsAtEnd left_behind
+  pub writes : Appends held held_behind (cond (numbers_fit s (gave reading)) (lines_of s (gave reading)) [])
+
+-- Where a read failed nothing was performed, taken or written. Of a write that failed nothing is said.
+abbrev pub NoneRead : Image → Image → Option (List ℕ) → Option (List ℕ) → Option (List ℕ) → Option (List ℕ) → Failure → Type 0
+NoneRead before behind left left_behind held held_behind (Input e) = (behind ≡ before) × Keeps left left_behind × (held_behind ≡ held)
+NoneRead before behind left left_behind held held_behind (Output e) = Unit {0}
+
+-- All commands of an input were performed, and their listing written behind the bytes that a writer holds, where those
+-- are known.
+pub record ListsInput (before behind : Image) (held held_behind : Option (List ℕ)) (input : List ℕ) : Type 0 where
+  pub leaves : behind ≡ image_behind input before (command_count input)
+  pub writes : Appends held held_behind (listing 1 input before (command_count input))
+
+-- The same of the input that a reader had, where its bytes are known and the numbers of its commands have 64 bits.
+abbrev pub ListsKnown : Image → Image → Option (List ℕ) → Option (List ℕ) → Option (List ℕ) → Type 0
+ListsKnown before behind left held held_behind =
+    IfSome left (λ (input : List ℕ). command_count input + 1 < 2 ^ 64 → ListsInput before behind held held_behind input)
+
+-- Where a read failed the whole commands among the bytes taken were performed and listed, and the rest of these bytes, fewer
+-- than a command, waits.
+pub record ListsWhole (before behind : Image) (left left_behind held held_behind : Option (List ℕ)) : Type 0 where
+  pub input : List ℕ
+  pub waiting : List ℕ
+  pub whole : length input ≡ command_count input * command_size
+  pub short : length waiting < command_size
+  pub takes : Consumes left left_behind (input ++ waiting)
+  pub lists : ListsInput before behind held held_behind input
+
+abbrev pub ListsRead : Image → Image → Option (List ℕ) → Option (List ℕ) → Option (List ℕ) → Option (List ℕ) → Failure → Type 0
+ListsRead before behind left left_behind held held_behind (Input e) = ListsWhole before behind left left_behind held held_behind
+ListsRead before behind left left_behind held held_behind (Output e) = Unit {0}
 
 -- The image behind is the one that all commands of an input leave, an input of the operating system's choice. A read that
 -- failed added nothing to it (`ReadSome`).

@@ -1,12 +1,20 @@
-// The body of the program: commands from standard input, their listing to standard output, in bounded memory.
-ghost use Rattle.std.specs.Prelude.{◌*◌, ◌+◌, ◌-◌, ◌<◌, ◌≤◌, length, true, ◌≡◌};
+// The body of the program: commands from a reader, their listing to a writer, in bounded memory.
+#![tactic(auto)]
+
+mod failure;
+
+ghost use Rattle.std.specs.Prelude.{◌*◌, ◌+◌, ◌-◌, ◌<◌, ◌≤◌, length, true, ◌≡◌, IfErr, IfOk, OnErr, OnOk};
 ghost use Rattle.lists.specs.Segments.{segment, splice};
 ghost use Rattle.command.specs.Commands.{command_size};
 ghost use Rattle.lines.specs.Lines.{longest_line};
 ghost use Rattle.listing.specs.Listing.{command_count};
 ghost use Rattle.console.specs.Readings.{
   Advanced,
+  ListsKnown,
+  ListsRead,
+  NoneRead,
   RanSome,
+  ReadOne,
   ReadSome,
   first_position,
   gave,
@@ -18,7 +26,9 @@ ghost use Rattle.console.specs.Readings.{
   stopped_at,
 };
 
-use libc::{STDIN_FILENO, STDOUT_FILENO};
+pub use failure::Failure;
+use std::io;
+use std::io::{Read, Write};
 
 // How many commands are read at a time, at most.
 const COMMANDS: usize = 1024;
@@ -140,9 +150,15 @@ fn stopped(at: Position) -> Position
     }
 }
 
-// Performs what a read gave, by the operating system's answer to it. One that failed performs nothing: the rest of a cut
-// command may follow, so that it is not a short one.
-fn advance(image: &mut [u8], at: Position, got: isize, input: &mut [u8], out: &mut [u8]) -> Step
+// Performs what a read gave, by the answer to it. One that failed performs nothing: the rest of a cut command may follow,
+// so that it is not a short one.
+fn advance(
+    image: &mut [u8],
+    at: Position,
+    got: io::Result<usize>,
+    input: &mut [u8],
+    out: &mut [u8],
+) -> Step
     requires waiting_lt_command_size { at.waiting < command_size }
     requires got_in_bounds { at.waiting + given_size got ≤ length input.old }
     requires command_size_in_bounds { command_count input.old * longest_line command_size ≤ length out.old }
@@ -152,63 +168,93 @@ fn advance(image: &mut [u8], at: Position, got: isize, input: &mut [u8], out: &m
         × (result.put ≤ length out.old)
         × (result.next.waiting < command_size) }
 {
-    if got >= 0 {
-        let size = io::count(got, input);
-        return perform(image, at, size, input, out);
-    }
-    Step {
+    let unmoved = Step {
         put: 0,
         next: stopped(at),
+    };
+    match got {
+        Ok(size) => perform(image, at, size, input, out),
+        Err(_) => unmoved,
     }
 }
 
-// Reads once, performs what was read and writes its lines: the next position. The program stops where a read or a write
-// fails, and says so.
-fn read_on(image: &mut [u8], at: Position, input: &mut [u8], out: &mut [u8]) -> Position
+// Reads once, performs what was read and writes its lines: the next position. Where the read or the write fails, the
+// program goes on no more.
+fn read_on<R: Read, W: Write>(
+    image: &mut [u8],
+    at: Position,
+    reader: &mut R,
+    writer: &mut W,
+    input: &mut [u8],
+    out: &mut [u8],
+) -> Result<Position, Failure>
     requires waiting_lt_command_size { at.waiting < command_size }
     requires command_size_in_bounds { command_size ≤ length input.old }
     requires command_size_in_bounds_2 { command_count input.old * longest_line command_size ≤ length out.old }
-    ensures { ReadSome (standing at input.old image.old) result input.new
-        image.new
-        × (result.waiting < command_size) }
+    ensures one { IfOk result (λ next. ReadOne (standing at input.old image.old) next
+        input.new image.new (R.remaining reader.old) (R.remaining reader.new)
+        (W.contents writer.old) (W.contents writer.new)) }
+    ensures waits { IfOk result (λ next. next.waiting < command_size) }
+    ensures some { OnErr result (ReadSome (standing at input.old image.old) (stopped_at at)
+        input.new image.new) }
+    ensures failed { IfErr result (NoneRead image.old image.new (R.remaining reader.old)
+        (R.remaining reader.new) (W.contents writer.old) (W.contents writer.new)) }
 {
     let waiting = at.waiting;
-    let answer = libc::read(STDIN_FILENO, &mut input[waiting..]);
-    if answer < 0 {
-        os::fail(b"cabinet: standard input");
-    }
+    let answer = reader.read(&mut input[waiting..]);
     let step = advance(image, at, answer, input, out);
     let put = step.put;
     let next = step.next;
-    if io::write_all(STDOUT_FILENO, &out[..put]) {
-        return next;
+    match answer {
+        Ok(_) => match writer.write_all(&out[..put]) {
+            Ok(()) => Ok(next),
+            Err(reason) => Err(Failure::Output(reason)),
+        },
+        Err(reason) => Err(Failure::Input(reason)),
     }
-    os::fail(b"cabinet: standard output");
-    stopped(next)
 }
 
-// Performs the commands of standard input on the image, to the end of the input or to a read or write that fails, with
-// two buffers.
-fn read_all(image: &mut [u8], input: &mut [u8], out: &mut [u8])
+// Performs the commands that a reader gives on the image and writes their listing, to the end of the input or to a read
+// or write that fails, with two buffers.
+fn read_all<R: Read, W: Write>(
+    image: &mut [u8],
+    reader: &mut R,
+    writer: &mut W,
+    input: &mut [u8],
+    out: &mut [u8],
+) -> Result<(), Failure>
     requires command_size_in_bounds { command_size ≤ length input.old }
     requires command_size_in_bounds_2 { command_count input.old * longest_line command_size ≤ length out.old }
-    ensures { RanSome image.old image.new }
+    ensures some { RanSome image.old image.new }
+    ensures known { OnOk result (ListsKnown image.old image.new (R.remaining reader.old)
+        (W.contents writer.old) (W.contents writer.new)) }
+    ensures failed { IfErr result (ListsRead image.old image.new (R.remaining reader.old)
+        (R.remaining reader.new) (W.contents writer.old) (W.contents writer.new)) }
 {
     let mut at = first_position();
     while at.more {
-        let next = read_on(image, at, input, out);
+        let next = read_on(image, at, reader, writer, input, out)?;
         at = next;
     }
+    Ok(())
 }
 
-// Performs the commands of standard input on the image, to the end of the input or to a read or write that fails, and
+// Performs the commands that a reader gives on the image, to the end of the input or to a read or write that fails, and
 // writes their listing.
-pub fn run(image: &mut [u8])
-    ensures { RanSome image.old image.new }
+pub fn run<R: Read, W: Write>(
+    image: &mut [u8],
+    reader: &mut R,
+    writer: &mut W,
+) -> Result<(), Failure>
+    ensures some { RanSome image.old image.new }
+    ensures known { OnOk result (ListsKnown image.old image.new (R.remaining reader.old)
+        (W.contents writer.old) (W.contents writer.new)) }
+    ensures failed { IfErr result (ListsRead image.old image.new (R.remaining reader.old)
+        (R.remaining reader.new) (W.contents writer.old) (W.contents writer.new)) }
 {
     let mut input_space = [0u8; INPUT_SIZE];
     let mut out_space = [0u8; OUTPUT_SIZE];
     let input: &mut [u8] = &mut input_space;
     let out: &mut [u8] = &mut out_space;
-    read_all(image, input, out);
+    read_all(image, reader, writer, input, out)
 }
