@@ -26,8 +26,8 @@ use Rattle.listing.specs.Listing.{InParts, command_count, image_behind, listing}
 use Rattle.listing.proofs.Parts.{in_parts}
 use Rattle.console.specs.declared.Position.{Position}
 use Rattle.console.specs.declared.Step.{Step}
-use Rattle.console.specs.declared.failure.Failure.{Failure}
-use Rattle.console.specs.declared.failure.Failure.TheVariants.{Input, Output}
+use Rattle.console.specs.declared.ending.Failure.{Failure}
+use Rattle.console.specs.declared.ending.Failure.TheVariants.{Input, Output}
 use Rattle.console.specs.Readings.{Advanced, Given, ListsKnown, ListsRead, NoneRead, ReadOne, ReadSome, Standing, cut, gave, given_by, held_bytes, is_end, is_last, lines_of, numbers_fit, performed, performed_size, standing, standing_after}
 use Rattle.console.proofs.AllListed.{whole_parts, whole-size}
 use Rattle.console.proofs.Loop.{Performed, not_last, still-waiting}

@@ -10,8 +10,8 @@ use Rattle.lines.specs.Text.{Puts}
 use Rattle.listing.specs.Listing.{command_count, image_behind, listing}
 use Rattle.console.specs.declared.Position.{Position}
 use Rattle.console.specs.declared.Step.{Step}
-use Rattle.console.specs.declared.failure.Failure.{Failure}
-use Rattle.console.specs.declared.failure.Failure.TheVariants.{Input, Output}
+use Rattle.console.specs.declared.ending.Failure.{Failure}
+use Rattle.console.specs.declared.ending.Failure.TheVariants.{Input, Output}
 
 -- Where the program stands: the number of its next command, the bytes of that command that wait for the rest of it, and
 -- the image.

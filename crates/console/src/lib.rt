@@ -1,7 +1,7 @@
 // The body of the program: commands from a reader, their listing to a writer, in bounded memory.
 #![tactic(auto)]
 
-mod failure;
+mod ending;
 
 ghost use Rattle.std.specs.Prelude.{◌*◌, ◌+◌, ◌-◌, ◌<◌, ◌≤◌, length, true, ◌≡◌, IfErr, IfOk, OnErr, OnOk};
 ghost use Rattle.lists.specs.Segments.{segment, splice};
@@ -26,7 +26,7 @@ ghost use Rattle.console.specs.Readings.{
   stopped_at,
 };
 
-pub use failure::Failure;
+pub use ending::Failure;
 use std::io;
 use std::io::{Read, Write};
 
