@@ -17,7 +17,7 @@ to=${DESTDIR-}$prefix
 root=$(CDPATH='' cd "$(dirname "$0")" && pwd)
 header=$root/include/nolpigat.h
 . "$root/tests/built.sh"
-[ -f "$archive" ] || fail "$archive is missing: run 'rt lib' in $root/crates/nolpigat"
+[ -f "$archive" ] || fail "$archive is missing: run 'rt lib --cpu x86-64' in $root/crates/nolpigat"
 # The version stands in the header and nowhere else.
 version=$(sed -n 's/^#define NOLPIGAT_VERSION "\([0-9.]*\)"$/\1/p' "$header")
 [ -n "$version" ] || fail "$header has no version"

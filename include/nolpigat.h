@@ -1,4 +1,4 @@
-/* The replicated record store for callers in C99 and C++: link with libnolpigat.a (x86-64-v2).
+/* The replicated record store for callers in C99 and C++: link with libnolpigat.a (x86-64).
  *
  * The store lies in an image of 21,248 bytes that the caller lends with each call. It keeps 512
  * records of 16 bits, each on two of up to eight cards. docs/RULES.md has the rules; for every image

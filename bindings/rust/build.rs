@@ -40,7 +40,7 @@ fn main() {
                 value.display()
             ),
             None => format!(
-                "{} is missing: run `rt lib` in {}, or set {VARIABLE} to the folder of {ARCHIVE}",
+                "{} is missing: run `rt lib --cpu x86-64` in {}, or set {VARIABLE} to the folder of {ARCHIVE}",
                 archive.display(),
                 crate_folder.display()
             ),
