@@ -5,7 +5,7 @@
 use std::env::{Env, FillError};
 
 // Whether an argument follows the program's name.
-fn has_argument(rt: &impl Env) -> bool {
+fn has_argument(rt: &HostRuntime) -> bool {
     let mut start = [0u8; 1];
     !matches!(rt.arg(1, &mut start), Err(FillError::NotPresent))
 }

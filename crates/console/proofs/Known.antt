@@ -28,7 +28,8 @@ use Rattle.console.specs.declared.Position.{Position}
 use Rattle.console.specs.declared.Step.{Step}
 use Rattle.console.specs.declared.ending.Failure.{Failure}
 use Rattle.console.specs.declared.ending.Failure.TheVariants.{Input, Output}
-use Rattle.console.specs.Readings.{Advanced, Given, ListsKnown, ListsRead, NoneRead, ReadOne, ReadSome, Standing, cut, gave, given_by, held_bytes, is_end, is_last, lines_of, numbers_fit, performed, performed_size, standing, standing_after}
+use Rattle.console.specs.Readings.{Advanced, Given, ListsKnown, ListsRead, NoneRead, ReadOne, ReadSome, Standing, cut, gave, given_by}
+use Rattle.console.specs.Readings.{held_bytes, is_end, is_last, lines_of, numbers_fit, performed, performed_size, standing, standing_after}
 use Rattle.console.proofs.AllListed.{whole_parts, whole-size}
 use Rattle.console.proofs.Loop.{Performed, not_last, still-waiting}
 use Rattle.console.proofs.ReadAnswers.{advanced-same, given-ok}

@@ -1,11 +1,11 @@
 // Text put into a lent buffer, in ASCII. Each function answers the index behind what it put.
 ghost use Rattle.std.specs.Prelude.{◌∷◌, [], ◌≡◌, ◌*◌, ◌+◌, ◌<◌, ◌≤◌, length};
-ghost use Rattle.lines.specs.Text.{Puts, decimal, glyph as Text·glyph, hex_byte, hex_bytes};
+ghost use Rattle.lines.specs.Text.{Puts, decimal, glyph, hex_byte, hex_bytes};
 
 // The digit for a number below 16.
 fn glyph(digit: u8) -> u8
     requires { digit < 16 }
-    ensures { result ≡ Text·glyph digit }
+    ensures { result ≡ glyph digit }
 {
     if digit < 10 {
         return b'0' + digit;

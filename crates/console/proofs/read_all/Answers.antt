@@ -16,12 +16,14 @@ use Rattle.console.proofs.read_all.Goals as goal
 pub loop-at-init : goal.loop-at-init
 loop-at-init g c =
     let a = c.args in
-    let e = c.first_position-at.ensures in (
+    let e = c.first_position-at.ensures in
+    let left = g.R.Read.remaining a.reader.now in
+    let held = g.W.Write.contents a.writer.now in (
       refl,
       refl,
       refl,
       subst (λ (p : Position). p.waiting < command_size) (sym e) (omega arith),
-      subst (λ (p : Position). Listed a.image.now a.image.now p a.input.now (g.R.Read.remaining a.reader.now) (g.R.Read.remaining a.reader.now) (g.W.Write.contents a.writer.now) (g.W.Write.contents a.writer.now))
+      subst (λ (p : Position). Listed a.image.now a.image.now p a.input.now left left held held)
           (sym e) (none_listed a.image.now a.input.now _ _),
     )
 
@@ -49,7 +51,7 @@ loop-at-smaller g c =
     let next : Position = c.in_ok-next.next in
     let r = c.read_on in
     let s : Standing = standing l.at l.input l.image in
-    let some = some_of c.in_ok-next.ensures.one in
+    let some = some_of {s = s} c.in_ok-next.ensures.one in
     let w = length-take-le l.at.waiting l.input (omega (arith, l.invariant.1, l.invariant.3, c.requires.command_size_in_bounds)) in
     falls l.at next c.loop-at-test.true c.in_ok-next.ensures.waits (λ h. omega (arith, w, rises s next r.new.input r.new.image some h)) (below s next r.new.input r.new.image some)
 
