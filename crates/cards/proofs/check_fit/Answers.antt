@@ -4,7 +4,7 @@ use mathlib.Core.Bool.{false, true}
 use mathlib.Core.Path.{◌∙◌, refl, sym}
 use Rattle.image.specs.Layout.{card_count}
 use Rattle.cards.proofs.Rows.{fit-by}
-use Rattle.cards.proofs.fit_refusal.Goals as goal
+use Rattle.cards.proofs.check_fit.Goals as goal
 
 pub returns-then-card-ge-MOST_CARDS : goal.returns-then-card-ge-MOST_CARDS
 returns-then-card-ge-MOST_CARDS c =

@@ -9,7 +9,7 @@ use Rattle.control.specs.Meaning.{meaning, newest_mask}
 use Rattle.control.specs.declared.Control.{Control}
 use Rattle.promise.proofs.SharedRows.{tran-range}
 use Rattle.transactions.specs.Transactions.{begin_rows}
-use Rattle.transactions.proofs.begin_refusal.Goals as goal
+use Rattle.transactions.proofs.check_begin.Goals as goal
 
 -- Whether the newest placement has card h, by its mask.
 has-newest : (k : Control) (h : ℕ) {m : ℕ} (on : Bool) → m ≡ newest_mask k → on ≡ has_card (byte m) h → has_card (byte (newest_mask k)) h ≡ on

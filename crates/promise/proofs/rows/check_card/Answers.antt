@@ -4,7 +4,7 @@ use borrow.Author.Tests.{le-ltb, lt-ltb}
 use Rattle.image.specs.Layout.{card_count}
 use Rattle.control.specs.Meaning.{meaning}
 use Rattle.promise.specs.Rows.{card_rows}
-use Rattle.promise.proofs.rows.card_refusal.Goals as goal
+use Rattle.promise.proofs.rows.check_card.Goals as goal
 
 pub returns-then-card-ge-MOST_CARDS : goal.returns-then-card-ge-MOST_CARDS
 unfolding card_rows

@@ -10,7 +10,7 @@ use Rattle.mask.specs.Masks.{byte, size}
 use Rattle.control.specs.Meaning.{meaning}
 use Rattle.cabinet_rules.specs.Places.{again_by_rails}
 use Rattle.cards.proofs.Rows.{again-says-9, few-says-9, full-says-10, idle-says-9, room-says-0, spent-says-20, says-4, few, works}
-use Rattle.cards.proofs.place_refusal.Goals as goal
+use Rattle.cards.proofs.check_place.Goals as goal
 
 -- fewer members than copies, and not
 few-at : (m : ℕ) {n : ℕ} → n ≡ size (byte m) → n < least_members → ltb (size (byte m)) least_members ≡ true

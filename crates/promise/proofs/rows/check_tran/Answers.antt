@@ -5,7 +5,7 @@ use Rattle.control.specs.Meaning.{meaning}
 use Rattle.promise.specs.Rows.{tran_rows}
 use Rattle.promise.proofs.SharedRows.{open-given, tran-range}
 use Rattle.promise.proofs.Finish.{given-whole}
-use Rattle.promise.proofs.rows.tran_refusal.Goals as goal
+use Rattle.promise.proofs.rows.check_tran.Goals as goal
 
 pub returns-then-not-is_tran : goal.returns-then-not-is_tran
 unfolding tran_rows
