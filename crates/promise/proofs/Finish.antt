@@ -71,8 +71,11 @@ module _ (c : Call cabinet) (late : is_start c ≡ false) (g : Image) where
     refusal-rules = rw (eq-eqb (length g) image_size (form-long g clear), form-good g clear, late)
 
     -- 3 and up
+    pub refused-by-rules : (r : Refusal) → number r ≡ rows_on c g → Done c g (Err r) g
+    refused-by-rules r e = by_row c g r (e ∙ sym refusal-rules)
+
     pub by-rules : (r : Refusal) (a : Result AnswerValue Refusal) → number r ≡ rows_on c g → HandsOn r a → Done c g a g
-    by-rules r a e h = rw (handed-on a h) (by_row c g r (e ∙ sym refusal-rules))
+    by-rules r a e h = rw (handed-on a h) (refused-by-rules r e)
 
     -- accepted: the plan's answer, and the image after the plan
     pub by-plan : (a : AnswerValue) (p : Plan cabinet) (behind : Image) → 0 ≡ rows_on c g → plan_on c g ≡ p

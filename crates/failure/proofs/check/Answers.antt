@@ -4,7 +4,7 @@ use mathlib.Core.Path.{◌∙◌, sym}
 use Rattle.image.specs.Layout.{card_count}
 use Rattle.control.specs.Meaning.{meaning}
 use Rattle.failure.specs.Failing.{fail_rows}
-use Rattle.failure.proofs.refusal.Goals as goal
+use Rattle.failure.proofs.check.Goals as goal
 
 pub returns-then-card-ge-MOST_CARDS : goal.returns-then-card-ge-MOST_CARDS
 unfolding fail_rows

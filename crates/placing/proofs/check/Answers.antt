@@ -7,7 +7,7 @@ use Rattle.table_lines.specs.Lines.{are_lines, has_gap, has_overlap}
 use Rattle.placing.proofs.Rows.{says-0, says-10, says-17, says-18, says-20, says-3, says-4, says-9, works}
 use mathlib.Core.Bool.{not}
 use mathlib.Core.Path.{ap}
-use Rattle.placing.proofs.refusal.Goals as goal
+use Rattle.placing.proofs.check.Goals as goal
 
 pub returns-then-not-in_range : goal.returns-then-not-in_range
 returns-then-not-in_range c =

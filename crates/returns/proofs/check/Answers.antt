@@ -5,7 +5,7 @@ use mir.Val.{Fits}
 use Rattle.lists.proofs.Bools.{not_is, not-not-is}
 use Rattle.promise.proofs.Finish.{given-whole}
 use Rattle.returns.proofs.Rows.{FailedCard, failed-card, not-failed, other-stamp, out_of_range_lem, runs, same-stamp}
-use Rattle.returns.proofs.refusal.Goals as goal
+use Rattle.returns.proofs.check.Goals as goal
 
 pub returns-then-card-ge-MOST_CARDS : goal.returns-then-card-ge-MOST_CARDS
 returns-then-card-ge-MOST_CARDS c = out_of_range_lem c.requires c.args.card.0 c.if-card-ge-MOST_CARDS.true
