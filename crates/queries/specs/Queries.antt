@@ -19,6 +19,18 @@ use Rattle.queries.specs.declared.Told.{Told}
 use Rattle.queries.specs.declared.Told.TheVariants.{None, Number, Refused}
 
 -- ---- refused, or told
+-- What is told: a number, that there is none, or a refusal's number.
+data pub Told : Type 0 where
+  Number : ℕ → Told
+  None : Told
+  Refused : ℕ → Told
+
+-- What a question's answer tells.
+abbrev pub shown_told : Result (Option ℕ) Refusal → Told
+shown_told (Ok (Some n)) = Number n
+shown_told (Ok None-of-code) = None
+shown_told (Err r) = Refused (number r)
+
 -- The refusal's number; where it is 0, what is told.
 abbrev pub unless_row : ℕ → Told → Told
 unless_row zero t = t

@@ -4,7 +4,7 @@ use mathlib.Core.Path.{◌∙◌, sym}
 use Rattle.reorganise.proofs.Settles.{settle-rows}
 use mathlib.Core.Bool.{not}
 use mathlib.Core.Path.{ap}
-use Rattle.reorganise.proofs.settling.refusal.Goals as goal
+use Rattle.reorganise.proofs.settling.check.Goals as goal
 
 pub returns-then-k : goal.returns-then-k
 returns-then-k c = rw c.if-k.true at (settle-rows c.args.k c.args.image.now c.requires)

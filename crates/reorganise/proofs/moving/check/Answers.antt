@@ -3,6 +3,8 @@ use Prim.Native.Nat.{◌+◌, ◌-◌, ◌≤◌, ℕ}
 use borrow.Author.Tests.{not-false, not-true}
 use borrow.Rule.Slice.PartMut.{mid_of}
 use lib.ListN.{length}
+use Rattle.refusals.proofs.HandedOn.{row-handed-on}
+use Rattle.refusals.proofs.Numbers.{not-none}
 use mathlib.Core.Bool.{Bool, not}
 use mathlib.Core.List.{List}
 use mathlib.Core.Path.{◌∙◌, ◌≡◌, refl}
@@ -14,27 +16,27 @@ use Rattle.promise.proofs.SharedRows.{card-given}
 use Rattle.promise.specs.Given.{rows_on}
 use Rattle.reorganise.proofs.MoveRows.{copy-card, copy-end, copy-rows, refused-block, refused-card}
 use mathlib.Core.Path.{ap}
-use Rattle.reorganise.proofs.moving.refusal.Goals as goal
+use Rattle.reorganise.proofs.moving.check.Goals as goal
 
 pub returns-then-block-ge-BLOCK_COUNT : goal.returns-then-block-ge-BLOCK_COUNT
 returns-then-block-ge-BLOCK_COUNT c = let a = c.args in refused-block a.image.now a.card.0 a.block.0 c.if-block-ge-BLOCK_COUNT.true
 
-pub returns-then-on_card-ne0 : goal.returns-then-on_card-ne0
-returns-then-on_card-ne0 c =
+pub returns-in_err-check_card : goal.returns-in_err-check_card
+returns-in_err-check_card c =
     let a = c.args in
-    refused-card a.image.now a.card.0 a.block.0 c.card_refusal-on_card.result c.if-block-ge-BLOCK_COUNT.false
-    (c.card_refusal-on_card.ensures ∙ card-given c.requires a.card.0) c.if-on_card-ne0.true
+    row-handed-on _ _ c.from_residual.ensures
+    ∙ refused-card a.image.now a.card.0 a.block.0 _ c.if-block-ge-BLOCK_COUNT.false (c.in_err-check_card.ensures ∙ card-given c.requires a.card.0) (not-none _)
 
 pub block_address-start-requires : goal.block_address-start-requires
 block_address-start-requires c =
     let a = c.args in
-    (copy-card a.k a.image.now c.requires a.card.0 a.block.0 c.if-block-ge-BLOCK_COUNT.false c.card_refusal-on_card.result c.card_refusal-on_card.ensures c.if-on_card-ne0.false, c.if-block-ge-BLOCK_COUNT.false)
+    (copy-card a.k a.image.now c.requires a.card.0 a.block.0 c.if-block-ge-BLOCK_COUNT.false c.in_ok-check_card.ensures, c.if-block-ge-BLOCK_COUNT.false)
 
 pub slice_bounds-is_held-end : goal.slice_bounds-is_held-end
 slice_bounds-is_held-end c =
     -- the block lies in the image
     let ends : c.block_address-start.result + block_size ≤ length c.args.image.now = let a = c.args in
-    copy-end a.k a.image.now c.requires a.card.0 a.block.0 c.if-block-ge-BLOCK_COUNT.false c.card_refusal-on_card.result c.card_refusal-on_card.ensures c.if-on_card-ne0.false
+    copy-end a.k a.image.now c.requires a.card.0 a.block.0 c.if-block-ge-BLOCK_COUNT.false c.in_ok-check_card.ensures
     c.block_address-start.result c.block_address-start.ensures in
     ends
 
@@ -47,7 +49,7 @@ returns-then-not-is_held c =
     let rows : (locked : Bool) → locked ≡ some_locked (of_list lent)
     → let a = c.args in row 11 (not c.is_held.result) (row 12 locked 0) ≡ rows_on (move a.card.0 a.block.0) a.image.now = λ locked e. let a = c.args in
     let t = c.block_address-start.result in
-    copy-rows a.k a.image.now c.requires a.card.0 a.block.0 c.if-block-ge-BLOCK_COUNT.false c.card_refusal-on_card.result c.card_refusal-on_card.ensures c.if-on_card-ne0.false
+    copy-rows a.k a.image.now c.requires a.card.0 a.block.0 c.if-block-ge-BLOCK_COUNT.false c.in_ok-check_card.ensures
     t c.block_address-start.ensures (t + block_size - t) (omega arith) c.is_held.result locked c.is_held.ensures e in
     rw (not-true c.is_held.result (ap not c.if-not-is_held.true)) at (rows (some_locked (of_list lent)) refl)
 
@@ -55,7 +57,7 @@ pub slice_bounds-any_locked-end : goal.slice_bounds-any_locked-end
 slice_bounds-any_locked-end c =
     -- the block lies in the image
     let ends : c.block_address-start.result + block_size ≤ length c.args.image.now = let a = c.args in
-    copy-end a.k a.image.now c.requires a.card.0 a.block.0 c.if-block-ge-BLOCK_COUNT.false c.card_refusal-on_card.result c.card_refusal-on_card.ensures c.if-on_card-ne0.false
+    copy-end a.k a.image.now c.requires a.card.0 a.block.0 c.if-block-ge-BLOCK_COUNT.false c.in_ok-check_card.ensures
     c.block_address-start.result c.block_address-start.ensures in
     ends
 
@@ -68,7 +70,7 @@ returns-then-any_locked c =
     let rows : (locked : Bool) → locked ≡ some_locked (of_list lent)
     → let a = c.args in row 11 (not c.is_held.result) (row 12 locked 0) ≡ rows_on (move a.card.0 a.block.0) a.image.now = λ locked e. let a = c.args in
     let t = c.block_address-start.result in
-    copy-rows a.k a.image.now c.requires a.card.0 a.block.0 c.if-block-ge-BLOCK_COUNT.false c.card_refusal-on_card.result c.card_refusal-on_card.ensures c.if-on_card-ne0.false
+    copy-rows a.k a.image.now c.requires a.card.0 a.block.0 c.if-block-ge-BLOCK_COUNT.false c.in_ok-check_card.ensures
     t c.block_address-start.ensures (t + block_size - t) (omega arith) c.is_held.result locked c.is_held.ensures e in
     rw (not-false c.is_held.result (ap not c.if-not-is_held.false), c.if-any_locked.true) at (rows c.any_locked.result c.any_locked.ensures)
 
@@ -81,6 +83,6 @@ returns c =
     let rows : (locked : Bool) → locked ≡ some_locked (of_list lent)
     → let a = c.args in row 11 (not c.is_held.result) (row 12 locked 0) ≡ rows_on (move a.card.0 a.block.0) a.image.now = λ locked e. let a = c.args in
     let t = c.block_address-start.result in
-    copy-rows a.k a.image.now c.requires a.card.0 a.block.0 c.if-block-ge-BLOCK_COUNT.false c.card_refusal-on_card.result c.card_refusal-on_card.ensures c.if-on_card-ne0.false
+    copy-rows a.k a.image.now c.requires a.card.0 a.block.0 c.if-block-ge-BLOCK_COUNT.false c.in_ok-check_card.ensures
     t c.block_address-start.ensures (t + block_size - t) (omega arith) c.is_held.result locked c.is_held.ensures e in
     rw (not-false c.is_held.result (ap not c.if-not-is_held.false), c.if-any_locked.false) at (rows c.any_locked.result c.any_locked.ensures)
