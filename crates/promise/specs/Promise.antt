@@ -49,8 +49,12 @@ said Protected = protected
 said Unprotected = unprotected
 said (Loaded n) = loaded n
 
--- The answer of the rules for what a call answers: one of these, or the number of its refusal.
-abbrev pub shown : Result AnswerValue Refusal → Answer cabinet
+-- What a call answers: one of these, or its refusal.
+abbrev pub Answered : Type 0
+Answered = Result AnswerValue Refusal
+
+-- The answer of the rules for it.
+abbrev pub shown : Answered → Answer cabinet
 shown (Ok a) = said a
 shown (Err r) = refused (number r)
 
@@ -60,6 +64,6 @@ shown_filled (Ok n) = written n
 shown_filled (Err r) = unfilled (number r)
 
 -- A call on an image answered a and left the image behind.
-pub record Done (c : Call cabinet) (before : Image) (a : Result AnswerValue Refusal) (behind : Image) : Type 0 where
+pub record Done (c : Call cabinet) (before : Image) (a : Answered) (behind : Image) : Type 0 where
   pub answers : shown a ≡ answer c before
   pub leaves : behind ≡ next c before
