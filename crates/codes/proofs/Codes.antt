@@ -10,8 +10,7 @@ use Rattle.method.specs.Rules.{Answer, Call, absent, copied, loaded, ok, placed,
 use Rattle.method.specs.Rules.{unplaced, unprotected, value}
 use Rattle.cabinet_rules.specs.Cabinet.{cabinet}
 use Rattle.cabinet_rules.specs.Images.{Image}
-use Rattle.promise.specs.Promise.{Done, shown}
-use Rattle.promise.specs.declared.Answer.{Answer as AnswerValue}
+use Rattle.promise.specs.Promise.{Answered, said, Done, shown}
 use Rattle.promise.specs.declared.Answer.TheVariants.{Placed}
 use Rattle.command.specs.Meaning.{Obeyed}
 use Rattle.returns.specs.Promise.{ReturnDone}
@@ -72,18 +71,18 @@ answer_back a h =
 pub one-number-each : OneNumberEach
 one-number-each a b h k e = sym (answer_back a h) ∙ ap answer_of_code e ∙ answer_back b k
 
-pub placed-code : (m : ℕ) → m < 256 → coded 3 m ≡ code_of (shown (Placed m))
+pub placed-code : (m : ℕ) → m < 256 → coded 3 m ≡ code_of (said (Placed m))
 unfolding kind_of answer_number
 placed-code m h =
     let e : m ≡ m % 256 = omega arith in
     ap (coded 3) e
 
 -- ---- the functions
-pub coded-done : {c : Call cabinet} {g h : Image} {a : AnswerValue} {n : ℕ} → Done c g a h → n ≡ code_of (shown a) → Coded c g n h
+pub coded-done : {c : Call cabinet} {g h : Image} {a : Answered} {n : ℕ} → Done c g a h → n ≡ code_of (shown a) → Coded c g n h
 coded-done d e = record { answers = e ∙ ap code_of d.answers; leaves = d.leaves }
 
-pub coded-return : {c : ℕ} {g h : Image} {a : AnswerValue} {n : ℕ} → ReturnDone c g a h → n ≡ code_of (shown a) → CodedReturn c g n h
+pub coded-return : {c : ℕ} {g h : Image} {a : Answered} {n : ℕ} → ReturnDone c g a h → n ≡ code_of (shown a) → CodedReturn c g n h
 coded-return d e = record { answers = e ∙ ap code_of d.answers; leaves = d.leaves }
 
-pub coded-obeyed : {l : List ℕ} {g h : Image} {a : AnswerValue} {n : ℕ} → Obeyed l g a h → n ≡ code_of (shown a) → CodedCommand l g n h
+pub coded-obeyed : {l : List ℕ} {g h : Image} {a : Answered} {n : ℕ} → Obeyed l g a h → n ≡ code_of (shown a) → CodedCommand l g n h
 coded-obeyed d e = record { answers = e ∙ ap code_of d.answers; leaves = d.leaves }

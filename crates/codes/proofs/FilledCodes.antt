@@ -7,7 +7,8 @@ use Rattle.cabinet_rules.specs.Delivery.{Delivery}
 use Rattle.cabinet_rules.specs.Images.{Image}
 use Rattle.converter.specs.Promise.{ConvertDone}
 use Rattle.promise.specs.Promise.{shown_filled}
-use Rattle.promise.specs.declared.Filled.{Filled as FilledValue}
+use Rattle.std.specs.Prelude.{Result}
+use Rattle.refusals.specs.declared.Refusal.{Refusal}
 use Rattle.codes.specs.FilledCodes.{CodedConversion, OneFilledCodeEach, filled_code, filled_kind, filled_number}
 
 -- two of one kind and one number are one
@@ -21,6 +22,6 @@ same (unfilled n) (unfilled m) k e = ap (λ (x : ℕ). unfilled x) e
 pub one-filled-code-each : OneFilledCodeEach
 one-filled-code-each a b h k e = same a b (omega (arith, e, h, k)) (omega (arith, e, h, k))
 
-pub coded-conversion : {E D : Delivery} {carry : Image → Image} {older lent left : Image} {a : FilledValue} {code : ℕ} → ConvertDone E D carry older lent a left
+pub coded-conversion : {E D : Delivery} {carry : Image → Image} {older lent left : Image} {a : Result ℕ Refusal} {code : ℕ} → ConvertDone E D carry older lent a left
     → code ≡ filled_code (shown_filled a) → CodedConversion E D carry older lent code left
 coded-conversion d e = record { answers = e ∙ ap filled_code d.answers; leaves = d.leaves }

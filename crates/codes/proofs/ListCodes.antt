@@ -5,8 +5,7 @@ use mathlib.Core.Path.{◌∙◌, ◌≡◌, ap, refl}
 use native.Mathlib.Omega.{arith}
 use Rattle.method.specs.MoveList.{ListAnswer, listed, no_list, not_listed}
 use Rattle.cabinet_rules.specs.Images.{Image}
-use Rattle.move_list.specs.Promise.{shown_list}
-use Rattle.move_list.specs.declared.Listed.{Listed}
+use Rattle.move_list.specs.Promise.{Listed, shown_list}
 use Rattle.move_bytes.specs.MoveBytes.{BytesDone}
 use Rattle.codes.specs.ListCodes.{CodedList, OneListCodeEach, list_code, list_kind, list_number}
 

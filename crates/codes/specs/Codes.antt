@@ -6,6 +6,9 @@ use Rattle.cabinet_rules.specs.Cabinet.{cabinet}
 use Rattle.cabinet_rules.specs.Images.{Image, answer, next}
 use Rattle.cabinet_rules.specs.Returns.{after_return_on, answer_to_return}
 use Rattle.command.specs.Meaning.{command_answer, command_next}
+use Rattle.codes.specs.declared.Kind.{Kind}
+use Rattle.codes.specs.declared.Kind.TheVariants.{Absent, Copies, Done, Listed, Load, Nothing, Number, Placed, Protected, Refused, Retired}
+use Rattle.codes.specs.declared.Kind.TheVariants.{Stopped, Unplaced, Unprotected, Value, Written}
 
 -- The kind of each answer, and its number: 0 where it has none. Kinds 11 and 12 are of the move list (ListCodes), 12 and 13 of
 -- questions (ToldCodes), 14 is of calls that fill lent bytes (FilledCodes).
@@ -46,6 +49,25 @@ coded kind number = kind * number_range + number
 
 abbrev pub code_of : Answer cabinet → ℕ
 code_of a = coded (kind_of a) (answer_number a)
+
+-- The number of a kind of the code.
+abbrev pub number_of_kind : Kind → ℕ
+number_of_kind Done = 0
+number_of_kind Value = 1
+number_of_kind Absent = 2
+number_of_kind Placed = 3
+number_of_kind Unplaced = 4
+number_of_kind Stopped = 5
+number_of_kind Copies = 6
+number_of_kind Retired = 7
+number_of_kind Protected = 8
+number_of_kind Unprotected = 9
+number_of_kind Load = 10
+number_of_kind Listed = 11
+number_of_kind Nothing = 12
+number_of_kind Number = 13
+number_of_kind Written = 14
+number_of_kind Refused = 15
 
 -- Each answer, of those whose number has 16 bits, has a code of its own.
 abbrev pub OneNumberEach : Type 0

@@ -1,20 +1,19 @@
 -- What questions are told, as numbers of 32 bits, for callers in other languages. Assumes nothing.
 use Rattle.std.specs.Prelude.{◌<◌, ℕ, ◌≡◌}
-use Rattle.queries.specs.declared.Told.{Told}
-use Rattle.queries.specs.declared.Told.TheVariants.{None, Number, Refused}
+use Rattle.queries.specs.Queries.{Told, not_told, tells, tells_none}
 use Rattle.codes.specs.Codes.{coded, number_range}
 
 -- The kind, beside those of the answers, and the number: 0 where there is none. None and a refusal have the kinds that they
 -- have there.
 unfoldable pub told_kind : Told → ℕ
-told_kind (Number n) = 13
-told_kind None = 12
-told_kind (Refused n) = 15
+told_kind (tells n) = 13
+told_kind tells_none = 12
+told_kind (not_told n) = 15
 
 unfoldable pub told_number : Told → ℕ
-told_number (Number n) = n
-told_number None = 0
-told_number (Refused n) = n
+told_number (tells n) = n
+told_number tells_none = 0
+told_number (not_told n) = n
 
 abbrev pub told_code : Told → ℕ
 told_code t = coded (told_kind t) (told_number t)

@@ -1,124 +1,131 @@
 // Answers as numbers of 32 bits, for callers in other languages.
 #![tactic(auto)]
 
-ghost use Rattle.std.specs.Prelude.{◌≡◌, ◌<◌};
-ghost use Rattle.promise.specs.Promise.{shown, shown_filled};
+ghost use Rattle.std.specs.Prelude.{◌≡◌};
+ghost use Rattle.refusals.specs.Refusals.{number};
+ghost use Rattle.promise.specs.Promise.{said, shown, shown_filled};
 ghost use Rattle.move_list.specs.Promise.{shown_list};
-ghost use Rattle.codes.specs.Codes.{code_of, coded};
+ghost use Rattle.queries.specs.Queries.{shown_told};
+ghost use Rattle.codes.specs.Codes.{code_of, coded, number_of_kind};
 ghost use Rattle.codes.specs.CommandCodes.{form_code};
 ghost use Rattle.codes.specs.FilledCodes.{filled_code};
 ghost use Rattle.codes.specs.ListCodes.{list_code};
 ghost use Rattle.codes.specs.ToldCodes.{told_code};
 
-use move_list::Listed;
-use promise::{Answer, Filled};
-use queries::Told;
+use promise::Answer;
+use refusals::Refusal;
 
-// Kinds of answers.
-const OK: u32 = 0;
-
-const VALUE: u32 = 1;
-
-const ABSENT: u32 = 2;
-
-const PLACED: u32 = 3;
-
-const UNPLACED: u32 = 4;
-
-const STOPPED: u32 = 5;
-
-const COPIES: u32 = 6;
-
-const RETIRED: u32 = 7;
-
-const PROTECTED: u32 = 8;
-
-const UNPROTECTED: u32 = 9;
-
-const LOAD: u32 = 10;
-
-const LISTED: u32 = 11;
-
-const NONE: u32 = 12;
-
-const NUMBER: u32 = 13;
-
-const WRITTEN: u32 = 14;
-
-const REFUSED: u32 = 15;
-
-// The refusal of a command that is malformed.
-const MALFORMED: u16 = 15;
+// Kinds of answers, each by its number at the C boundary.
+#[derive(Clone, Copy, Debug, PartialEq, Eq)]
+enum Kind {
+    Done = 0,
+    Value = 1,
+    Absent = 2,
+    Placed = 3,
+    Unplaced = 4,
+    Stopped = 5,
+    Copies = 6,
+    Retired = 7,
+    Protected = 8,
+    Unprotected = 9,
+    Load = 10,
+    Listed = 11,
+    Nothing = 12,
+    Number = 13,
+    Written = 14,
+    Refused = 15,
+}
 
 // Numbers of 16 bits stand below the kind.
 const NUMBER_RANGE: u32 = 65536;
 
 // The code of a kind and a number.
-fn pair(kind: u32, number: u16) -> u32
-    requires { kind < 16 }
-    ensures { result ≡ coded kind number }
+fn pair(kind: Kind, number: u16) -> u32
+    ensures { result ≡ coded (number_of_kind kind) number }
 {
-    kind * NUMBER_RANGE + number as u32
+    kind as u32 * NUMBER_RANGE + number as u32
+}
+
+// The code of a refusal.
+fn refused(refusal: Refusal) -> u32
+    ensures { result ≡ coded 15 (number refusal) }
+{
+    pair(Kind::Refused, refusal.number() as u16)
+}
+
+// The code of an answer that is no refusal.
+#[tactic(auto, unfolding(crate::specs::Codes::kind_of, crate::specs::Codes::answer_number))]
+fn accepted(answer: Answer) -> u32
+    ensures { result ≡ code_of (said answer) }
+{
+    match answer {
+        Answer::Accepted => pair(Kind::Done, 0),
+        Answer::Value(n) => pair(Kind::Value, n),
+        Answer::Absent => pair(Kind::Absent, 0),
+        Answer::Placed(mask) => pair(Kind::Placed, mask as u16),
+        Answer::Unplaced => pair(Kind::Unplaced, 0),
+        Answer::Stopped => pair(Kind::Stopped, 0),
+        Answer::Copied(n) => pair(Kind::Copies, n as u16),
+        Answer::Retired(n) => pair(Kind::Retired, n as u16),
+        Answer::Protected => pair(Kind::Protected, 0),
+        Answer::Unprotected => pair(Kind::Unprotected, 0),
+        Answer::Loaded(n) => pair(Kind::Load, n),
+    }
 }
 
 // The code of an answer.
-pub fn code(answer: Answer) -> u32
+#[tactic(auto, unfolding(crate::specs::Codes::kind_of, crate::specs::Codes::answer_number))]
+pub fn code(answer: Result<Answer, Refusal>) -> u32
     ensures { result ≡ code_of (shown answer) }
 {
     match answer {
-        Answer::Ok => pair(OK, 0),
-        Answer::Value(n) => pair(VALUE, n),
-        Answer::Absent => pair(ABSENT, 0),
-        Answer::Placed(mask) => pair(PLACED, mask as u16),
-        Answer::Unplaced => pair(UNPLACED, 0),
-        Answer::Stopped => pair(STOPPED, 0),
-        Answer::Copied(n) => pair(COPIES, n as u16),
-        Answer::Retired(n) => pair(RETIRED, n as u16),
-        Answer::Protected => pair(PROTECTED, 0),
-        Answer::Unprotected => pair(UNPROTECTED, 0),
-        Answer::Loaded(n) => pair(LOAD, n),
-        Answer::Refused(n) => pair(REFUSED, n as u16),
+        Ok(said) => accepted(said),
+        Err(refusal) => refused(refusal),
     }
 }
 
 // The code of an answer of the move list.
-pub fn list_code(listed: Listed) -> u32
+#[tactic(auto, unfolding(crate::specs::ListCodes::list_kind, crate::specs::ListCodes::list_number))]
+pub fn list_code(listed: Result<Option<u16>, Refusal>) -> u32
     ensures { result ≡ list_code (shown_list listed) }
 {
     match listed {
-        Listed::Moves(n) => pair(LISTED, n),
-        Listed::None => pair(NONE, 0),
-        Listed::Refused(n) => pair(REFUSED, n as u16),
+        Ok(Some(n)) => pair(Kind::Listed, n),
+        Ok(None) => pair(Kind::Nothing, 0),
+        Err(refusal) => refused(refusal),
     }
 }
 
 // The code of what a question is told.
-pub fn told_code(told: Told) -> u32
-    ensures { result ≡ told_code told }
+#[tactic(auto, unfolding(crate::specs::ToldCodes::told_kind, crate::specs::ToldCodes::told_number))]
+pub fn told_code(told: Result<Option<u8>, Refusal>) -> u32
+    ensures { result ≡ told_code (shown_told told) }
 {
     match told {
-        Told::Number(n) => pair(NUMBER, n as u16),
-        Told::None => pair(NONE, 0),
-        Told::Refused(n) => pair(REFUSED, n as u16),
+        Ok(Some(n)) => pair(Kind::Number, n as u16),
+        Ok(None) => pair(Kind::Nothing, 0),
+        Err(refusal) => refused(refusal),
     }
 }
 
 // The code of an answer of a call that fills lent bytes.
-pub fn filled_code(filled: Filled) -> u32
+#[tactic(auto, unfolding(crate::specs::FilledCodes::filled_kind, crate::specs::FilledCodes::filled_number))]
+pub fn filled_code(filled: Result<u16, Refusal>) -> u32
     ensures { result ≡ filled_code (shown_filled filled) }
 {
     match filled {
-        Filled::Bytes(n) => pair(WRITTEN, n),
-        Filled::Refused(n) => pair(REFUSED, n as u16),
+        Ok(n) => pair(Kind::Written, n),
+        Err(refusal) => refused(refusal),
     }
 }
 
 // The code of whether a command is formed.
+#[tactic(auto, unfolding(crate::specs::CommandCodes::form_code, crate::specs::Codes::kind_of, crate::specs::Codes::answer_number))]
 pub fn form_code(formed: bool) -> u32
     ensures { result ≡ form_code formed }
 {
     if formed {
-        return pair(OK, 0);
+        return pair(Kind::Done, 0);
     }
-    pair(REFUSED, MALFORMED)
+    refused(Refusal::Malformed)
 }
