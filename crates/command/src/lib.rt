@@ -23,9 +23,10 @@ ghost use Rattle.command.specs.Meaning.{block_for, call_for};
 
 pub mod codec;
 
-use codec::Shown;
 use image::{Block, Card, Rec, Tran};
 use promise::Call;
+use std::error::Error;
+use std::fmt;
 
 // The bytes of a command.
 pub const SIZE: usize = 5;
@@ -87,19 +88,17 @@ pub enum Command {
     WideMove(Card, u16),
 }
 
-// What a list of bytes asks for.
-#[derive(Clone, Copy)]
-pub enum Reading {
-    Asks(Command),
-    Malformed,
+// Bytes that are no command, or a command that five bytes do not hold.
+#[derive(Clone, Copy, Debug, PartialEq, Eq)]
+pub struct Malformed;
+
+impl fmt::Display for Malformed {
+    fn fmt<W: fmt::Write>(&self, f: &mut fmt::Formatter<W>) -> fmt::Result {
+        f.write_str("malformed command")
+    }
 }
 
-// Whether a command was written.
-#[derive(Clone, Copy)]
-pub enum Writing {
-    Written,
-    Malformed,
-}
+impl Error for Malformed {}
 
 // The fields of a command. The number is a record's or a block's, the value may be a mask.
 #[derive(Clone, Copy)]
@@ -171,8 +170,8 @@ fn is_wide_move(f: Fields) -> bool
 
 // The call of a known operation.
 fn call_at(f: Fields) -> Call
-    requires f_value { formed f ≡ true }
-    requires f_value_2 { is_wide_move f ≡ false }
+    requires is_formed { formed f ≡ true }
+    requires is_narrow { is_wide_move f ≡ false }
     ensures { result ≡ call_at f }
 {
     let operation = f.operation;
@@ -207,14 +206,11 @@ fn command_at(f: Fields) -> Command
 }
 
 // What the bytes ask for.
-pub fn read(bytes: &[u8]) -> Reading
+pub fn read(bytes: &[u8]) -> Result<Command, Malformed>
     ensures { result ≡ read_of bytes.now }
 {
-    let shown = codec::read(bytes);
-    match shown {
-        Shown::Has(f) => Reading::Asks(command_at(f)),
-        Shown::Malformed => Reading::Malformed,
-    }
+    let f = codec::read(bytes)?;
+    Ok(command_at(f))
 }
 
 // A command's fields, zero where the operation lacks them.
@@ -281,7 +277,7 @@ fn is_writable(command: Command) -> bool
 // Writes the fields into five lent bytes.
 fn encode(bytes: &mut [u8], f: Fields)
     requires bytes_len { length bytes.old ≡ command_size }
-    requires f_value { formed f ≡ true }
+    requires is_formed { formed f ≡ true }
     ensures { bytes.new ≡ encoded f }
 {
     bytes[0] = f.operation * FOUR_BITS + f.tran;
@@ -291,19 +287,19 @@ fn encode(bytes: &mut [u8], f: Fields)
     bytes[4] = (f.value % EIGHT_BITS) as u8;
 }
 
-// Writes a command: whether it was written. Refused, the bytes stay as found.
-pub fn write(bytes: &mut [u8], command: Command) -> Writing
+// Writes a command. Refused, the bytes stay as found.
+pub fn write(bytes: &mut [u8], command: Command) -> Result<(), Malformed>
     ensures { (result ≡ write_of bytes.old command)
         × (bytes.new ≡ write_leaves bytes.old command) }
 {
     if bytes.len() != SIZE {
-        return Writing::Malformed;
+        return Err(Malformed);
     }
     if is_writable(command) {
         encode(bytes, fields_for(command));
-        return Writing::Written;
+        return Ok(());
     }
-    Writing::Malformed
+    Err(Malformed)
 }
 
 // The block of the call that performs a move of this number.

@@ -13,7 +13,7 @@ ghost use Rattle.returns.specs.Promise.{ReturnDone};
 
 pub mod moves;
 
-use command::Reading;
+use command::Malformed;
 use image::{Block, Card, Rec, Tran};
 use promise::{Answer, Call, Filled};
 
@@ -159,10 +159,9 @@ pub fn perform(image: &mut [u8], call: Call) -> Answer
 pub fn perform_command(image: &mut [u8], bytes: &[u8]) -> Answer
     ensures { Obeyed bytes.now image.old result image.new }
 {
-    let reading = command::read(bytes);
-    match reading {
-        Reading::Asks(asked) => perform(image, command::call_for(asked)),
-        Reading::Malformed => Answer::Refused(MALFORMED),
+    match command::read(bytes) {
+        Ok(asked) => perform(image, command::call_for(asked)),
+        Err(Malformed) => Answer::Refused(MALFORMED),
     }
 }
 

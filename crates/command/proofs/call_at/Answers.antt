@@ -8,7 +8,7 @@ use Rattle.command.proofs.call_at.Goals as goal
 
 pub overflow_cast-result : goal.overflow_cast-result
 overflow_cast-result c =
-    let m = at_most 0 0 0 most_mask c.args.f (form_of c.args.f 0 c.in-0.is ∙ c.requires.f_value) in
+    let m = at_most 0 0 0 most_mask c.args.f (form_of c.args.f 0 c.in-0.is ∙ c.requires.is_formed) in
     omega arith
 
 pub returns-in-0 : goal.returns-in-0
@@ -40,7 +40,7 @@ returns-in-8 c = call-of c.args.f 8 c.in-8.is
 
 pub overflow_cast-result-in-9 : goal.overflow_cast-result-in-9
 overflow_cast-result-in-9 c =
-    let m = at_most 0 0 0 most_mask c.args.f (form_of c.args.f 9 c.in-9.is ∙ c.requires.f_value) in
+    let m = at_most 0 0 0 most_mask c.args.f (form_of c.args.f 9 c.in-9.is ∙ c.requires.is_formed) in
     omega arith
 
 pub returns-in-9 : goal.returns-in-9
@@ -51,7 +51,7 @@ returns-in-10 c = call-of c.args.f 10 c.in-10.is
 
 pub overflow_cast-result-in-11 : goal.overflow_cast-result-in-11
 overflow_cast-result-in-11 c =
-    let m = narrow c.args.f c.in-11.is c.requires.f_value_2 in
+    let m = narrow c.args.f c.in-11.is c.requires.is_narrow in
     omega arith
 
 pub returns-in-11 : goal.returns-in-11

@@ -6,19 +6,19 @@ use borrow.Author.Rules.{rules}
 use Rattle.command.proofs.encode.Goals as goal
 
 pub overflow_mul-bytes : goal.overflow_mul-bytes
-overflow_mul-bytes c = omega (arith, formed-known c.args.f c.requires.f_value)
+overflow_mul-bytes c = omega (arith, formed-known c.args.f c.requires.is_formed)
 
 pub overflow_add-bytes : goal.overflow_add-bytes
-overflow_add-bytes c = omega (arith, formed-known c.args.f c.requires.f_value, (formed-wide c.args.f c.requires.f_value).tran-fits)
+overflow_add-bytes c = omega (arith, formed-known c.args.f c.requires.is_formed, (formed-wide c.args.f c.requires.is_formed).tran-fits)
 
 pub overflow_mul-bytes-2 : goal.overflow_mul-bytes-2
-overflow_mul-bytes-2 c = omega (arith, (formed-wide c.args.f c.requires.f_value).card-fits)
+overflow_mul-bytes-2 c = omega (arith, (formed-wide c.args.f c.requires.is_formed).card-fits)
 
 pub overflow_add-bytes-2 : goal.overflow_add-bytes-2
 overflow_add-bytes-2 c = omega (
   arith,
-  (formed-wide c.args.f c.requires.f_value).card-fits,
-  (formed-wide c.args.f c.requires.f_value).number_fits,
+  (formed-wide c.args.f c.requires.is_formed).card-fits,
+  (formed-wide c.args.f c.requires.is_formed).number_fits,
 )
 
 pub bounds-bytes-4 : goal.bounds-bytes-4

@@ -12,7 +12,7 @@ returns-then-bytes-ne-SIZE c = write-length c.args.bytes.now c.args.command c.if
 pub encode-requires : goal.encode-requires
 encode-requires c =
     let k : Command = c.args.command in
-    record { bytes_len = c.if-bytes-ne-SIZE.false; f_value = ap formed c.fields_for.ensures ∙ writable-formed k (sym c.is_writable.ensures ∙ c.if-is_writable.true) }
+    record { bytes_len = c.if-bytes-ne-SIZE.false; is_formed = ap formed c.fields_for.ensures ∙ writable-formed k (sym c.is_writable.ensures ∙ c.if-is_writable.true) }
 
 pub returns-then-is_writable : goal.returns-then-is_writable
 unfolding bytes_for

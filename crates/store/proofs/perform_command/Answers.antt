@@ -4,9 +4,8 @@ use mathlib.Core.Path.{◌∙◌, sym}
 use Rattle.command.proofs.Meaning.{obeyed-asked, obeyed-malformed}
 use Rattle.store.proofs.perform_command.Goals as goal
 
-pub returns-in-Asks : goal.returns-in-Asks
-returns-in-Asks c = obeyed-asked (sym c.read-reading.ensures ∙ c.in-Asks.is)
-    c.call_for.ensures c.perform.ensures
+pub returns-in-Ok : goal.returns-in-Ok
+returns-in-Ok c = obeyed-asked (sym c.read.ensures ∙ c.in-Ok.is) c.call_for.ensures c.perform.ensures
 
-pub returns-in-Malformed : goal.returns-in-Malformed
-returns-in-Malformed c = obeyed-malformed (sym c.read-reading.ensures ∙ c.in-Malformed.is)
+pub returns-in-Err : goal.returns-in-Err
+returns-in-Err c = obeyed-malformed (sym c.read.ensures ∙ c.in-Err.is)

@@ -9,7 +9,7 @@ returns-then-bytes-ne-SIZE c = fields-length c.args.bytes.now c.args.f c.if-byte
 
 pub encode-requires : goal.encode-requires
 encode-requires c =
-    record { bytes_len = c.if-bytes-ne-SIZE.false; f_value = sym c.is_formed.ensures ∙ c.if-is_formed.true }
+    record { bytes_len = c.if-bytes-ne-SIZE.false; is_formed = sym c.is_formed.ensures ∙ c.if-is_formed.true }
 
 pub returns-then-is_formed : goal.returns-then-is_formed
 returns-then-is_formed c =
