@@ -91,8 +91,11 @@ forms =
 abbrev pub unknown : Fields → Bool
 unknown f = false
 
+abbrev pub of_form : ℕ → Fields → Bool
+of_form operation f = get_or forms operation unknown f
+
 unfoldable pub formed : Fields → Bool
-formed f = get_or forms f.operation unknown f
+formed f = of_form f.operation f
 
 -- A list of bytes is a command if it has five bytes with formed fields.
 unfoldable pub well_formed : List ℕ → Bool
@@ -122,8 +125,11 @@ abbrev pub last_call : Fields → Call
 last_call f = Load (record { 0 = f.card })
 
 -- The call of a known operation with these fields.
+abbrev pub call_by : ℕ → Fields → Call
+call_by operation f = get_or calls operation last_call f
+
 unfoldable pub call_at : Fields → Call
-call_at f = get_or calls f.operation last_call f
+call_at f = call_by f.operation f
 
 -- A block is a byte, and its field has 12 bits: a move of a number that no block can have.
 abbrev pub most_block : ℕ

@@ -4,6 +4,7 @@
 ghost use Rattle.std.specs.Prelude.{◌≡◌, false, true, length};
 ghost use Rattle.command.specs.Commands.{
   call_at,
+  call_by,
   call_fields,
   command_at,
   command_size,
@@ -15,52 +16,25 @@ ghost use Rattle.command.specs.Commands.{
   formed,
   is_wide_move,
   is_writable,
+  of_form,
   read_of,
   write_leaves,
   write_of,
 };
 ghost use Rattle.command.specs.Meaning.{block_for, call_for};
+ghost use Rattle.command.specs.Operations.{operation_number};
 
 pub mod codec;
+mod operation;
 
 use image::{Block, Card, Rec, Tran};
+pub use operation::Operation;
 use promise::Call;
 use std::error::Error;
 use std::fmt;
 
 // The bytes of a command.
 pub const SIZE: usize = 5;
-
-// The known operations.
-pub const START: u8 = 0;
-
-pub const BEGIN: u8 = 1;
-
-pub const GET: u8 = 2;
-
-pub const STORE: u8 = 3;
-
-pub const DELETE: u8 = 4;
-
-pub const COMMIT: u8 = 5;
-
-pub const ROLLBACK: u8 = 6;
-
-pub const FIT: u8 = 7;
-
-pub const WITHDRAW: u8 = 8;
-
-pub const PLACE: u8 = 9;
-
-pub const FAIL: u8 = 10;
-
-pub const MOVE: u8 = 11;
-
-pub const SETTLE: u8 = 12;
-
-pub const STATE: u8 = 13;
-
-pub const LOAD: u8 = 14;
 
 // How many numbers four bits and eight bits have.
 const FOUR_BITS: u8 = 16;
@@ -100,7 +74,8 @@ impl fmt::Display for Malformed {
 
 impl Error for Malformed {}
 
-// The fields of a command. The number is a record's or a block's, the value may be a mask.
+// The fields of a command. The number is a record's or a block's, the value may be a mask. The operation stays a number
+// here: callers in C lend any four bits (`nolpigat_read_command`, `nolpigat_write_command`).
 #[derive(Clone, Copy)]
 pub struct Fields {
     pub operation: u8,
@@ -139,22 +114,31 @@ fn is_within(f: Fields, tran: u8, card: u8, number: u16, value: u16) -> bool
     f.value <= value
 }
 
+// Whether the fields that the operation lacks are zero and the others are not too wide.
+fn is_of_form(operation: Operation, f: Fields) -> bool
+    ensures { result ≡ of_form (operation_number operation) f }
+{
+    match operation {
+        Operation::Start | Operation::Place => is_within(f, 0, 0, 0, MOST_MASK),
+        Operation::Begin => is_within(f, MOST_TRAN, MOST_CARD, 0, 0),
+        Operation::Get | Operation::Delete => is_within(f, MOST_TRAN, 0, MOST_NUMBER, 0),
+        Operation::Store => is_within(f, MOST_TRAN, 0, MOST_NUMBER, MOST_VALUE),
+        Operation::Commit | Operation::Rollback => is_within(f, MOST_TRAN, 0, 0, 0),
+        Operation::Fit | Operation::Withdraw | Operation::Fail | Operation::Load => is_within(
+            f, 0, MOST_CARD, 0, 0,
+        ),
+        Operation::Move => is_within(f, 0, MOST_CARD, MOST_NUMBER, 0),
+        Operation::Settle | Operation::State => is_within(f, 0, 0, 0, 0),
+    }
+}
+
 // Whether the operation is known, the fields that it lacks are zero and the others are not too wide.
 fn is_formed(f: Fields) -> bool
     ensures { result ≡ formed f }
 {
-    let operation = f.operation;
-    match operation {
-        START | PLACE => return is_within(f, 0, 0, 0, MOST_MASK),
-        BEGIN => return is_within(f, MOST_TRAN, MOST_CARD, 0, 0),
-        GET | DELETE => return is_within(f, MOST_TRAN, 0, MOST_NUMBER, 0),
-        STORE => return is_within(f, MOST_TRAN, 0, MOST_NUMBER, MOST_VALUE),
-        COMMIT..=ROLLBACK => return is_within(f, MOST_TRAN, 0, 0, 0),
-        FIT..=WITHDRAW => return is_within(f, 0, MOST_CARD, 0, 0),
-        FAIL | LOAD => return is_within(f, 0, MOST_CARD, 0, 0),
-        MOVE => return is_within(f, 0, MOST_CARD, MOST_NUMBER, 0),
-        SETTLE..=STATE => return is_within(f, 0, 0, 0, 0),
-        _ => return false,
+    match Operation::try_from(f.operation) {
+        Ok(operation) => is_of_form(operation, f),
+        Err(Malformed) => false,
     }
 }
 
@@ -162,10 +146,36 @@ fn is_formed(f: Fields) -> bool
 fn is_wide_move(f: Fields) -> bool
     ensures { result ≡ is_wide_move f }
 {
-    if f.operation != MOVE {
+    if f.operation != Operation::Move as u8 {
         return false;
     }
     f.number > MOST_BLOCK
+}
+
+// The call of these fields, whose operation it is.
+fn call_by(operation: Operation, f: Fields) -> Call
+    requires is_operation { operation_number operation ≡ f.operation }
+    requires is_formed { formed f ≡ true }
+    requires is_narrow { is_wide_move f ≡ false }
+    ensures { result ≡ call_by (operation_number operation) f }
+{
+    match operation {
+        Operation::Start => Call::Start(f.value as u8),
+        Operation::Begin => Call::Begin(Tran(f.tran), Card(f.card)),
+        Operation::Get => Call::Get(Tran(f.tran), Rec(f.number)),
+        Operation::Store => Call::Store(Tran(f.tran), Rec(f.number), f.value),
+        Operation::Delete => Call::Delete(Tran(f.tran), Rec(f.number)),
+        Operation::Commit => Call::Commit(Tran(f.tran)),
+        Operation::Rollback => Call::Rollback(Tran(f.tran)),
+        Operation::Fit => Call::Fit(Card(f.card)),
+        Operation::Withdraw => Call::Withdraw(Card(f.card)),
+        Operation::Place => Call::Place(f.value as u8),
+        Operation::Fail => Call::Fail(Card(f.card)),
+        Operation::Move => Call::Move(Card(f.card), Block(f.number as u8)),
+        Operation::Settle => Call::Settle,
+        Operation::State => Call::State,
+        Operation::Load => Call::Load(Card(f.card)),
+    }
 }
 
 // The call of a known operation.
@@ -174,24 +184,7 @@ fn call_at(f: Fields) -> Call
     requires is_narrow { is_wide_move f ≡ false }
     ensures { result ≡ call_at f }
 {
-    let operation = f.operation;
-    match operation {
-        START => return Call::Start(f.value as u8),
-        BEGIN => return Call::Begin(Tran(f.tran), Card(f.card)),
-        GET => return Call::Get(Tran(f.tran), Rec(f.number)),
-        STORE => return Call::Store(Tran(f.tran), Rec(f.number), f.value),
-        DELETE => return Call::Delete(Tran(f.tran), Rec(f.number)),
-        COMMIT => return Call::Commit(Tran(f.tran)),
-        ROLLBACK => return Call::Rollback(Tran(f.tran)),
-        FIT => return Call::Fit(Card(f.card)),
-        WITHDRAW => return Call::Withdraw(Card(f.card)),
-        PLACE => return Call::Place(f.value as u8),
-        FAIL => return Call::Fail(Card(f.card)),
-        MOVE => return Call::Move(Card(f.card), Block(f.number as u8)),
-        SETTLE => return Call::Settle,
-        STATE => return Call::State,
-        _ => return Call::Load(Card(f.card)),
-    }
+    call_by(Operation::try_from(f.operation).unwrap(), f)
 }
 
 // The command of a known operation.
@@ -214,11 +207,11 @@ pub fn read(bytes: &[u8]) -> Result<Command, Malformed>
 }
 
 // A command's fields, zero where the operation lacks them.
-fn given(operation: u8, tran: u8, card: u8, number: u16, value: u16) -> Fields
-    ensures { result ≡ fields_given operation tran card number value }
+fn given(operation: Operation, tran: u8, card: u8, number: u16, value: u16) -> Fields
+    ensures { result ≡ fields_given (operation_number operation) tran card number value }
 {
     Fields {
-        operation: operation,
+        operation: operation as u8,
         tran: tran,
         card: card,
         number: number,
@@ -231,21 +224,21 @@ fn call_fields(call: Call) -> Fields
     ensures { (result ≡ call_fields call) × (is_wide_move result ≡ false) }
 {
     match call {
-        Call::Start(mask) => given(START, 0, 0, 0, mask as u16),
-        Call::Begin(tran, home) => given(BEGIN, tran.0, home.0, 0, 0),
-        Call::Get(tran, rec) => given(GET, tran.0, 0, rec.0, 0),
-        Call::Store(tran, rec, value) => given(STORE, tran.0, 0, rec.0, value),
-        Call::Delete(tran, rec) => given(DELETE, tran.0, 0, rec.0, 0),
-        Call::Commit(tran) => given(COMMIT, tran.0, 0, 0, 0),
-        Call::Rollback(tran) => given(ROLLBACK, tran.0, 0, 0, 0),
-        Call::Fit(card) => given(FIT, 0, card.0, 0, 0),
-        Call::Withdraw(card) => given(WITHDRAW, 0, card.0, 0, 0),
-        Call::Place(mask) => given(PLACE, 0, 0, 0, mask as u16),
-        Call::Fail(card) => given(FAIL, 0, card.0, 0, 0),
-        Call::Move(card, block) => given(MOVE, 0, card.0, block.0 as u16, 0),
-        Call::Settle => given(SETTLE, 0, 0, 0, 0),
-        Call::State => given(STATE, 0, 0, 0, 0),
-        Call::Load(card) => given(LOAD, 0, card.0, 0, 0),
+        Call::Start(mask) => given(Operation::Start, 0, 0, 0, mask as u16),
+        Call::Begin(tran, home) => given(Operation::Begin, tran.0, home.0, 0, 0),
+        Call::Get(tran, rec) => given(Operation::Get, tran.0, 0, rec.0, 0),
+        Call::Store(tran, rec, value) => given(Operation::Store, tran.0, 0, rec.0, value),
+        Call::Delete(tran, rec) => given(Operation::Delete, tran.0, 0, rec.0, 0),
+        Call::Commit(tran) => given(Operation::Commit, tran.0, 0, 0, 0),
+        Call::Rollback(tran) => given(Operation::Rollback, tran.0, 0, 0, 0),
+        Call::Fit(card) => given(Operation::Fit, 0, card.0, 0, 0),
+        Call::Withdraw(card) => given(Operation::Withdraw, 0, card.0, 0, 0),
+        Call::Place(mask) => given(Operation::Place, 0, 0, 0, mask as u16),
+        Call::Fail(card) => given(Operation::Fail, 0, card.0, 0, 0),
+        Call::Move(card, block) => given(Operation::Move, 0, card.0, block.0 as u16, 0),
+        Call::Settle => given(Operation::Settle, 0, 0, 0, 0),
+        Call::State => given(Operation::State, 0, 0, 0, 0),
+        Call::Load(card) => given(Operation::Load, 0, card.0, 0, 0),
     }
 }
 
@@ -255,7 +248,7 @@ fn fields_for(command: Command) -> Fields
 {
     match command {
         Command::Of(call) => call_fields(call),
-        Command::WideMove(card, number) => given(MOVE, 0, card.0, number, 0),
+        Command::WideMove(card, number) => given(Operation::Move, 0, card.0, number, 0),
     }
 }
 
