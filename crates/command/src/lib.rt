@@ -99,19 +99,11 @@ fn decode(a: u8, b: u8, c: u8, d: u8, e: u8) -> Fields
 }
 
 // Whether each field is at most its limit.
+#[tactic(auto, unfolding(crate::specs::Commands::fields_within))]
 fn is_within(f: Fields, tran: u8, card: u8, number: u16, value: u16) -> bool
     ensures { result ≡ fields_within tran card number value f }
 {
-    if f.tran > tran {
-        return false;
-    }
-    if f.card > card {
-        return false;
-    }
-    if f.number > number {
-        return false;
-    }
-    f.value <= value
+    f.tran <= tran && f.card <= card && f.number <= number && f.value <= value
 }
 
 // Whether the fields that the operation lacks are zero and the others are not too wide.
@@ -143,13 +135,11 @@ fn is_formed(f: Fields) -> bool
 }
 
 // Whether the operation is move and the number one that no block can have.
+#[tactic(auto, unfolding(crate::specs::Commands::is_wide_move))]
 fn is_wide_move(f: Fields) -> bool
     ensures { result ≡ is_wide_move f }
 {
-    if f.operation != Operation::Move as u8 {
-        return false;
-    }
-    f.number > MOST_BLOCK
+    f.operation == Operation::Move as u8 && f.number > MOST_BLOCK
 }
 
 // The call of these fields, whose operation it is.
@@ -220,6 +210,7 @@ fn given(operation: Operation, tran: u8, card: u8, number: u16, value: u16) -> F
 }
 
 // The fields of a call. Its block is a byte.
+#[tactic(auto, unfolding(crate::specs::Commands::call_fields, crate::specs::Commands::is_wide_move))]
 fn call_fields(call: Call) -> Fields
     ensures { (result ≡ call_fields call) × (is_wide_move result ≡ false) }
 {
@@ -253,17 +244,13 @@ fn fields_for(command: Command) -> Fields
 }
 
 // Whether the command can be written. A wide move of a number that a block can have is not of its form.
+#[tactic(auto, unfolding(crate::specs::Commands::is_writable))]
 fn is_writable(command: Command) -> bool
     ensures { result ≡ is_writable command }
 {
     match command {
-        Command::Of(call) => return is_formed(call_fields(call)),
-        Command::WideMove(_, number) => {
-            if number <= MOST_BLOCK {
-                return false;
-            }
-            return is_formed(fields_for(command));
-        }
+        Command::Of(call) => is_formed(call_fields(call)),
+        Command::WideMove(_, number) => number > MOST_BLOCK && is_formed(fields_for(command)),
     }
 }
 

@@ -1,6 +1,5 @@
 -- `call_by` meets its contract: a mask and a block are bytes, by the form. Assumes nothing.
 use mathlib.Core.Path.{◌∙◌, ◌≡◌, ap, sym}
-use Prim.Native.Nat.{ℕ}
 use native.Mathlib.Omega.{arith}
 use Rattle.command.specs.declared.operation.Operation.{Operation}
 use Rattle.command.specs.Commands.{call_by, most_mask}
