@@ -1,26 +1,19 @@
 -- The cases of what the reader says and of what the writer leaves. Assumes nothing.
 use mathlib.Core.Path.{◌∙◌, ◌≡◌, ap, refl, sym}
-use mathlib.Core.Bool.{Bool, ◌&&◌, cond, false, not, true}
+use mathlib.Core.Bool.{Bool, ◌&&◌, cond, false, true}
 use mathlib.Core.List.{List}
-use Prim.Native.Nat.{◌<◌, ◌≤◌, ℕ}
-use lib.Dec.{ltb}
+use Prim.Native.Nat.{ℕ}
 use lib.ListN.{length}
-use borrow.Author.Tests.{eq-eqb, le-ltb, lt-ltb, ne_eqb}
+use borrow.Author.Tests.{eq-eqb}
 use Rattle.std.specs.Prelude.{Err, Ok, Result, ⊤}
 use Rattle.lists.proofs.Bools.{and_r}
-use Rattle.image.specs.declared.Card.{Card}
-use Rattle.promise.specs.declared.Call.{Call}
 use Rattle.command.specs.declared.Command.{Command}
 use Rattle.command.specs.declared.Command.TheVariants.{Of, WideMove}
 use Rattle.command.specs.declared.Fields.{Fields}
 use Rattle.command.specs.declared.Malformed.{Malformed}
-use Rattle.command.specs.Commands.{bytes_for, call_at, call_fields, command_at, command_of, command_size, fields_for}
-use Rattle.command.specs.Commands.{fields_in, is_writable, formed, is_of_case, is_wide_move, write_leaves, most_block, read_of}
+use Rattle.command.specs.Commands.{bytes_for, call_at, command_at, command_of, command_size, fields_for}
+use Rattle.command.specs.Commands.{fields_in, is_writable, formed, is_of_case, is_wide_move, write_leaves, read_of}
 use Rattle.command.specs.Commands.{is_written, no_command, or_malformed, well_formed, write_of}
-
--- a conjunction that fails at its first test, and one that goes on past it
-pub fails-here : (p q : Bool) → p ≡ false → false ≡ (p && q)
-fails-here p q e = sym (ap (λ (b : Bool). b && q) e)
 
 pub goes-past : (p q r : Bool) → p ≡ true → r ≡ q → r ≡ (p && q)
 goes-past p q r e h = h ∙ sym (ap (λ (b : Bool). b && q) e)
@@ -57,20 +50,6 @@ unfolding command_at
 command-is f b e = ap (λ (t : Bool). cond t (WideMove (record { 0 = f.card }) f.number) (Of (call_at f))) e
 
 -- ---- the writer
--- whether a command is writable, in each of its cases
-pub writable-call : {f : Fields} {call : Call} {c : Command} → c ≡ Of call → f ≡ call_fields call → is_wide_move f ≡ false → formed f ≡ is_writable c
-unfolding is_writable
-writable-call {f} {call} {c} told e narrow =
-    goes-past (is_of_case (Of call)) (formed (call_fields call)) (formed f) (ap not (sym (ap is_wide_move e) ∙ narrow)) (ap formed e) ∙ sym (ap is_writable told)
-
-pub writable-small : {k : Card} {n : ℕ} {c : Command} → c ≡ WideMove k n → n ≤ most_block → false ≡ is_writable c
-unfolding is_writable
-writable-small {k} {n} {c} told h = fails-here (ltb most_block n) _ (le-ltb most_block n h) ∙ sym (ap is_writable told)
-
-pub writable-wide : {f : Fields} {k : Card} {n : ℕ} {c : Command} → c ≡ WideMove k n → most_block < n → f ≡ fields_for (WideMove k n) → formed f ≡ is_writable c
-unfolding is_writable
-writable-wide {f} {k} {n} {c} told h e = goes-past (ltb most_block n) _ (formed f) (lt-ltb most_block n h) (ap formed e) ∙ sym (ap is_writable told)
-
 pub writable-formed : (c : Command) → is_writable c ≡ true → formed (fields_for c) ≡ true
 unfolding is_writable
 writable-formed c h = and_r (is_of_case c) _ h
@@ -82,9 +61,6 @@ Leaves w l command m = (w ≡ write_of l command) × (m ≡ write_leaves l comma
 write-by : (l : List ℕ) (command : Command) (b : Bool) → b ≡ is_written l command → Leaves (or_malformed b tt) l command (cond b (bytes_for command) l)
 unfolding write_of
 write-by l command b e = (ap (λ (t : Bool). or_malformed t tt) e, ap (λ (t : Bool). cond t (bytes_for command) l) e)
-
-pub write-length : (l : List ℕ) (command : Command) → (length l ≡ command_size → ⊥) → Leaves (Err no_command) l command l
-write-length l command d = write-by l command false (fails-here _ _ (ne_eqb _ _ d))
 
 pub write-fit : (l : List ℕ) (command : Command) (b : Bool) → length l ≡ command_size → is_writable command ≡ b
     → Leaves (or_malformed b tt) l command (cond b (bytes_for command) l)

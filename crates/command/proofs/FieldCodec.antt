@@ -5,28 +5,24 @@ use mathlib.Core.List.{List}
 use Prim.Native.Nat.{ℕ}
 use lib.Dec.{eqb}
 use lib.ListN.{length}
-use borrow.Author.Tests.{eq-eqb, eqb-true, ne_eqb}
+use borrow.Author.Tests.{eq-eqb, eqb-true}
 use Rattle.std.specs.Prelude.{Err, Ok, Result, ⊤}
 use Rattle.lists.specs.Tests.{all_in}
 use Rattle.lists.proofs.Bools.{and_l, and_r}
 use Rattle.command.specs.declared.Fields.{Fields}
 use Rattle.command.specs.declared.Malformed.{Malformed}
-use Rattle.command.specs.Commands.{command_at, command_size, encoded, fields_fit, fields_in, fields_leave, formed, is_byte}
-use Rattle.command.specs.Commands.{no_command, or_malformed, read_of, shown_fields, well_formed, write_fields}
+use Rattle.command.specs.Commands.{command_size, encoded, fields_fit, fields_in, fields_leave, formed, is_byte}
+use Rattle.command.specs.Commands.{no_command, or_malformed, shown_fields, well_formed, write_fields}
 use Rattle.command.specs.RoundTrips.{ShownWrites, WrittenShows}
-use Rattle.command.proofs.Answers.{answered, fails-here, goes-past, read-by, refused}
+use Rattle.command.proofs.Answers.{answered, goes-past, refused}
 use Rattle.command.proofs.Bytes.{by-five}
-use Rattle.command.proofs.Forms.{formed-wide}
+use Rattle.command.proofs.Forms.{formed_wide}
 use Rattle.command.proofs.RoundTrip.{encoded-fields, fields-encoded}
 
 -- ---- what is shown
 shown_by : (l : List ℕ) (b : Bool) → b ≡ well_formed l → or_malformed b (fields_in l) ≡ shown_fields l
 unfolding shown_fields
 shown_by l b e = ap (λ (t : Bool). or_malformed t (fields_in l)) e
-
-pub shown-length : (l : List ℕ) → (length l ≡ command_size → ⊥) → Err no_command ≡ shown_fields l
-unfolding well_formed
-shown-length l d = shown_by l false (fails-here _ _ (ne_eqb _ _ d))
 
 pub shown-form : (l : List ℕ) (b : Bool) → length l ≡ command_size → formed (fields_in l) ≡ b → or_malformed b (fields_in l) ≡ shown_fields l
 unfolding well_formed
@@ -44,13 +40,6 @@ pub shown-malformed : (l : List ℕ) → shown_fields l ≡ Err no_command → w
 unfolding shown_fields
 shown-malformed l e = refused (well_formed l) (fields_in l) e
 
--- ---- the command of the fields shown
-pub asks-shown : (l : List ℕ) (f : Fields) → shown_fields l ≡ Ok f → Ok (command_at f) ≡ read_of l
-asks-shown l f e = let h = shown-has l f e in ap (λ (x : Fields). Ok (command_at x)) (sym h.1) ∙ read-by l true (sym h.0)
-
-pub asks_none : (l : List ℕ) → shown_fields l ≡ Err no_command → Err no_command ≡ read_of l
-asks_none l e = read-by l false (sym (shown-malformed l e))
-
 -- ---- what is written
 abbrev pub FieldsLeft : Result ⊤ Malformed → List ℕ → Fields → List ℕ → Type 0
 FieldsLeft w l f m = (w ≡ write_fields l f) × (m ≡ fields_leave l f)
@@ -58,9 +47,6 @@ FieldsLeft w l f m = (w ≡ write_fields l f) × (m ≡ fields_leave l f)
 fields-by : (l : List ℕ) (f : Fields) (b : Bool) → b ≡ fields_fit l f → FieldsLeft (or_malformed b tt) l f (cond b (encoded f) l)
 unfolding write_fields fields_leave
 fields-by l f b e = (ap (λ (t : Bool). or_malformed t tt) e, ap (λ (t : Bool). cond t (encoded f) l) e)
-
-pub fields-length : (l : List ℕ) (f : Fields) → (length l ≡ command_size → ⊥) → FieldsLeft (Err no_command) l f l
-fields-length l f d = fields-by l f false (fails-here _ _ (ne_eqb _ _ d))
 
 pub fields_fit_lem : (l : List ℕ) (f : Fields) (b : Bool) → length l ≡ command_size → formed f ≡ b → FieldsLeft (or_malformed b tt) l f (cond b (encoded f) l)
 fields_fit_lem l f b e h = fields-by l f b (goes-past _ _ _ (eq-eqb _ _ e) (sym h))
@@ -71,7 +57,7 @@ unfolding write_fields fields_leave
 written-shows lent f e =
     let w : fields_fit lent f ≡ true = (answered (fields_fit lent f) tt tt e).0 in
     let k : formed f ≡ true = and_r (eqb (length lent) command_size) _ w in
-    let back : fields_in (encoded f) ≡ f = fields-encoded f (formed-wide f k) in
+    let back : fields_in (encoded f) ≡ f = fields-encoded f (formed_wide f k) in
     ap (λ (t : Bool). shown_fields (cond t (encoded f) lent)) w
     ∙ sym (shown-form (encoded f) true refl (ap formed back ∙ k)) ∙ ap (λ (x : Fields). Ok x) back
 

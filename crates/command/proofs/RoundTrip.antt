@@ -24,8 +24,8 @@ use Rattle.command.specs.Commands.{is_written}
 use Rattle.command.specs.RoundTrips.{ReadWrites, WrittenReads}
 use Rattle.command.proofs.Answers.{command-is, read-asks, read-form, writable-formed, write-fit, write-says}
 use Rattle.command.proofs.Bytes.{by-five}
-use Rattle.command.proofs.Forms.{AtMost, Each, Wide, ◌then◌, at_most, each_at, form_of, formed-known}
-use Rattle.command.proofs.Forms.{formed-wide, none}
+use Rattle.command.proofs.Forms.{AtMost, Each, Wide, ◌then◌, at_most, each_at, form_of, formed_known}
+use Rattle.command.proofs.Forms.{formed_wide, none}
 
 -- fields are equal by each of the five
 same-fields : {f g : Fields} → f.operation ≡ g.operation → f.tran ≡ g.tran → f.card ≡ g.card → f.number ≡ g.number → f.value ≡ g.value → f ≡ g
@@ -116,7 +116,7 @@ calls_back f =
 pub call-fields-back : (f : Fields) → formed f ≡ true → call_fields (call_at f) ≡ f
 unfolding BackAt call_at
 call-fields-back f h =
-    each_at (BackAt f) operation_count 0 f.operation (calls_back f) zero-le (formed-known f h) refl (form_of f f.operation refl ∙ h)
+    each_at (BackAt f) operation_count 0 f.operation (calls_back f) zero-le (formed_known f h) refl (form_of f f.operation refl ∙ h)
 
 -- ---- fields and commands
 pub command-back : (c : Command) → is_of_case c ≡ true → command_at (fields_for c) ≡ c
@@ -147,7 +147,7 @@ bytes_read : (c : Command) → is_writable c ≡ true → read_of (bytes_for c) 
 unfolding is_writable bytes_for
 bytes_read c h =
     let k : formed (fields_for c) ≡ true = writable-formed c h in
-    let e : fields_in (encoded (fields_for c)) ≡ fields_for c = fields-encoded (fields_for c) (formed-wide (fields_for c) k) in
+    let e : fields_in (encoded (fields_for c)) ≡ fields_for c = fields-encoded (fields_for c) (formed_wide (fields_for c) k) in
     sym (read-form (encoded (fields_for c)) true refl (ap formed e ∙ k))
     ∙ ap Ok (ap command_at e ∙ command-back c (and_l (is_of_case c) _ h))
 

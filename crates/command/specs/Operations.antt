@@ -1,5 +1,6 @@
 -- The number of each operation: RULES, "Commands and the listing". Assumes nothing.
 use Rattle.std.specs.Prelude.{ℕ, ◌≡◌, ◌≤◌, MatchResult, Result}
+use Rattle.command.specs.Commands.{operation_count}
 use Rattle.command.specs.declared.Malformed.{Malformed}
 use Rattle.command.specs.declared.operation.Operation.{Operation}
 use Rattle.command.specs.declared.operation.Operation.TheVariants.{Begin, Commit, Delete, Fail, Fit, Get, Load, Move, Place, Rollback}
@@ -24,4 +25,4 @@ operation_number Load = 14
 
 -- A number is that of the operation answered, or of none.
 abbrev pub Numbered : ℕ → Result Operation Malformed → Type 0
-Numbered n r = MatchResult r (λ operation. operation_number operation ≡ n) (λ e. 15 ≤ n)
+Numbered n r = MatchResult r (λ operation. operation_number operation ≡ n) (λ e. operation_count ≤ n)

@@ -5,6 +5,7 @@ ghost use Rattle.command.specs.Commands.{fields_leave, shown_fields, write_field
 use crate::{Fields, Malformed, SIZE};
 
 // The fields of a command's bytes.
+#[tactic(auto, unfolding(crate::specs::Commands::shown_fields, crate::specs::Commands::well_formed, crate::specs::Commands::fields_in))]
 pub fn read(bytes: &[u8]) -> Result<Fields, Malformed>
     ensures { result ≡ shown_fields bytes.now }
 {
@@ -19,6 +20,7 @@ pub fn read(bytes: &[u8]) -> Result<Fields, Malformed>
 }
 
 // Writes a command with these fields. Refused, the bytes stay as found.
+#[tactic(auto, unfolding(crate::specs::Commands::write_fields, crate::specs::Commands::fields_leave))]
 pub fn write(bytes: &mut [u8], f: Fields) -> Result<(), Malformed>
     ensures { (result ≡ write_fields bytes.old f) × (bytes.new ≡ fields_leave bytes.old f) }
 {

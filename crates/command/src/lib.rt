@@ -125,6 +125,7 @@ fn is_of_form(operation: Operation, f: Fields) -> bool
 }
 
 // Whether the operation is known, the fields that it lacks are zero and the others are not too wide.
+#[tactic(auto, unfolding(crate::specs::Commands::formed))]
 fn is_formed(f: Fields) -> bool
     ensures { result ≡ formed f }
 {
@@ -143,6 +144,7 @@ fn is_wide_move(f: Fields) -> bool
 }
 
 // The call of these fields, whose operation it is.
+#[tactic(auto, unfolding(crate::specs::Commands::formed, crate::specs::Commands::fields_within, crate::specs::Commands::is_wide_move))]
 fn call_by(operation: Operation, f: Fields) -> Call
     requires is_operation { operation_number operation ≡ f.operation }
     requires is_formed { formed f ≡ true }
@@ -169,6 +171,7 @@ fn call_by(operation: Operation, f: Fields) -> Call
 }
 
 // The call of a known operation.
+#[tactic(auto, unfolding(crate::specs::Commands::formed, crate::specs::Commands::call_at))]
 fn call_at(f: Fields) -> Call
     requires is_formed { formed f ≡ true }
     requires is_narrow { is_wide_move f ≡ false }
@@ -178,6 +181,7 @@ fn call_at(f: Fields) -> Call
 }
 
 // The command of a known operation.
+#[tactic(auto, unfolding(crate::specs::Commands::command_at))]
 fn command_at(f: Fields) -> Command
     requires { formed f ≡ true }
     ensures { result ≡ command_at f }
@@ -189,6 +193,7 @@ fn command_at(f: Fields) -> Command
 }
 
 // What the bytes ask for.
+#[tactic(auto, unfolding(crate::specs::Commands::read_of, crate::specs::Commands::shown_fields, crate::specs::Commands::well_formed))]
 pub fn read(bytes: &[u8]) -> Result<Command, Malformed>
     ensures { result ≡ read_of bytes.now }
 {
@@ -255,19 +260,23 @@ fn is_writable(command: Command) -> bool
 }
 
 // Writes the fields into five lent bytes.
+#[tactic(auto, using(crate::proofs::Forms::formed_known, crate::proofs::Forms::formed_wide))]
 fn encode(bytes: &mut [u8], f: Fields)
     requires bytes_len { length bytes.old ≡ command_size }
     requires is_formed { formed f ≡ true }
     ensures { bytes.new ≡ encoded f }
 {
-    bytes[0] = f.operation * FOUR_BITS + f.tran;
-    bytes[1] = f.card * FOUR_BITS + (f.number / EIGHT_BITS) as u8;
-    bytes[2] = (f.number % EIGHT_BITS) as u8;
-    bytes[3] = (f.value / EIGHT_BITS) as u8;
-    bytes[4] = (f.value % EIGHT_BITS) as u8;
+    bytes.copy_from_slice(&[
+        f.operation * FOUR_BITS + f.tran,
+        f.card * FOUR_BITS + (f.number / EIGHT_BITS) as u8,
+        (f.number % EIGHT_BITS) as u8,
+        (f.value / EIGHT_BITS) as u8,
+        (f.value % EIGHT_BITS) as u8,
+    ]);
 }
 
 // Writes a command. Refused, the bytes stay as found.
+#[tactic(auto, unfolding(crate::specs::Commands::write_of, crate::specs::Commands::bytes_for, crate::specs::Commands::is_writable))]
 pub fn write(bytes: &mut [u8], command: Command) -> Result<(), Malformed>
     ensures { (result ≡ write_of bytes.old command)
         × (bytes.new ≡ write_leaves bytes.old command) }
