@@ -207,10 +207,10 @@ fn given(operation: Operation, tran: u8, card: u8, number: u16, value: u16) -> F
 {
     Fields {
         operation: operation as u8,
-        tran: tran,
-        card: card,
-        number: number,
-        value: value,
+        tran,
+        card,
+        number,
+        value,
     }
 }
 
@@ -276,19 +276,15 @@ fn encode(bytes: &mut [u8], f: Fields)
 }
 
 // Writes a command. Refused, the bytes stay as found.
-#[tactic(auto, unfolding(crate::specs::Commands::write_of, crate::specs::Commands::bytes_for, crate::specs::Commands::is_writable))]
+#[tactic(auto, unfolding(crate::specs::Commands::write_of, crate::specs::Commands::bytes_for, crate::specs::Commands::is_writable, crate::specs::Commands::write_fields, crate::specs::Commands::fields_leave))]
 pub fn write(bytes: &mut [u8], command: Command) -> Result<(), Malformed>
     ensures { (result ≡ write_of bytes.old command)
         × (bytes.new ≡ write_leaves bytes.old command) }
 {
-    if bytes.len() != SIZE {
+    if !is_writable(command) {
         return Err(Malformed);
     }
-    if is_writable(command) {
-        encode(bytes, fields_for(command));
-        return Ok(());
-    }
-    Err(Malformed)
+    codec::write(bytes, fields_for(command))
 }
 
 // The block of the call that performs a move of this number.

@@ -274,11 +274,11 @@ pub extern "C" fn nolpigat_write_command(
     ensures { CodedWriting bytes.old (fields_given operation tran card number value) result bytes.new }
 {
     let f = Fields {
-        operation: operation,
-        tran: tran,
-        card: card,
-        number: number,
-        value: value,
+        operation,
+        tran,
+        card,
+        number,
+        value,
     };
     match command::codec::write(bytes, f) {
         Ok(()) => codes::form_code(true),
