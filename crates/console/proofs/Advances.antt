@@ -14,7 +14,7 @@ use Rattle.lists.proofs.Segments.{get-put, length-segment}
 use Rattle.cabinet_rules.specs.Images.{Image}
 use Rattle.command.specs.Commands.{command_size}
 use Rattle.lines.specs.Lines.{longest_line}
-use Rattle.lines.proofs.Puts.{puts-same}
+use Rattle.lines.proofs.Puts.{puts_same}
 use Rattle.listing.specs.Listing.{Listed, command_count, has_room_for_all, image_behind, listing}
 use Rattle.console.specs.declared.Position.{Position}
 use Rattle.console.specs.Readings.{Advanced, Given, Standing, cut, gave, is_last, numbers_fit, performed, performed_size, position_behind, standing_after}
@@ -103,7 +103,7 @@ advanced number w got put e l b out o g g' next h k d ran moved behind =
     ran.leaves ∙ (λ i. cond (fit i) (image_behind (p i) g (command_count (p i))) g) in
     let count : not last ≡ true → e / command_size ≡ command_count (take e l) = λ t. sym (whole-count (w + got) e last l (omega arith) d t) in
     record {
-      prints = puts-same (λ i. cond (fit i) (listing number (p i) g (command_count (p i))) []) ran.prints;
+      prints = puts_same (λ i. cond (fit i) (listing number (p i) g (command_count (p i))) []) ran.prints;
       leaves = image;
       goes = ap (λ (x : Position). x.more) behind ∙ behind_more number (e / command_size) (w + got - e) last
           ∙ and-when (not last) (ltb (number + e / command_size) (2 ^ 64)) (ltb (number + command_count (take e l)) (2 ^ 64))

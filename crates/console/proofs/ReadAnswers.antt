@@ -10,7 +10,7 @@ use Rattle.std.specs.Io.{ReadsAtMost}
 use Rattle.lists.specs.Segments.{segment}
 use Rattle.lists.proofs.Bools.{tf}
 use Rattle.cabinet_rules.specs.Images.{Image}
-use Rattle.lines.proofs.Puts.{puts_none, puts-same}
+use Rattle.lines.proofs.Puts.{puts_none, puts_same}
 use Rattle.listing.specs.Listing.{image_behind, listing}
 use Rattle.console.specs.declared.Position.{Position}
 use Rattle.console.specs.declared.Step.{Step}
@@ -44,7 +44,7 @@ unfolding performed image_behind listing
 failed-step at next l out g e =
     let s : Standing = standing at l g in
     record {
-      prints = puts-same (none (numbers_fit s read_failed)) (puts_none out 0 zero-le);
+      prints = puts_same (none (numbers_fit s read_failed)) (puts_none out 0 zero-le);
       leaves = same (numbers_fit s read_failed);
       goes = ap (λ (x : Position). x.more) e;
       stands = λ h. tf false h refl;

@@ -1,6 +1,6 @@
 -- Laws of numbers as text: how a decimal number is made digit by digit, and how long it can be. Assumes nothing.
 use mathlib.Core.Path.{◌∙◌, ◌≡◌, ap, refl, sym}
-use mathlib.Core.Logic.{◌⊎◌, ⊎_elim}
+use mathlib.Core.Logic.{⊎_elim}
 use mathlib.Core.Bool.{Bool, cond}
 use mathlib.Core.List.{List, ◌++◌, ◌∷◌, [], append_assoc}
 use Prim.Native.Nat.{◌%◌, ◌*◌, ◌+◌, ◌/◌, ◌<◌, ◌≤◌, ℕ, suc, zero}
@@ -31,11 +31,11 @@ hex-length [] = refl
 hex-length (a ∷ l) = omega (arith, hex-length l)
 
 -- the first i bytes, and one more
-pub hex-turn : (l : List ℕ) (i : ℕ) → i < length l → hex_bytes (take i l) ++ hex_byte (get_or l i 0) ≡ hex_bytes (take (i + 1) l)
-hex-turn l i h = sym (hex-more (take i l) (get_or l i 0)) ∙ ap hex_bytes (sym (take-suc l i 0 h) ∙ ap (λ (n : ℕ). take n l) (sym (add-one i)))
+pub hex_turn : (l : List ℕ) (i : ℕ) → i < length l → hex_bytes (take i l) ++ hex_byte (get_or l i 0) ≡ hex_bytes (take (i + 1) l)
+hex_turn l i h = sym (hex-more (take i l) (get_or l i 0)) ∙ ap hex_bytes (sym (take-suc l i 0 h) ∙ ap (λ (n : ℕ). take n l) (sym (add-one i)))
 
-pub hex-taken : (l : List ℕ) (i : ℕ) → i ≤ length l → length (hex_bytes (take i l)) ≡ 2 * i
-hex-taken l i h = hex-length (take i l) ∙ ap (λ (n : ℕ). 2 * n) (length-take-le i l h)
+pub hex_taken : (l : List ℕ) (i : ℕ) → i ≤ length l → length (hex_bytes (take i l)) ≡ 2 * i
+hex_taken l i h = hex-length (take i l) ∙ ap (λ (n : ℕ). 2 * n) (length-take-le i l h)
 
 -- ---- decimal
 -- a number below ten is one digit; another has those of its tenth, and one more

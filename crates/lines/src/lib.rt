@@ -20,13 +20,11 @@ pub const LONGEST_ANSWER: usize = 11;
 pub const LONGEST_REST: usize = LONGEST_NUMBER + LONGEST_ANSWER + 3;
 
 // Whether any line for this command fits into the buffer.
+#[tactic(auto, unfolding(crate::specs::Lines::has_room))]
 pub fn has_room(out: &[u8], command: &[u8]) -> bool
     ensures { result ≡ has_room out.now command.now }
 {
-    if out.len() < LONGEST_REST {
-        return false;
-    }
-    command.len() <= (out.len() - LONGEST_REST) / 2
+    LONGEST_REST <= out.len() && command.len() <= (out.len() - LONGEST_REST) / 2
 }
 
 // A word and a decimal number.
@@ -71,6 +69,7 @@ fn put_answer(out: &mut [u8], at: usize, answer: Answer) -> usize
 
 // Puts the words of an answer at the start of the buffer: the number of bytes put. Where there is no room for
 // the longest answer nothing is put, and the answer is 0.
+#[tactic(auto, using(crate::proofs::Puts::puts_none), unfolding(crate::specs::Lines::words_in))]
 pub fn put_words(out: &mut [u8], answer: Answer) -> usize
     ensures { Puts (words_in out.old (shown answer)) out.old 0 result out.new
         × (result ≤ length out.old) }
@@ -105,6 +104,7 @@ fn put_whole_line(out: &mut [u8], number: u64, command: &[u8], answer: Answer) -
 
 // Puts a line at the start of the buffer: the number of bytes put. Where there is no room for the longest line of this
 // command nothing is put, and the answer is 0.
+#[tactic(auto, using(crate::proofs::Puts::puts_none), unfolding(crate::specs::Lines::line_in, crate::specs::Lines::has_room))]
 pub fn put_line(out: &mut [u8], number: u64, command: &[u8], answer: Answer) -> usize
     ensures { Puts (line_in out.old number command.now (shown answer)) out.old 0 result
         out.new

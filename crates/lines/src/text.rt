@@ -14,6 +14,7 @@ fn glyph(digit: u8) -> u8
 }
 
 // One byte.
+#[tactic(auto, using(crate::proofs::Puts::puts_byte))]
 pub fn put_byte(out: &mut [u8], at: usize, byte: u8) -> usize
     requires { at < length out.old }
     ensures { Puts (byte ∷ []) out.old at result out.new }
@@ -41,15 +42,14 @@ pub fn put_hex(out: &mut [u8], at: usize, byte: u8) -> usize
 }
 
 // Bytes as hexadecimal digits, one after the other.
+#[tactic(auto, using(crate::proofs::Puts::puts_none), unfolding(crate::specs::Text::hex_bytes))]
 pub fn put_hexes(out: &mut [u8], at: usize, bytes: &[u8]) -> usize
     requires { at + 2 * length bytes.now ≤ length out.old }
     ensures { Puts (hex_bytes bytes.now) out.old at result out.new }
 {
     let mut end = at;
-    let mut i = 0;
-    while i < bytes.len() {
-        end = put_hex(out, end, bytes[i]);
-        i += 1;
+    for &byte in bytes {
+        end = put_hex(out, end, byte);
     }
     end
 }

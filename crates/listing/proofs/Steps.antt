@@ -23,7 +23,7 @@ use Rattle.lines.specs.Lines.{has_room, line, line_in, longest_line}
 use Rattle.listing.specs.Listing.{Listed, Stepped, command_bytes, command_count, has_room_for_all, image_behind, line_on, listing}
 use Rattle.lines.specs.Text.{Puts}
 use Rattle.lines.proofs.Lines.{line-there}
-use Rattle.lines.proofs.Puts.{puts-next, puts_none, puts-part, puts-same}
+use Rattle.lines.proofs.Puts.{puts-next, puts_none, puts-part, puts_same}
 
 -- ---- one command
 -- what is chosen by a test that is known
@@ -43,7 +43,7 @@ no_step n command out g h = chosen n command out g 0 out g false h (puts_none ou
 pub one-step : (n : ℕ) (command out : List ℕ) (g : Image) (a : Answer) (end : ℕ) (o : List ℕ) (g' : Image) → true ≡ has_room out command
     → Obeyed command g a g' → Puts (line_in out n command (shown a)) out 0 end o → Stepped n command out g end o g'
 one-step n command out g a end o g' h d p =
-    chosen n command out g end o g' true h (puts-same (sym (line-there out command n (shown a) (sym h)) ∙ ap (line n command) d.answers) p, d.leaves)
+    chosen n command out g end o g' true h (puts_same (sym (line-there out command n (shown a) (sym h)) ∙ ap (line n command) d.answers) p, d.leaves)
 
 -- with room, a step is the line and the image after the command
 pub stepped : {n : ℕ} {command out : List ℕ} {g : Image} {end : ℕ} {o : List ℕ} {g' : Image} → has_room out command ≡ true → Stepped n command out g end o g'
@@ -86,7 +86,7 @@ pub listing-more : (n i at end : ℕ) (input out o o' : List ℕ) (g h : Image) 
     → Puts (line_on (n + i) (command_bytes input i) h) o at end o' → end ≤ length out → Puts (listing n input g (i + 1)) out 0 end o'
 unfolding listing
 listing-more n i at end input out o o' g h e p q m =
-    puts-same (ap (λ (k : Image). listing n input g i ++ line_on (n + i) (command_bytes input i) k) e ∙ ap (listing n input g) (sym (add-one i))) (puts-next p q m)
+    puts_same (ap (λ (k : Image). listing n input g i ++ line_on (n + i) (command_bytes input i) k) e ∙ ap (listing n input g) (sym (add-one i))) (puts-next p q m)
 
 pub image-more : (i : ℕ) (input : List ℕ) (g h h' : Image) → h ≡ image_behind input g i → h' ≡ command_next (command_bytes input i) h → h' ≡ image_behind input g (i + 1)
 unfolding image_behind
@@ -110,7 +110,7 @@ no_run n input out g h = listed_by n input out g 0 out g false h (puts_none out 
 pub whole_run : (n i end : ℕ) (input out o : List ℕ) (g g' : Image) → true ≡ has_room_for_all n input out → i ≡ command_count input
     → Puts (listing n input g i) out 0 end o → g' ≡ image_behind input g i → Listed n input out g end o g'
 whole_run n i end input out o g g' h e p q =
-    listed_by n input out g end o g' true h (puts-same (ap (listing n input g) e) p, q ∙ ap (image_behind input g) e)
+    listed_by n input out g end o g' true h (puts_same (ap (listing n input g) e) p, q ∙ ap (image_behind input g) e)
 
 -- ---- room for all
 pub room_out : (n : ℕ) (input out : List ℕ) → has_room_for_all n input out ≡ true

@@ -10,7 +10,7 @@ use Rattle.promise.specs.declared.Answer.{Answer}
 use Rattle.lines.specs.Lines.{words}
 use Rattle.lines.proofs.Digits.{length-16, length-8}
 use Rattle.lines.proofs.Lines.{placed-words}
-use Rattle.lines.proofs.Puts.{puts-same}
+use Rattle.lines.proofs.Puts.{puts_same}
 use borrow.Author.Rules.{rules}
 use Rattle.lines.proofs.put_answer.Goals as goal
 
@@ -50,7 +50,7 @@ put_count-requires-in-Refused c =
 pub returns-in-Ok : goal.returns-in-Ok
 unfolding words
 returns-in-Ok c = (
-  puts-same (sym (ap said c.in-Ok.is)) c.put_word.ensures,
+  puts_same (sym (ap said c.in-Ok.is)) c.put_word.ensures,
   omega
       (arith, c.put_word.ensures.ends),
 )
@@ -60,7 +60,7 @@ unfolding words
 returns-in-Value c =
     let n : ℕ = c.in-Value.n in
     let f : Fits w16 n = search rules in (
-      puts-same (sym (ap said c.in-Value.is)) c.put_count.ensures,
+      puts_same (sym (ap said c.in-Value.is)) c.put_count.ensures,
       omega
           (arith, c.put_count.ensures.ends, length-16 n f.fits),
     )
@@ -68,7 +68,7 @@ returns-in-Value c =
 pub returns-in-Absent : goal.returns-in-Absent
 unfolding words
 returns-in-Absent c = (
-  puts-same (sym (ap said c.in-Absent.is)) c.put_word-in-Absent.ensures,
+  puts_same (sym (ap said c.in-Absent.is)) c.put_word-in-Absent.ensures,
   omega
       (arith, c.put_word-in-Absent.ensures.ends),
 )
@@ -77,7 +77,7 @@ pub returns-in-Placed : goal.returns-in-Placed
 unfolding words
 returns-in-Placed c =
     let f : Fits w8 c.in-Placed.mask = search rules in (
-      puts-same (placed-words _ f.fits ∙ sym (ap said c.in-Placed.is)) c.put_mask.ensures,
+      puts_same (placed-words _ f.fits ∙ sym (ap said c.in-Placed.is)) c.put_mask.ensures,
       omega
           (arith, c.put_mask.ensures.ends),
     )
@@ -85,7 +85,7 @@ returns-in-Placed c =
 pub returns-in-Unplaced : goal.returns-in-Unplaced
 unfolding words
 returns-in-Unplaced c = (
-  puts-same (sym (ap said c.in-Unplaced.is)) c.put_word-in-Unplaced.ensures,
+  puts_same (sym (ap said c.in-Unplaced.is)) c.put_word-in-Unplaced.ensures,
   omega
       (arith, c.put_word-in-Unplaced.ensures.ends),
 )
@@ -93,7 +93,7 @@ returns-in-Unplaced c = (
 pub returns-in-Stopped : goal.returns-in-Stopped
 unfolding words
 returns-in-Stopped c = (
-  puts-same (sym (ap said c.in-Stopped.is)) c.put_word-in-Stopped.ensures,
+  puts_same (sym (ap said c.in-Stopped.is)) c.put_word-in-Stopped.ensures,
   omega
       (arith, c.put_word-in-Stopped.ensures.ends),
 )
@@ -103,7 +103,7 @@ unfolding words
 returns-in-Copied c =
     let n : ℕ = c.in-Copied.n in
     let f : Fits w8 n = search rules in (
-      puts-same (sym (ap said c.in-Copied.is)) c.put_count-in-Copied.ensures,
+      puts_same (sym (ap said c.in-Copied.is)) c.put_count-in-Copied.ensures,
       omega
           (arith, c.put_count-in-Copied.ensures.ends, length-8 n f.fits),
     )
@@ -113,7 +113,7 @@ unfolding words
 returns-in-Retired c =
     let n : ℕ = c.in-Retired.n in
     let f : Fits w8 n = search rules in (
-      puts-same (sym (ap said c.in-Retired.is)) c.put_count-in-Retired.ensures,
+      puts_same (sym (ap said c.in-Retired.is)) c.put_count-in-Retired.ensures,
       omega
           (arith, c.put_count-in-Retired.ensures.ends, length-8 n f.fits),
     )
@@ -121,7 +121,7 @@ returns-in-Retired c =
 pub returns-in-Protected : goal.returns-in-Protected
 unfolding words
 returns-in-Protected c = (
-  puts-same (sym (ap said c.in-Protected.is)) c.put_word-in-Protected.ensures,
+  puts_same (sym (ap said c.in-Protected.is)) c.put_word-in-Protected.ensures,
   omega
       (arith, c.put_word-in-Protected.ensures.ends),
 )
@@ -129,7 +129,7 @@ returns-in-Protected c = (
 pub returns-in-Unprotected : goal.returns-in-Unprotected
 unfolding words
 returns-in-Unprotected c = (
-  puts-same (sym (ap said c.in-Unprotected.is)) c.put_word-in-Unprotected.ensures,
+  puts_same (sym (ap said c.in-Unprotected.is)) c.put_word-in-Unprotected.ensures,
   omega
       (arith, c.put_word-in-Unprotected.ensures.ends),
 )
@@ -139,7 +139,7 @@ unfolding words
 returns-in-Loaded c =
     let n : ℕ = c.in-Loaded.n in
     let f : Fits w16 n = search rules in (
-      puts-same (sym (ap said c.in-Loaded.is)) c.put_count-in-Loaded.ensures,
+      puts_same (sym (ap said c.in-Loaded.is)) c.put_count-in-Loaded.ensures,
       omega
           (arith, c.put_count-in-Loaded.ensures.ends, length-16 n f.fits),
     )
@@ -149,7 +149,7 @@ unfolding words
 returns-in-Refused c =
     let n : ℕ = c.in-Refused.n in
     let f : Fits w8 n = search rules in (
-      puts-same (sym (ap said c.in-Refused.is)) c.put_count-in-Refused.ensures,
+      puts_same (sym (ap said c.in-Refused.is)) c.put_count-in-Refused.ensures,
       omega
           (arith, c.put_count-in-Refused.ensures.ends, length-8 n f.fits),
     )

@@ -6,7 +6,7 @@ use lib.ListN.{length}
 use Prim.Native.Nat.{◌+◌, ◌/◌, ◌<◌, ℕ}
 use Rattle.lines.specs.Text.{decimal}
 use Rattle.lines.proofs.Digits.{decimal-more, decimal-small, length-small, length_more}
-use Rattle.lines.proofs.Puts.{puts-same, puts_then}
+use Rattle.lines.proofs.Puts.{puts_same, puts_then}
 use Rattle.lines.proofs.text.+put_decimal.Goals as goal
 
 pub put_byte-requires : goal.put_byte-requires
@@ -16,7 +16,7 @@ put_byte-requires t c =
 
 pub returns-then-n-lt10 : goal.returns-then-n-lt10
 returns-then-n-lt10 t c =
-    puts-same (ap (λ (x : ℕ). x ∷ []) c.glyph.ensures ∙ sym (decimal-small c.args.n c.if-n-lt10.true)) c.put_byte.ensures
+    puts_same (ap (λ (x : ℕ). x ∷ []) c.glyph.ensures ∙ sym (decimal-small c.args.n c.if-n-lt10.true)) c.put_byte.ensures
 
 pub put_decimal-next-requires : goal.put_decimal-next-requires
 put_decimal-next-requires t c =
@@ -33,5 +33,5 @@ pub returns : goal.returns
 returns t c =
     let n = c.args.n in
     let p = c.put_decimal-next in
-    puts-same (ap (λ (x : ℕ). decimal (n / 10) ++ (x ∷ [])) c.glyph-2.ensures ∙ sym (decimal-more n c.if-n-lt10.false))
+    puts_same (ap (λ (x : ℕ). decimal (n / 10) ++ (x ∷ [])) c.glyph-2.ensures ∙ sym (decimal-more n c.if-n-lt10.false))
     (puts_then p.ensures c.put_byte-2.ensures (omega (arith, c.requires, length_more n c.if-n-lt10.false)))
