@@ -55,6 +55,8 @@ pub fn put_hexes(out: &mut [u8], at: usize, bytes: &[u8]) -> usize
 }
 
 // A decimal number: the digits of n / 10, then the last.
+// The library prints a number into a `Write` that may fail and answers no index, so `Puts` would need more code, not less.
+#[tactic(auto, using(crate::proofs::Digits::decimal_more, crate::proofs::Digits::decimal_small, crate::proofs::Digits::length_small, crate::proofs::Digits::length_more))]
 pub fn put_decimal(out: &mut [u8], at: usize, n: u64) -> usize
     requires { at + length (decimal n) ≤ length out.old }
     ensures { Puts (decimal n) out.old at result out.new }
