@@ -1,8 +1,8 @@
 -- A step and a run of them: the laws that finish their proofs. Assumes nothing.
 use mathlib.Core.Path.{◌∙◌, ◌≡◌, ap, refl, subst, sym}
-use mathlib.Core.Bool.{Bool, ◌&&◌, cond, false, true}
+use mathlib.Core.Bool.{Bool, cond, false, true}
 use mathlib.Core.List.{List, ◌++◌, []}
-use Prim.Native.Nat.{◌*◌, ◌+◌, ◌-◌, ◌/◌, ◌<◌, ◌^◌, ◌≤◌, ℕ, zero-le}
+use Prim.Native.Nat.{◌*◌, ◌+◌, ◌-◌, ◌^◌, ◌≤◌, ℕ, zero-le}
 use native.Mathlib.Omega.{arith}
 use native.Mathlib.Numerals.{add-one}
 use lib.Dec.{leb}
@@ -10,9 +10,9 @@ use lib.ListN.{drop, length, length-drop, length-take}
 use borrow.Rule.Slice.PartMut.{mid_of, put_mid}
 use lib.Seq.{take_all}
 use native.Mathlib.Nat.{min-le_left}
-use borrow.Author.Tests.{le-leb, leb-true, lt-leb}
+use borrow.Author.Tests.{le-leb, leb-true}
 use Rattle.lists.specs.Segments.{segment}
-use Rattle.lists.proofs.Bools.{and_l, and_r, same_test}
+use Rattle.lists.proofs.Bools.{and_l, and_r}
 use Rattle.image.proofs.Parts.{length_part}
 use Rattle.cabinet_rules.specs.Images.{Image}
 use Rattle.promise.specs.Promise.{shown}
@@ -57,9 +57,9 @@ last-command l a n h =
     take_all (length l - a) (drop a l) (omega (arith, length-drop a l)) ∙ sym (take_all n (drop a l) (omega (arith, length-drop a l)))
 
 -- a command has at most five bytes
-pub command-short : (l : List ℕ) (a : ℕ) → length (segment l a command_size) ≤ command_size
+pub command_short : (l : List ℕ) (a : ℕ) → length (segment l a command_size) ≤ command_size
 unfolding segment
-command-short l a = subst (λ (n : ℕ). n ≤ command_size) (sym (length-take command_size (drop a l))) (min-le_left command_size (length (drop a l)))
+command_short l a = subst (λ (n : ℕ). n ≤ command_size) (sym (length-take command_size (drop a l))) (min-le_left command_size (length (drop a l)))
 
 -- a command of the input, performed with its line in a part of the buffer
 pub turned : (n at end k start stop i : ℕ) (input out part : List ℕ) (g g' : Image)
@@ -74,7 +74,7 @@ turned n at end k start stop i input out part g g' e f h r s m =
     let d : segment input start (stop - start) ≡ command_bytes input i = f ∙ ap (λ (a : ℕ). segment input a command_size) e in
     let s' : Stepped n (command_bytes input i) (mid_of at k out) g end part g' = subst (λ (l : List ℕ). Stepped n l (mid_of at k out) g end part g') d s in
     let m' : end ≤ longest_line (length (command_bytes input i)) = subst (λ (l : List ℕ). end ≤ longest_line (length l)) d m in
-    let short : length (command_bytes input i) ≤ command_size = command-short input (i * command_size) in
+    let short : length (command_bytes input i) ≤ command_size = command_short input (i * command_size) in
     let long : length (mid_of at k out) ≡ k = length_part at k out k refl (omega arith) in
     let room : has_room (mid_of at k out) (command_bytes input i) ≡ true = le-leb (longest_line (length (command_bytes input i))) (length (mid_of at k out)) (omega arith) in
     let q = stepped room s' in
@@ -120,20 +120,3 @@ room_out n input out h = (
   leb-true (command_count input * longest_line command_size) (length out) (and_l (leb (command_count input * longest_line command_size) (length out)) _ h),
   leb-true (n + command_count input) (2 ^ 64) (and_r (leb (command_count input * longest_line command_size) (length out)) _ h),
 )
-
-pub room-not : (n : ℕ) (input out : List ℕ) → length out / longest_line command_size < command_count input → false ≡ has_room_for_all n input out
-unfolding has_room_for_all
-room-not n input out h =
-    sym (ap (λ (t : Bool). t && leb (n + command_count input) (2 ^ 64)) (lt-leb (command_count input * longest_line command_size) (length out) (omega arith)))
-
-pub room_by : (n : ℕ) (input out : List ℕ) (t : Bool) → command_count input ≤ length out / longest_line command_size → t ≡ leb (n + command_count input) (2 ^ 64)
-    → t ≡ has_room_for_all n input out
-unfolding has_room_for_all
-room_by n input out t h e =
-    e ∙ sym (ap (λ (u : Bool). u && leb (n + command_count input) (2 ^ 64)) (le-leb (command_count input * longest_line command_size) (length out) (omega arith)))
-
-pub numbers_fit_lem : (n k : ℕ) → n < 2 ^ 64 → 1 ≤ k → leb (k - 1) (18446744073709551615 - n) ≡ leb (n + k) (2 ^ 64)
-numbers_fit_lem n k h e =
-    same_test (leb (k - 1) (18446744073709551615 - n)) (leb (n + k) (2 ^ 64))
-    (λ p. le-leb (n + k) (2 ^ 64) (omega (arith, leb-true (k - 1) (18446744073709551615 - n) p)))
-    (λ p. le-leb (k - 1) (18446744073709551615 - n) (omega (arith, leb-true (n + k) (2 ^ 64) p)))
