@@ -5,7 +5,8 @@ use mathlib.Core.List.{List, []}
 use Prim.Native.Nat.{◌≤◌, zero-le, ℕ}
 use native.Mathlib.Omega.{arith}
 use lib.ListN.{length}
-use Rattle.std.specs.Prelude.{Err, Ok, Result}
+use Rattle.std.specs.Prelude.{Err, IsErrAnd, MatchResult, Ok, OnOk, Result, is_ok}
+use Rattle.console.specs.declared.ending.Failure.{Failure}
 use Rattle.std.specs.Io.{ReadsAtMost}
 use Rattle.lists.specs.Segments.{segment}
 use Rattle.lists.proofs.Bools.{tf}
@@ -68,3 +69,19 @@ unread {E} r x w l {s} {out} {left} {b} {step} {g} e a =
     same : (t : Bool) → cond t s.image s.image ≡ s.image
     same true = refl
     same false = refl
+
+-- ---- an answer whose error is given another type
+-- the answer was a number of bytes
+pub is_read : {T E : Type 0} (r : Result T E) → true ≡ is_ok r → (n : T) × (r ≡ Ok n)
+is_read (Ok n) e = (n, refl)
+is_read (Err x) e = tf true refl e
+
+pub of_ok : {T E P : Type 0} (r : Result T E) → OnOk r P → true ≡ is_ok r → P
+of_ok (Ok n) h e = h
+of_ok (Err x) h e = tf true refl e
+
+-- the answer was the error that the run ends with
+pub failed_read : {T E : Type 0} (make : E → Failure) (r : Result T E) (m : Result T Failure) (y : Failure) → MatchResult r (λ x. m ≡ Ok x) (λ e. IsErrAnd m (λ z. z ≡ make e)) → m ≡ Err y
+    → (e : E) × (r ≡ Err e) × (y ≡ make e)
+failed_read make (Ok x) m y h w = cc
+failed_read {T} make (Err e) m y h w = (e, refl, subst (λ (n : Result T Failure). IsErrAnd n (λ z. z ≡ make e)) w h)

@@ -107,11 +107,6 @@ listed_by n input out g end o g' t e p =
 pub no_run : (n : ℕ) (input out : List ℕ) (g : Image) → false ≡ has_room_for_all n input out → Listed n input out g 0 out g
 no_run n input out g h = listed_by n input out g 0 out g false h (puts_none out 0 zero-le, refl)
 
-pub whole_run : (n i end : ℕ) (input out o : List ℕ) (g g' : Image) → true ≡ has_room_for_all n input out → i ≡ command_count input
-    → Puts (listing n input g i) out 0 end o → g' ≡ image_behind input g i → Listed n input out g end o g'
-whole_run n i end input out o g g' h e p q =
-    listed_by n input out g end o g' true h (puts_same (ap (listing n input g) e) p, q ∙ ap (image_behind input g) e)
-
 -- ---- room for all
 pub room_out : (n : ℕ) (input out : List ℕ) → has_room_for_all n input out ≡ true
     → (command_count input * longest_line command_size ≤ length out) × (n + command_count input ≤ 2 ^ 64)
