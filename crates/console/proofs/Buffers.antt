@@ -29,9 +29,9 @@ drop-taken l e m h k =
     let s : m ≡ e + (m - e) = omega arith in
     ap (λ (j : ℕ). drop e (take j l)) s ∙ ap (drop e) (take-add e (m - e) l) ∙ drop_at (take e l) (take (m - e) (drop e l)) e (length-take-le e l (omega arith))
 
-pub performed-le : (n : ℕ) (last : Bool) → performed_size n last ≤ n
-performed-le n true = omega arith
-performed-le n false = omega arith
+pub performed_le : (n : ℕ) (last : Bool) → performed_size n last ≤ n
+performed_le n true = omega arith
+performed_le n false = omega arith
 
 pub rest-short : (n : ℕ) (last : Bool) → n - performed_size n last < command_size
 rest-short n true = omega arith
@@ -53,7 +53,7 @@ pub performed-is : (number w got : ℕ) (l : List ℕ) (g : Image) → w + got �
 unfolding performed
 performed-is number w got l g h =
     (λ i. take (performed_size (held-length number w got l g h i) (eqb (length-segment l w got h i) 0)) (held-is number w got l g i))
-    ∙ take-take (performed_size (w + got) (eqb got 0)) (w + got) l (performed-le (w + got) (eqb got 0))
+    ∙ take-take (performed_size (w + got) (eqb got 0)) (w + got) l (performed_le (w + got) (eqb got 0))
 
 pub cut-is : (number w got : ℕ) (l : List ℕ) (g : Image) → w + got ≤ length l
     → cut (at number w l g) (gave (segment l w got))
@@ -61,4 +61,4 @@ pub cut-is : (number w got : ℕ) (l : List ℕ) (g : Image) → w + got ≤ len
 unfolding cut
 cut-is number w got l g h =
     (λ i. drop (performed_size (held-length number w got l g h i) (eqb (length-segment l w got h i) 0)) (held-is number w got l g i))
-    ∙ drop-taken l (performed_size (w + got) (eqb got 0)) (w + got) (performed-le (w + got) (eqb got 0)) h
+    ∙ drop-taken l (performed_size (w + got) (eqb got 0)) (w + got) (performed_le (w + got) (eqb got 0)) h

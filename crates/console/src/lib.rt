@@ -69,9 +69,10 @@ fn performed_size(held: usize, last: bool) -> usize
     ensures { result ≡ performed_size held last }
 {
     if last {
-        return held;
+        held
+    } else {
+        held - held % command::SIZE
     }
-    held - held % command::SIZE
 }
 
 // The position behind these commands, where so many bytes wait. The program stops where the next number would pass 64
@@ -96,6 +97,7 @@ fn position_behind(number: u64, commands: usize, waiting: usize, last: bool) -> 
 
 // Performs a reading, which stands in the input buffer behind the bytes that wait, and puts its lines into the output
 // buffer. The bytes of a command that it cuts wait at the start of the input buffer.
+#[tactic(auto, using(crate::proofs::Buffers::performed_le))]
 fn perform(image: &mut [u8], at: Position, got: usize, input: &mut [u8], out: &mut [u8]) -> Step
     requires got_in_bounds { at.waiting + got ≤ length input.old }
     requires room_for_lines { command_count input.old * longest_line command_size ≤ length out.old }

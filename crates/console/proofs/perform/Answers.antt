@@ -2,38 +2,17 @@
 -- commands before them were performed. Assumes nothing.
 use mathlib.Core.Path.{◌∙◌, ◌≡◌, ap, subst, sym}
 use Prim.Native.Nat.{◌+◌, ◌-◌, ◌<◌, ◌≤◌, ℕ}
-use native.Mathlib.Omega.{arith}
 use lib.Dec.{eqb}
-use lib.Seq.{length-take-le}
 use Rattle.command.specs.Commands.{command_size}
 use Rattle.console.specs.Readings.{performed_size}
 use Rattle.console.specs.declared.Position.{Position}
 use Rattle.console.proofs.Advances.{advanced, behind-waiting}
-use Rattle.console.proofs.Buffers.{moved, rest-short, performed-le}
+use Rattle.console.proofs.Buffers.{moved, rest-short, performed_le}
 use Rattle.console.proofs.perform.Goals as goal
 
 -- as many bytes as are performed are held
 within_held : (e w got : ℕ) → e ≡ performed_size (w + got) (eqb got 0) → e ≤ w + got
-within_held e w got d = subst (λ (n : ℕ). n ≤ w + got) (sym d) (performed-le (w + got) (eqb got 0))
-
-pub slice_bounds-run-end : goal.slice_bounds-run-end
-slice_bounds-run-end c =
-    let a = c.args in
-    omega (arith, within_held _ a.at.waiting a.got c.performed_size-end.ensures, c.requires.got_in_bounds)
-
-pub slice_bounds-run-end-2 : goal.slice_bounds-run-end-2
-slice_bounds-run-end-2 c =
-    let a = c.args in
-    let p = c.performed_size-end in
-    let h : p.result ≤ a.at.waiting + a.got = within_held p.result a.at.waiting a.got p.ensures in
-    sym (length-take-le p.result a.input.now (omega (arith, h, c.requires.got_in_bounds)))
-
-pub overflow_sub-held : goal.overflow_sub-held
-overflow_sub-held c =
-    let a = c.args in
-    let p = c.performed_size-end in
-    let h : p.result ≤ a.at.waiting + a.got = within_held p.result a.at.waiting a.got p.ensures in
-    omega (arith, h)
+within_held e w got d = subst (λ (n : ℕ). n ≤ w + got) (sym d) (performed_le (w + got) (eqb got 0))
 
 pub returns : goal.returns
 returns c =
