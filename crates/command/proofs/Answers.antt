@@ -1,65 +1,46 @@
 -- The cases of what the reader says and of what the writer leaves. Assumes nothing.
 use mathlib.Core.Path.{◌∙◌, ◌≡◌, ap, refl, sym}
-use mathlib.Core.Bool.{Bool, ◌&&◌, cond, false, not, true}
+use mathlib.Core.Bool.{Bool, ◌&&◌, cond, false, true}
 use mathlib.Core.List.{List}
-use Prim.Native.Nat.{◌<◌, ◌≤◌, ℕ}
-use lib.Dec.{ltb}
+use Prim.Native.Nat.{ℕ}
 use lib.ListN.{length}
-use borrow.Author.Tests.{eq-eqb, le-ltb, lt-ltb, ne_eqb}
-use Rattle.lists.proofs.Bools.{and_r, tf}
-use Rattle.image.specs.declared.Card.{Card}
-use Rattle.promise.specs.declared.Call.{Call}
+use borrow.Author.Tests.{eq-eqb}
+use Rattle.std.specs.Prelude.{Err, Ok, Result, ⊤}
+use Rattle.lists.proofs.Bools.{and_r}
 use Rattle.command.specs.declared.Command.{Command}
 use Rattle.command.specs.declared.Command.TheVariants.{Of, WideMove}
 use Rattle.command.specs.declared.Fields.{Fields}
-use Rattle.command.specs.declared.Reading.{Reading}
-use Rattle.command.specs.declared.Reading.TheVariants.{Asks, Malformed}
-use Rattle.command.specs.declared.Writing.{Writing}
-use Rattle.command.specs.declared.Writing.TheVariants.{Malformed as Writing-as-Malformed, Written}
-use Rattle.command.specs.Commands.{bytes_for, call_at, call_fields, command_at, command_of, command_size, fields_for}
-use Rattle.command.specs.Commands.{fields_in, is_writable, formed, is_of_case, is_wide_move, write_leaves, most_block, read_of}
-use Rattle.command.specs.Commands.{is_written, well_formed, write_of}
-
--- a conjunction that fails at its first test, and one that goes on past it
-pub fails-here : (p q : Bool) → p ≡ false → false ≡ (p && q)
-fails-here p q e = sym (ap (λ (b : Bool). b && q) e)
+use Rattle.command.specs.declared.Malformed.{Malformed}
+use Rattle.command.specs.Commands.{bytes_for, call_at, command_at, command_of, command_size, fields_for}
+use Rattle.command.specs.Commands.{fields_in, is_writable, formed, is_of_case, is_wide_move, write_leaves, read_of}
+use Rattle.command.specs.Commands.{is_written, no_command, or_malformed, well_formed, write_of}
 
 pub goes-past : (p q r : Bool) → p ≡ true → r ≡ q → r ≡ (p && q)
 goes-past p q r e h = h ∙ sym (ap (λ (b : Bool). b && q) e)
 
--- ---- the reader
-pub read-by : (l : List ℕ) (b : Bool) → b ≡ well_formed l → cond b (Asks (command_of l)) Malformed ≡ read_of l
-unfolding read_of
-read-by l b e = ap (λ (t : Bool). cond t (Asks (command_of l)) Malformed) e
+-- ---- what a test answers
+pub answered : {A : Type 0} (b : Bool) (x y : A) → or_malformed b x ≡ Ok y → (b ≡ true) × (x ≡ y)
+answered true x y e = (refl, cc)
+answered false x y e = cc
 
-pub read-form : (l : List ℕ) (b : Bool) → length l ≡ command_size → formed (fields_in l) ≡ b → cond b (Asks (command_of l)) Malformed ≡ read_of l
+pub refused : {A : Type 0} (b : Bool) (x : A) → or_malformed b x ≡ Err no_command → b ≡ false
+refused true x e = cc
+refused false x e = refl
+
+-- ---- the reader
+pub read-by : (l : List ℕ) (b : Bool) → b ≡ well_formed l → or_malformed b (command_of l) ≡ read_of l
+unfolding read_of
+read-by l b e = ap (λ (t : Bool). or_malformed t (command_of l)) e
+
+pub read-form : (l : List ℕ) (b : Bool) → length l ≡ command_size → formed (fields_in l) ≡ b → or_malformed b (command_of l) ≡ read_of l
 unfolding well_formed
 read-form l b e h = read-by l b (goes-past _ _ _ (eq-eqb _ _ e) (sym h))
 
--- the command and the form that a reading tells
-told_by : Command → Reading → Command
-told_by c (Asks command) = command
-told_by c Malformed = c
-
-asks : Reading → Bool
-asks (Asks command) = true
-asks Malformed = false
-
-told : (b : Bool) (shown c : Command) → cond b (Asks shown) Malformed ≡ Asks c → (b ≡ true) × (shown ≡ c)
-unfolding told_by asks
-told true shown c e = (refl, ap (told_by c) e)
-told false shown c e = tf false (ap asks e) refl
-
-pub read-asks : (l : List ℕ) (c : Command) → read_of l ≡ Asks c → (well_formed l ≡ true) × (command_of l ≡ c)
+pub read-asks : (l : List ℕ) (c : Command) → read_of l ≡ Ok c → (well_formed l ≡ true) × (command_of l ≡ c)
 unfolding read_of
-read-asks l c e = told (well_formed l) (command_of l) c e
+read-asks l c e = answered (well_formed l) (command_of l) c e
 
-refused : (b : Bool) (shown : Command) → cond b (Asks shown) Malformed ≡ Malformed → b ≡ false
-unfolding asks
-refused true shown e = ap asks e
-refused false shown e = refl
-
-pub read-malformed : (l : List ℕ) → read_of l ≡ Malformed → well_formed l ≡ false
+pub read-malformed : (l : List ℕ) → read_of l ≡ Err no_command → well_formed l ≡ false
 unfolding read_of
 read-malformed l e = refused (well_formed l) (command_of l) e
 
@@ -69,57 +50,22 @@ unfolding command_at
 command-is f b e = ap (λ (t : Bool). cond t (WideMove (record { 0 = f.card }) f.number) (Of (call_at f))) e
 
 -- ---- the writer
--- whether a command is writable, in each of its cases
-pub writable-call : {f : Fields} {call : Call} {c : Command} → c ≡ Of call → f ≡ call_fields call → is_wide_move f ≡ false → formed f ≡ is_writable c
-unfolding is_writable
-writable-call {f} {call} {c} told e narrow =
-    goes-past (is_of_case (Of call)) (formed (call_fields call)) (formed f) (ap not (sym (ap is_wide_move e) ∙ narrow)) (ap formed e) ∙ sym (ap is_writable told)
-
-pub writable-small : {k : Card} {n : ℕ} {c : Command} → c ≡ WideMove k n → n ≤ most_block → false ≡ is_writable c
-unfolding is_writable
-writable-small {k} {n} {c} told h = fails-here (ltb most_block n) _ (le-ltb most_block n h) ∙ sym (ap is_writable told)
-
-pub writable-wide : {f : Fields} {k : Card} {n : ℕ} {c : Command} → c ≡ WideMove k n → most_block < n → f ≡ fields_for (WideMove k n) → formed f ≡ is_writable c
-unfolding is_writable
-writable-wide {f} {k} {n} {c} told h e = goes-past (ltb most_block n) _ (formed f) (lt-ltb most_block n h) (ap formed e) ∙ sym (ap is_writable told)
-
 pub writable-formed : (c : Command) → is_writable c ≡ true → formed (fields_for c) ≡ true
 unfolding is_writable
 writable-formed c h = and_r (is_of_case c) _ h
 
 -- what the writer answers and leaves
-abbrev pub said : Bool → Writing
-said b = cond b Written Writing-as-Malformed
-
-abbrev pub Leaves : Writing → List ℕ → Command → List ℕ → Type 0
+abbrev pub Leaves : Result ⊤ Malformed → List ℕ → Command → List ℕ → Type 0
 Leaves w l command m = (w ≡ write_of l command) × (m ≡ write_leaves l command)
 
-write-by : (l : List ℕ) (command : Command) (b : Bool) → b ≡ is_written l command → Leaves (said b) l command (cond b (bytes_for command) l)
+write-by : (l : List ℕ) (command : Command) (b : Bool) → b ≡ is_written l command → Leaves (or_malformed b tt) l command (cond b (bytes_for command) l)
 unfolding write_of
-write-by l command b e = (ap said e, ap (λ (t : Bool). cond t (bytes_for command) l) e)
-
-pub write-length : (l : List ℕ) (command : Command) → (length l ≡ command_size → ⊥) → Leaves Writing-as-Malformed l command l
-write-length l command d = write-by l command false (fails-here _ _ (ne_eqb _ _ d))
+write-by l command b e = (ap (λ (t : Bool). or_malformed t tt) e, ap (λ (t : Bool). cond t (bytes_for command) l) e)
 
 pub write-fit : (l : List ℕ) (command : Command) (b : Bool) → length l ≡ command_size → is_writable command ≡ b
-    → Leaves (said b) l command (cond b (bytes_for command) l)
+    → Leaves (or_malformed b tt) l command (cond b (bytes_for command) l)
 write-fit l command b e h = write-by l command b (goes-past _ _ _ (eq-eqb _ _ e) (sym h))
 
--- what is written is writable, and five bytes were lent
-wrote : Writing → Bool
-wrote Written = true
-wrote Writing-as-Malformed = false
-
-pub told-written : (b : Bool) → said b ≡ Written → b ≡ true
-unfolding wrote
-told-written true e = refl
-told-written false e = ap wrote e
-
-pub told-malformed : (b : Bool) → said b ≡ Writing-as-Malformed → b ≡ false
-unfolding wrote
-told-malformed true e = ap wrote e
-told-malformed false e = refl
-
-pub write-says : (l : List ℕ) (command : Command) → write_of l command ≡ Written → is_written l command ≡ true
+pub write-says : (l : List ℕ) (command : Command) → write_of l command ≡ Ok tt → is_written l command ≡ true
 unfolding write_of
-write-says l command e = told-written (is_written l command) e
+write-says l command e = (answered (is_written l command) tt tt e).0

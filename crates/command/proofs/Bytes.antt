@@ -1,9 +1,9 @@
 -- Lists of five bytes. Assumes nothing.
-use mathlib.Core.Path.{◌≡◌, refl}
+use mathlib.Core.Path.{◌≡◌}
 use mathlib.Core.List.{List, ◌∷◌, []}
 use Prim.Native.Nat.{ℕ}
 use native.Mathlib.Omega.{arith}
-use lib.ListN.{length, set}
+use lib.ListN.{length}
 use Rattle.command.specs.Commands.{command_size}
 
 -- what holds of every five elements holds of every list of five
@@ -15,8 +15,3 @@ by-five P p (a ∷ b ∷ c ∷ []) h = absurd (omega arith)
 by-five P p (a ∷ b ∷ c ∷ d ∷ []) h = absurd (omega arith)
 by-five P p (a ∷ b ∷ c ∷ d ∷ e ∷ []) h = p a b c d e
 by-five P p (a ∷ b ∷ c ∷ d ∷ e ∷ x ∷ l) h = absurd (omega arith)
-
--- five stores fill a list of five
-pub set_all : (l : List ℕ) (a b c d e : ℕ) → length l ≡ command_size → set (set (set (set (set l 0 a) 1 b) 2 c) 3 d) 4 e ≡ a ∷ b ∷ c ∷ d ∷ e ∷ []
-set_all l a b c d e h =
-    by-five (λ l. set (set (set (set (set l 0 a) 1 b) 2 c) 3 d) 4 e ≡ a ∷ b ∷ c ∷ d ∷ e ∷ []) (λ v w x y z. refl) l h

@@ -5,97 +5,61 @@ use mathlib.Core.List.{List}
 use Prim.Native.Nat.{ℕ}
 use lib.Dec.{eqb}
 use lib.ListN.{length}
-use borrow.Author.Tests.{eq-eqb, eqb-true, ne_eqb}
+use borrow.Author.Tests.{eq-eqb, eqb-true}
+use Rattle.std.specs.Prelude.{Err, Ok, Result, ⊤}
 use Rattle.lists.specs.Tests.{all_in}
-use Rattle.lists.proofs.Bools.{and_l, and_r, tf}
+use Rattle.lists.proofs.Bools.{and_l, and_r}
 use Rattle.command.specs.declared.Fields.{Fields}
-use Rattle.command.specs.declared.Reading.TheVariants.{Asks, Malformed as Reading-as-Malformed}
-use Rattle.command.specs.declared.codec.Shown.{Shown}
-use Rattle.command.specs.declared.codec.Shown.TheVariants.{Has, Malformed}
-use Rattle.command.specs.declared.Writing.{Writing}
-use Rattle.command.specs.declared.Writing.TheVariants.{Malformed as Writing-as-Malformed}
-use Rattle.command.specs.Commands.{command_at, command_size, encoded, fields_fit, fields_in, fields_leave, formed, is_byte}
-use Rattle.command.specs.Commands.{read_of, shown_fields, well_formed, write_fields}
+use Rattle.command.specs.declared.Malformed.{Malformed}
+use Rattle.command.specs.Commands.{command_size, encoded, fields_fit, fields_in, fields_leave, formed, is_byte}
+use Rattle.command.specs.Commands.{no_command, or_malformed, shown_fields, well_formed, write_fields}
 use Rattle.command.specs.RoundTrips.{ShownWrites, WrittenShows}
-use Rattle.command.proofs.Answers.{fails-here, goes-past, read-by, said, told-written}
+use Rattle.command.proofs.Answers.{answered, goes-past, refused}
 use Rattle.command.proofs.Bytes.{by-five}
-use Rattle.command.proofs.Forms.{formed-wide}
+use Rattle.command.proofs.Forms.{formed_wide}
 use Rattle.command.proofs.RoundTrip.{encoded-fields, fields-encoded}
 
 -- ---- what is shown
-shown_by : (l : List ℕ) (b : Bool) → b ≡ well_formed l → cond b (Has (fields_in l)) Malformed ≡ shown_fields l
+shown_by : (l : List ℕ) (b : Bool) → b ≡ well_formed l → or_malformed b (fields_in l) ≡ shown_fields l
 unfolding shown_fields
-shown_by l b e = ap (λ (t : Bool). cond t (Has (fields_in l)) Malformed) e
+shown_by l b e = ap (λ (t : Bool). or_malformed t (fields_in l)) e
 
-pub shown-length : (l : List ℕ) → (length l ≡ command_size → ⊥) → Malformed ≡ shown_fields l
-unfolding well_formed
-shown-length l d = shown_by l false (fails-here _ _ (ne_eqb _ _ d))
-
-pub shown-form : (l : List ℕ) (b : Bool) → length l ≡ command_size → formed (fields_in l) ≡ b → cond b (Has (fields_in l)) Malformed ≡ shown_fields l
+pub shown-form : (l : List ℕ) (b : Bool) → length l ≡ command_size → formed (fields_in l) ≡ b → or_malformed b (fields_in l) ≡ shown_fields l
 unfolding well_formed
 shown-form l b e h = shown_by l b (goes-past _ _ _ (eq-eqb _ _ e) (sym h))
 
--- the fields and the form that it tells
-fields_told : Fields → Shown → Fields
-fields_told f (Has g) = g
-fields_told f Malformed = f
-
-has : Shown → Bool
-has (Has f) = true
-has Malformed = false
-
-told-has : (b : Bool) (f g : Fields) → cond b (Has f) Malformed ≡ Has g → (b ≡ true) × (f ≡ g)
-unfolding has fields_told
-told-has true f g e = (refl, ap (fields_told f) e)
-told-has false f g e = tf false (ap has e) refl
-
-pub shown-has : (l : List ℕ) (f : Fields) → shown_fields l ≡ Has f → (well_formed l ≡ true) × (fields_in l ≡ f)
+pub shown-has : (l : List ℕ) (f : Fields) → shown_fields l ≡ Ok f → (well_formed l ≡ true) × (fields_in l ≡ f)
 unfolding shown_fields
-shown-has l f e = told-has (well_formed l) (fields_in l) f e
+shown-has l f e = answered (well_formed l) (fields_in l) f e
 
-pub shown-formed : (l : List ℕ) (f : Fields) → shown_fields l ≡ Has f → formed f ≡ true
+pub shown-formed : (l : List ℕ) (f : Fields) → shown_fields l ≡ Ok f → formed f ≡ true
 unfolding well_formed
 shown-formed l f e = let h = shown-has l f e in sym (ap formed h.1) ∙ and_r (eqb (length l) command_size) _ h.0
 
-shown-none : (b : Bool) (f : Fields) → cond b (Has f) Malformed ≡ Malformed → b ≡ false
-unfolding has
-shown-none true f e = ap has e
-shown-none false f e = refl
-
-pub shown-malformed : (l : List ℕ) → shown_fields l ≡ Malformed → well_formed l ≡ false
+pub shown-malformed : (l : List ℕ) → shown_fields l ≡ Err no_command → well_formed l ≡ false
 unfolding shown_fields
-shown-malformed l e = shown-none (well_formed l) (fields_in l) e
-
--- ---- the command of the fields shown
-pub asks-shown : (l : List ℕ) (f : Fields) → shown_fields l ≡ Has f → Asks (command_at f) ≡ read_of l
-asks-shown l f e = let h = shown-has l f e in ap (λ (x : Fields). Asks (command_at x)) (sym h.1) ∙ read-by l true (sym h.0)
-
-pub asks_none : (l : List ℕ) → shown_fields l ≡ Malformed → Reading-as-Malformed ≡ read_of l
-asks_none l e = read-by l false (sym (shown-malformed l e))
+shown-malformed l e = refused (well_formed l) (fields_in l) e
 
 -- ---- what is written
-abbrev pub FieldsLeft : Writing → List ℕ → Fields → List ℕ → Type 0
+abbrev pub FieldsLeft : Result ⊤ Malformed → List ℕ → Fields → List ℕ → Type 0
 FieldsLeft w l f m = (w ≡ write_fields l f) × (m ≡ fields_leave l f)
 
-fields-by : (l : List ℕ) (f : Fields) (b : Bool) → b ≡ fields_fit l f → FieldsLeft (said b) l f (cond b (encoded f) l)
+fields-by : (l : List ℕ) (f : Fields) (b : Bool) → b ≡ fields_fit l f → FieldsLeft (or_malformed b tt) l f (cond b (encoded f) l)
 unfolding write_fields fields_leave
-fields-by l f b e = (ap said e, ap (λ (t : Bool). cond t (encoded f) l) e)
+fields-by l f b e = (ap (λ (t : Bool). or_malformed t tt) e, ap (λ (t : Bool). cond t (encoded f) l) e)
 
-pub fields-length : (l : List ℕ) (f : Fields) → (length l ≡ command_size → ⊥) → FieldsLeft Writing-as-Malformed l f l
-fields-length l f d = fields-by l f false (fails-here _ _ (ne_eqb _ _ d))
-
-pub fields_fit_lem : (l : List ℕ) (f : Fields) (b : Bool) → length l ≡ command_size → formed f ≡ b → FieldsLeft (said b) l f (cond b (encoded f) l)
+pub fields_fit_lem : (l : List ℕ) (f : Fields) (b : Bool) → length l ≡ command_size → formed f ≡ b → FieldsLeft (or_malformed b tt) l f (cond b (encoded f) l)
 fields_fit_lem l f b e h = fields-by l f b (goes-past _ _ _ (eq-eqb _ _ e) (sym h))
 
 -- ---- each form yields the other
 pub written-shows : WrittenShows
 unfolding write_fields fields_leave
 written-shows lent f e =
-    let w : fields_fit lent f ≡ true = told-written (fields_fit lent f) e in
+    let w : fields_fit lent f ≡ true = (answered (fields_fit lent f) tt tt e).0 in
     let k : formed f ≡ true = and_r (eqb (length lent) command_size) _ w in
-    let back : fields_in (encoded f) ≡ f = fields-encoded f (formed-wide f k) in
+    let back : fields_in (encoded f) ≡ f = fields-encoded f (formed_wide f k) in
     ap (λ (t : Bool). shown_fields (cond t (encoded f) lent)) w
-    ∙ sym (shown-form (encoded f) true refl (ap formed back ∙ k)) ∙ ap (λ (x : Fields). Has x) back
+    ∙ sym (shown-form (encoded f) true refl (ap formed back ∙ k)) ∙ ap (λ (x : Fields). Ok x) back
 
 pub shown-writes : ShownWrites
 unfolding well_formed fields_in

@@ -9,6 +9,7 @@ use native.Mathlib.Omega.{arith}
 use lib.Dec.{eqb}
 use lib.ListN.{length}
 use borrow.Author.Tests.{le-leb, le-ltb, lt-leb}
+use Rattle.std.specs.Prelude.{Err, Ok}
 use Rattle.lists.proofs.Cases.{lt-or-ge}
 use Rattle.image.specs.Layout.{block_count, image_size}
 use Rattle.control_form.specs.ControlForm.{control_form, form_rows}
@@ -18,14 +19,13 @@ use Rattle.method.specs.Rules.{View, move, refusal, refused, row, unless_refused
 use Rattle.cabinet_rules.specs.Cabinet.{cabinet}
 use Rattle.cabinet_rules.specs.Delivery.{current}
 use Rattle.cabinet_rules.specs.Images.{Image, after_plan, answer, answer_by, next, next_by, plan_on, refusal_by, refusal_on}
-use Rattle.std.specs.Prelude.{Err}
 use Rattle.refusals.specs.declared.Refusal.TheVariants.{Malformed as NotFormed}
+use Rattle.refusals.proofs.HandedOn.{HandsOn, handed-on}
 use Rattle.promise.specs.Promise.{Answered, Done, asked}
 use Rattle.promise.specs.declared.Call.{Call}
 use Rattle.command.specs.declared.Command.{Command}
 use Rattle.command.specs.declared.Command.TheVariants.{Of, WideMove}
-use Rattle.command.specs.declared.Reading.TheVariants.{Asks, Malformed}
-use Rattle.command.specs.Commands.{command_of, malformed, most_block, read_of, well_formed}
+use Rattle.command.specs.Commands.{command_of, malformed, most_block, no_command, read_of, well_formed}
 use Rattle.command.specs.Meaning.{Obeyed, block_for, call_for, command_answer, command_next, ruled}
 use Rattle.command.proofs.Answers.{read-asks, read-malformed}
 
@@ -89,16 +89,16 @@ call-leaves (WideMove c n) g =
     (λ b h. refused-next c.0 b g h ∙ sym (refused-next c.0 most_block g (omega arith)))
 
 -- ---- bytes that are read, and what is done for them, are obeyed
-pub obeyed-malformed : {l : List ℕ} {m : Image} → read_of l ≡ Malformed → Obeyed l m (Err NotFormed) m
+pub obeyed-malformed : {l : List ℕ} {m : Image} (a : Answered) → read_of l ≡ Err no_command → HandsOn NotFormed a → Obeyed l m a m
 unfolding command_answer command_next
-obeyed-malformed {l} {m} e =
+obeyed-malformed {l} {m} a e h =
     let f : well_formed l ≡ false = read-malformed l e in
-    record {
+    rw (handed-on a h) (record {
       answers = sym (ap (λ (t : Bool). cond t (answer (ruled (command_of l)) m) (refused malformed)) f);
       leaves = sym (ap (λ (t : Bool). cond t (next (ruled (command_of l)) m) m) f);
-    }
+    })
 
-pub obeyed-asked : {l : List ℕ} {c : Command} {k : Call} {m n : Image} {a : Answered} → read_of l ≡ Asks c → k ≡ call_for c → Done (asked k) m a n → Obeyed l m a n
+pub obeyed-asked : {l : List ℕ} {c : Command} {k : Call} {m n : Image} {a : Answered} → read_of l ≡ Ok c → k ≡ call_for c → Done (asked k) m a n → Obeyed l m a n
 unfolding command_answer command_next
 obeyed-asked {l} {c} {k} {m} {n} {a} e call done =
     let d : Done (asked (call_for c)) m a n = subst (λ (x : Call). Done (asked x) m a n) call done in

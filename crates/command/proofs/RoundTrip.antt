@@ -7,6 +7,7 @@ use native.Mathlib.Omega.{arith}
 use lib.Dec.{eqb}
 use lib.ListN.{get_or, length}
 use borrow.Author.Tests.{eqb-true, ltb-true}
+use Rattle.std.specs.Prelude.{Ok}
 use Rattle.lists.specs.Tests.{all_in}
 use Rattle.lists.proofs.Bools.{and_in, and_l, and_r, not_is}
 use Rattle.promise.specs.declared.Call.{Call}
@@ -15,7 +16,6 @@ use Rattle.promise.specs.declared.Call.TheVariants.{Settle, Start, State, Store,
 use Rattle.command.specs.declared.Command.{Command}
 use Rattle.command.specs.declared.Command.TheVariants.{Of, WideMove}
 use Rattle.command.specs.declared.Fields.{Fields}
-use Rattle.command.specs.declared.Reading.TheVariants.{Asks}
 use Rattle.command.specs.Commands.{bytes_for, call_at, call_fields, calls, command_at, command_of, command_size, encoded}
 use Rattle.command.specs.Commands.{fields_for, fields_given, fields_in, fields_of, is_writable, formed, forms, is_byte}
 use Rattle.command.specs.Commands.{is_of_case, is_wide_move, last_call, most_card, most_mask, most_number, most_tran}
@@ -24,8 +24,8 @@ use Rattle.command.specs.Commands.{is_written}
 use Rattle.command.specs.RoundTrips.{ReadWrites, WrittenReads}
 use Rattle.command.proofs.Answers.{command-is, read-asks, read-form, writable-formed, write-fit, write-says}
 use Rattle.command.proofs.Bytes.{by-five}
-use Rattle.command.proofs.Forms.{AtMost, Each, Wide, ◌then◌, at_most, each_at, form_of, formed-known}
-use Rattle.command.proofs.Forms.{formed-wide, none}
+use Rattle.command.proofs.Forms.{AtMost, Each, Wide, ◌then◌, at_most, each_at, form_of, formed_known}
+use Rattle.command.proofs.Forms.{formed_wide, none}
 
 -- fields are equal by each of the five
 same-fields : {f g : Fields} → f.operation ≡ g.operation → f.tran ≡ g.tran → f.card ≡ g.card → f.number ≡ g.number → f.value ≡ g.value → f ≡ g
@@ -116,7 +116,7 @@ calls_back f =
 pub call-fields-back : (f : Fields) → formed f ≡ true → call_fields (call_at f) ≡ f
 unfolding BackAt call_at
 call-fields-back f h =
-    each_at (BackAt f) operation_count 0 f.operation (calls_back f) zero-le (formed-known f h) refl (form_of f f.operation refl ∙ h)
+    each_at (BackAt f) operation_count 0 f.operation (calls_back f) zero-le (formed_known f h) refl (form_of f f.operation refl ∙ h)
 
 -- ---- fields and commands
 pub command-back : (c : Command) → is_of_case c ≡ true → command_at (fields_for c) ≡ c
@@ -143,13 +143,13 @@ fields_back f h = back_at f (is_wide_move f) refl h
 
 -- ---- the two theorems
 -- the bytes of a writable command read as it
-bytes_read : (c : Command) → is_writable c ≡ true → read_of (bytes_for c) ≡ Asks c
+bytes_read : (c : Command) → is_writable c ≡ true → read_of (bytes_for c) ≡ Ok c
 unfolding is_writable bytes_for
 bytes_read c h =
     let k : formed (fields_for c) ≡ true = writable-formed c h in
-    let e : fields_in (encoded (fields_for c)) ≡ fields_for c = fields-encoded (fields_for c) (formed-wide (fields_for c) k) in
+    let e : fields_in (encoded (fields_for c)) ≡ fields_for c = fields-encoded (fields_for c) (formed_wide (fields_for c) k) in
     sym (read-form (encoded (fields_for c)) true refl (ap formed e ∙ k))
-    ∙ ap Asks (ap command_at e ∙ command-back c (and_l (is_of_case c) _ h))
+    ∙ ap Ok (ap command_at e ∙ command-back c (and_l (is_of_case c) _ h))
 
 pub written-reads : WrittenReads
 written-reads lent c e =
@@ -167,7 +167,7 @@ of-form l bytes h =
     )
 
 -- what is read is writable, and its bytes are those read
-read-bytes : (l : List ℕ) (c : Command) → all_in is_byte l ≡ true → read_of l ≡ Asks c → (is_writable c ≡ true) × (bytes_for c ≡ l)
+read-bytes : (l : List ℕ) (c : Command) → all_in is_byte l ≡ true → read_of l ≡ Ok c → (is_writable c ≡ true) × (bytes_for c ≡ l)
 read-bytes l c bytes e =
     let r = read-asks l c e in
     subst (λ (d : Command). (is_writable d ≡ true) × (bytes_for d ≡ l)) r.1 (of-form l bytes r.0)

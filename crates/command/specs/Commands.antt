@@ -1,17 +1,12 @@
 -- Commands: RULES, "Commands and the listing". What five bytes ask for, and the five bytes of a command. Assumes nothing.
-use Rattle.std.specs.Prelude.{◌%◌, ◌*◌, ◌+◌, ◌/◌, ◌^◌, ℕ, eqb, leb, ltb, get_or, length, Bool, ◌&&◌, cond, false, not, List, ◌∷◌, []}
+use Rattle.std.specs.Prelude.{◌%◌, ◌*◌, ◌+◌, ◌/◌, ◌^◌, ℕ, eqb, leb, ltb, get_or, length, Bool, ◌&&◌, cond, false, not, List, ◌∷◌, [], Result, Ok, Err, ⊤}
 use Rattle.promise.specs.declared.Call.{Call}
 use Rattle.promise.specs.declared.Call.TheVariants.{Begin, Commit, Delete, Fail, Fit, Get, Load, Move, Place, Rollback}
 use Rattle.promise.specs.declared.Call.TheVariants.{Settle, Start, State, Store, Withdraw}
 use Rattle.command.specs.declared.Command.{Command}
 use Rattle.command.specs.declared.Command.TheVariants.{Of, WideMove}
 use Rattle.command.specs.declared.Fields.{Fields}
-use Rattle.command.specs.declared.Reading.{Reading}
-use Rattle.command.specs.declared.Reading.TheVariants.{Asks, Malformed}
-use Rattle.command.specs.declared.codec.Shown.{Shown}
-use Rattle.command.specs.declared.codec.Shown.TheVariants.{Has, Malformed as Shown-as-Malformed}
-use Rattle.command.specs.declared.Writing.{Writing}
-use Rattle.command.specs.declared.Writing.TheVariants.{Malformed as Writing-as-Malformed, Written}
+use Rattle.command.specs.declared.Malformed.{Malformed}
 
 -- The bytes of a command, the known operations, and the one that has a block.
 abbrev pub command_size : ℕ
@@ -96,8 +91,11 @@ forms =
 abbrev pub unknown : Fields → Bool
 unknown f = false
 
+abbrev pub of_form : ℕ → Fields → Bool
+of_form operation f = get_or forms operation unknown f
+
 unfoldable pub formed : Fields → Bool
-formed f = get_or forms f.operation unknown f
+formed f = of_form f.operation f
 
 -- A list of bytes is a command if it has five bytes with formed fields.
 unfoldable pub well_formed : List ℕ → Bool
@@ -127,8 +125,11 @@ abbrev pub last_call : Fields → Call
 last_call f = Load (record { 0 = f.card })
 
 -- The call of a known operation with these fields.
+abbrev pub call_by : ℕ → Fields → Call
+call_by operation f = get_or calls operation last_call f
+
 unfoldable pub call_at : Fields → Call
-call_at f = get_or calls f.operation last_call f
+call_at f = call_by f.operation f
 
 -- A block is a byte, and its field has 12 bits: a move of a number that no block can have.
 abbrev pub most_block : ℕ
@@ -141,16 +142,23 @@ is_wide_move f = eqb f.operation move_operation && ltb most_block f.number
 unfoldable pub command_at : Fields → Command
 command_at f = cond (is_wide_move f) (WideMove (record { 0 = f.card }) f.number) (Of (call_at f))
 
+-- What reader and writer answer: a value where a test passes, else that the command is malformed.
+abbrev pub no_command : Malformed
+no_command = record {}
+
+abbrev pub or_malformed : {A : Type 0} → Bool → A → Result A Malformed
+or_malformed t x = cond t (Ok x) (Err no_command)
+
 -- The fields that a list of bytes shows, if it is a command.
-unfoldable pub shown_fields : List ℕ → Shown
-shown_fields l = cond (well_formed l) (Has (fields_in l)) Shown-as-Malformed
+unfoldable pub shown_fields : List ℕ → Result Fields Malformed
+shown_fields l = or_malformed (well_formed l) (fields_in l)
 
 -- The command that a list of bytes shows, and what the reader says of the list.
 abbrev pub command_of : List ℕ → Command
 command_of l = command_at (fields_in l)
 
-unfoldable pub read_of : List ℕ → Reading
-read_of l = cond (well_formed l) (Asks (command_of l)) Malformed
+unfoldable pub read_of : List ℕ → Result Command Malformed
+read_of l = or_malformed (well_formed l) (command_of l)
 
 -- Fields by their numbers, those of a call, and those of a command: zero where it lacks one.
 abbrev pub fields_given : ℕ → ℕ → ℕ → ℕ → ℕ → Fields
@@ -205,8 +213,8 @@ bytes_for command = encoded (fields_for command)
 abbrev pub is_written : List ℕ → Command → Bool
 is_written l command = eqb (length l) command_size && is_writable command
 
-unfoldable pub write_of : List ℕ → Command → Writing
-write_of l command = cond (is_written l command) Written Writing-as-Malformed
+unfoldable pub write_of : List ℕ → Command → Result ⊤ Malformed
+write_of l command = or_malformed (is_written l command) tt
 
 abbrev pub write_leaves : List ℕ → Command → List ℕ
 write_leaves l command = cond (is_written l command) (bytes_for command) l
@@ -215,8 +223,8 @@ write_leaves l command = cond (is_written l command) (bytes_for command) l
 abbrev pub fields_fit : List ℕ → Fields → Bool
 fields_fit l f = eqb (length l) command_size && formed f
 
-unfoldable pub write_fields : List ℕ → Fields → Writing
-write_fields l f = cond (fields_fit l f) Written Writing-as-Malformed
+unfoldable pub write_fields : List ℕ → Fields → Result ⊤ Malformed
+write_fields l f = or_malformed (fields_fit l f) tt
 
 unfoldable pub fields_leave : List ℕ → Fields → List ℕ
 fields_leave l f = cond (fields_fit l f) (encoded f) l
@@ -225,10 +233,6 @@ fields_leave l f = cond (fields_fit l f) (encoded f) l
 abbrev pub malformed : ℕ
 malformed = 15
 
-abbrev pub reading_refusal : Reading → ℕ
-reading_refusal (Asks command) = 0
-reading_refusal Malformed = malformed
-
-abbrev pub writing_refusal : Writing → ℕ
-writing_refusal Written = 0
-writing_refusal Writing-as-Malformed = malformed
+abbrev pub answer_refusal : {A : Type 0} → Result A Malformed → ℕ
+answer_refusal (Ok x) = 0
+answer_refusal (Err e) = malformed

@@ -1,3 +1,4 @@
 pub mod Commands
 pub mod Meaning
+pub mod Operations
 pub mod RoundTrips

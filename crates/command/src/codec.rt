@@ -2,39 +2,34 @@
 ghost use Rattle.std.specs.Prelude.{◌≡◌};
 ghost use Rattle.command.specs.Commands.{fields_leave, shown_fields, write_fields};
 
-use crate::{Fields, SIZE, Writing};
-
-// What a list of bytes shows.
-#[derive(Clone, Copy)]
-pub enum Shown {
-    Has(Fields),
-    Malformed,
-}
+use crate::{Fields, Malformed, SIZE};
 
 // The fields of a command's bytes.
-pub fn read(bytes: &[u8]) -> Shown
+#[tactic(auto, unfolding(crate::specs::Commands::shown_fields, crate::specs::Commands::well_formed, crate::specs::Commands::fields_in))]
+pub fn read(bytes: &[u8]) -> Result<Fields, Malformed>
     ensures { result ≡ shown_fields bytes.now }
 {
     if bytes.len() != SIZE {
-        return Shown::Malformed;
+        return Err(Malformed);
     }
     let f = crate::decode(bytes[0], bytes[1], bytes[2], bytes[3], bytes[4]);
     if crate::is_formed(f) {
-        return Shown::Has(f);
+        return Ok(f);
     }
-    Shown::Malformed
+    Err(Malformed)
 }
 
-// Writes a command with these fields: whether it was written. Refused, the bytes stay as found.
-pub fn write(bytes: &mut [u8], f: Fields) -> Writing
+// Writes a command with these fields. Refused, the bytes stay as found.
+#[tactic(auto, unfolding(crate::specs::Commands::write_fields, crate::specs::Commands::fields_leave))]
+pub fn write(bytes: &mut [u8], f: Fields) -> Result<(), Malformed>
     ensures { (result ≡ write_fields bytes.old f) × (bytes.new ≡ fields_leave bytes.old f) }
 {
     if bytes.len() != SIZE {
-        return Writing::Malformed;
+        return Err(Malformed);
     }
     if crate::is_formed(f) {
         crate::encode(bytes, f);
-        return Writing::Written;
+        return Ok(());
     }
-    Writing::Malformed
+    Err(Malformed)
 }

@@ -2,8 +2,10 @@
 #![tactic(auto)]
 
 ghost use Rattle.std.specs.Prelude.{◌≡◌, false, true, length};
+ghost use Rattle.refusals.specs.declared.Refusal.TheVariants.{Malformed as NotFormed};
 ghost use Rattle.command.specs.Commands.{
   call_at,
+  call_by,
   call_fields,
   command_at,
   command_size,
@@ -15,51 +17,26 @@ ghost use Rattle.command.specs.Commands.{
   formed,
   is_wide_move,
   is_writable,
+  of_form,
   read_of,
   write_leaves,
   write_of,
 };
 ghost use Rattle.command.specs.Meaning.{block_for, call_for};
+ghost use Rattle.command.specs.Operations.{operation_number};
 
 pub mod codec;
+mod operation;
 
-use codec::Shown;
 use image::{Block, Card, Rec, Tran};
+pub use operation::Operation;
 use promise::Call;
+use refusals::Refusal;
+use std::error::Error;
+use std::fmt;
 
 // The bytes of a command.
 pub const SIZE: usize = 5;
-
-// The known operations.
-pub const START: u8 = 0;
-
-pub const BEGIN: u8 = 1;
-
-pub const GET: u8 = 2;
-
-pub const STORE: u8 = 3;
-
-pub const DELETE: u8 = 4;
-
-pub const COMMIT: u8 = 5;
-
-pub const ROLLBACK: u8 = 6;
-
-pub const FIT: u8 = 7;
-
-pub const WITHDRAW: u8 = 8;
-
-pub const PLACE: u8 = 9;
-
-pub const FAIL: u8 = 10;
-
-pub const MOVE: u8 = 11;
-
-pub const SETTLE: u8 = 12;
-
-pub const STATE: u8 = 13;
-
-pub const LOAD: u8 = 14;
 
 // How many numbers four bits and eight bits have.
 const FOUR_BITS: u8 = 16;
@@ -87,21 +64,29 @@ pub enum Command {
     WideMove(Card, u16),
 }
 
-// What a list of bytes asks for.
-#[derive(Clone, Copy)]
-pub enum Reading {
-    Asks(Command),
-    Malformed,
+// Bytes that are no command, or a command that five bytes do not hold.
+#[derive(Clone, Copy, Debug, PartialEq, Eq)]
+pub struct Malformed;
+
+impl fmt::Display for Malformed {
+    fn fmt<W: fmt::Write>(&self, f: &mut fmt::Formatter<W>) -> fmt::Result {
+        f.write_str("malformed command")
+    }
 }
 
-// Whether a command was written.
-#[derive(Clone, Copy)]
-pub enum Writing {
-    Written,
-    Malformed,
+impl Error for Malformed {}
+
+// The refusal of bytes that are no command.
+impl From<Malformed> for Refusal {
+    ghost from_gives = { λ _ r. r ≡ NotFormed };
+
+    fn from(_malformed: Malformed) -> Refusal {
+        Refusal::Malformed
+    }
 }
 
-// The fields of a command. The number is a record's or a block's, the value may be a mask.
+// The fields of a command. The number is a record's or a block's, the value may be a mask. The operation stays a number
+// here: callers in C lend any four bits (`nolpigat_read_command`, `nolpigat_write_command`).
 #[derive(Clone, Copy)]
 pub struct Fields {
     pub operation: u8,
@@ -125,77 +110,89 @@ fn decode(a: u8, b: u8, c: u8, d: u8, e: u8) -> Fields
 }
 
 // Whether each field is at most its limit.
+#[tactic(auto, unfolding(crate::specs::Commands::fields_within))]
 fn is_within(f: Fields, tran: u8, card: u8, number: u16, value: u16) -> bool
     ensures { result ≡ fields_within tran card number value f }
 {
-    if f.tran > tran {
-        return false;
+    f.tran <= tran && f.card <= card && f.number <= number && f.value <= value
+}
+
+// Whether the fields that the operation lacks are zero and the others are not too wide.
+fn is_of_form(operation: Operation, f: Fields) -> bool
+    ensures { result ≡ of_form (operation_number operation) f }
+{
+    match operation {
+        Operation::Start | Operation::Place => is_within(f, 0, 0, 0, MOST_MASK),
+        Operation::Begin => is_within(f, MOST_TRAN, MOST_CARD, 0, 0),
+        Operation::Get | Operation::Delete => is_within(f, MOST_TRAN, 0, MOST_NUMBER, 0),
+        Operation::Store => is_within(f, MOST_TRAN, 0, MOST_NUMBER, MOST_VALUE),
+        Operation::Commit | Operation::Rollback => is_within(f, MOST_TRAN, 0, 0, 0),
+        Operation::Fit | Operation::Withdraw | Operation::Fail | Operation::Load => is_within(
+            f, 0, MOST_CARD, 0, 0,
+        ),
+        Operation::Move => is_within(f, 0, MOST_CARD, MOST_NUMBER, 0),
+        Operation::Settle | Operation::State => is_within(f, 0, 0, 0, 0),
     }
-    if f.card > card {
-        return false;
-    }
-    if f.number > number {
-        return false;
-    }
-    f.value <= value
 }
 
 // Whether the operation is known, the fields that it lacks are zero and the others are not too wide.
+#[tactic(auto, unfolding(crate::specs::Commands::formed))]
 fn is_formed(f: Fields) -> bool
     ensures { result ≡ formed f }
 {
-    let operation = f.operation;
-    match operation {
-        START | PLACE => return is_within(f, 0, 0, 0, MOST_MASK),
-        BEGIN => return is_within(f, MOST_TRAN, MOST_CARD, 0, 0),
-        GET | DELETE => return is_within(f, MOST_TRAN, 0, MOST_NUMBER, 0),
-        STORE => return is_within(f, MOST_TRAN, 0, MOST_NUMBER, MOST_VALUE),
-        COMMIT..=ROLLBACK => return is_within(f, MOST_TRAN, 0, 0, 0),
-        FIT..=WITHDRAW => return is_within(f, 0, MOST_CARD, 0, 0),
-        FAIL | LOAD => return is_within(f, 0, MOST_CARD, 0, 0),
-        MOVE => return is_within(f, 0, MOST_CARD, MOST_NUMBER, 0),
-        SETTLE..=STATE => return is_within(f, 0, 0, 0, 0),
-        _ => return false,
+    match Operation::try_from(f.operation) {
+        Ok(operation) => is_of_form(operation, f),
+        Err(Malformed) => false,
     }
 }
 
 // Whether the operation is move and the number one that no block can have.
+#[tactic(auto, unfolding(crate::specs::Commands::is_wide_move))]
 fn is_wide_move(f: Fields) -> bool
     ensures { result ≡ is_wide_move f }
 {
-    if f.operation != MOVE {
-        return false;
+    f.operation == Operation::Move as u8 && f.number > MOST_BLOCK
+}
+
+// The call of these fields, whose operation it is.
+#[tactic(auto, unfolding(crate::specs::Commands::formed, crate::specs::Commands::fields_within, crate::specs::Commands::is_wide_move))]
+fn call_by(operation: Operation, f: Fields) -> Call
+    requires is_operation { operation_number operation ≡ f.operation }
+    requires is_formed { formed f ≡ true }
+    requires is_narrow { is_wide_move f ≡ false }
+    ensures { result ≡ call_by (operation_number operation) f }
+{
+    match operation {
+        Operation::Start => Call::Start(f.value as u8),
+        Operation::Begin => Call::Begin(Tran(f.tran), Card(f.card)),
+        Operation::Get => Call::Get(Tran(f.tran), Rec(f.number)),
+        Operation::Store => Call::Store(Tran(f.tran), Rec(f.number), f.value),
+        Operation::Delete => Call::Delete(Tran(f.tran), Rec(f.number)),
+        Operation::Commit => Call::Commit(Tran(f.tran)),
+        Operation::Rollback => Call::Rollback(Tran(f.tran)),
+        Operation::Fit => Call::Fit(Card(f.card)),
+        Operation::Withdraw => Call::Withdraw(Card(f.card)),
+        Operation::Place => Call::Place(f.value as u8),
+        Operation::Fail => Call::Fail(Card(f.card)),
+        Operation::Move => Call::Move(Card(f.card), Block(f.number as u8)),
+        Operation::Settle => Call::Settle,
+        Operation::State => Call::State,
+        Operation::Load => Call::Load(Card(f.card)),
     }
-    f.number > MOST_BLOCK
 }
 
 // The call of a known operation.
+#[tactic(auto, unfolding(crate::specs::Commands::formed, crate::specs::Commands::call_at))]
 fn call_at(f: Fields) -> Call
-    requires f_value { formed f ≡ true }
-    requires f_value_2 { is_wide_move f ≡ false }
+    requires is_formed { formed f ≡ true }
+    requires is_narrow { is_wide_move f ≡ false }
     ensures { result ≡ call_at f }
 {
-    let operation = f.operation;
-    match operation {
-        START => return Call::Start(f.value as u8),
-        BEGIN => return Call::Begin(Tran(f.tran), Card(f.card)),
-        GET => return Call::Get(Tran(f.tran), Rec(f.number)),
-        STORE => return Call::Store(Tran(f.tran), Rec(f.number), f.value),
-        DELETE => return Call::Delete(Tran(f.tran), Rec(f.number)),
-        COMMIT => return Call::Commit(Tran(f.tran)),
-        ROLLBACK => return Call::Rollback(Tran(f.tran)),
-        FIT => return Call::Fit(Card(f.card)),
-        WITHDRAW => return Call::Withdraw(Card(f.card)),
-        PLACE => return Call::Place(f.value as u8),
-        FAIL => return Call::Fail(Card(f.card)),
-        MOVE => return Call::Move(Card(f.card), Block(f.number as u8)),
-        SETTLE => return Call::Settle,
-        STATE => return Call::State,
-        _ => return Call::Load(Card(f.card)),
-    }
+    call_by(Operation::try_from(f.operation).unwrap(), f)
 }
 
 // The command of a known operation.
+#[tactic(auto, unfolding(crate::specs::Commands::command_at))]
 fn command_at(f: Fields) -> Command
     requires { formed f ≡ true }
     ensures { result ≡ command_at f }
@@ -207,49 +204,48 @@ fn command_at(f: Fields) -> Command
 }
 
 // What the bytes ask for.
-pub fn read(bytes: &[u8]) -> Reading
+#[tactic(auto, unfolding(crate::specs::Commands::read_of, crate::specs::Commands::shown_fields, crate::specs::Commands::well_formed))]
+pub fn read(bytes: &[u8]) -> Result<Command, Malformed>
     ensures { result ≡ read_of bytes.now }
 {
-    let shown = codec::read(bytes);
-    match shown {
-        Shown::Has(f) => Reading::Asks(command_at(f)),
-        Shown::Malformed => Reading::Malformed,
-    }
+    let f = codec::read(bytes)?;
+    Ok(command_at(f))
 }
 
 // A command's fields, zero where the operation lacks them.
-fn given(operation: u8, tran: u8, card: u8, number: u16, value: u16) -> Fields
-    ensures { result ≡ fields_given operation tran card number value }
+fn given(operation: Operation, tran: u8, card: u8, number: u16, value: u16) -> Fields
+    ensures { result ≡ fields_given (operation_number operation) tran card number value }
 {
     Fields {
-        operation: operation,
-        tran: tran,
-        card: card,
-        number: number,
-        value: value,
+        operation: operation as u8,
+        tran,
+        card,
+        number,
+        value,
     }
 }
 
 // The fields of a call. Its block is a byte.
+#[tactic(auto, unfolding(crate::specs::Commands::call_fields, crate::specs::Commands::is_wide_move))]
 fn call_fields(call: Call) -> Fields
     ensures { (result ≡ call_fields call) × (is_wide_move result ≡ false) }
 {
     match call {
-        Call::Start(mask) => given(START, 0, 0, 0, mask as u16),
-        Call::Begin(tran, home) => given(BEGIN, tran.0, home.0, 0, 0),
-        Call::Get(tran, rec) => given(GET, tran.0, 0, rec.0, 0),
-        Call::Store(tran, rec, value) => given(STORE, tran.0, 0, rec.0, value),
-        Call::Delete(tran, rec) => given(DELETE, tran.0, 0, rec.0, 0),
-        Call::Commit(tran) => given(COMMIT, tran.0, 0, 0, 0),
-        Call::Rollback(tran) => given(ROLLBACK, tran.0, 0, 0, 0),
-        Call::Fit(card) => given(FIT, 0, card.0, 0, 0),
-        Call::Withdraw(card) => given(WITHDRAW, 0, card.0, 0, 0),
-        Call::Place(mask) => given(PLACE, 0, 0, 0, mask as u16),
-        Call::Fail(card) => given(FAIL, 0, card.0, 0, 0),
-        Call::Move(card, block) => given(MOVE, 0, card.0, block.0 as u16, 0),
-        Call::Settle => given(SETTLE, 0, 0, 0, 0),
-        Call::State => given(STATE, 0, 0, 0, 0),
-        Call::Load(card) => given(LOAD, 0, card.0, 0, 0),
+        Call::Start(mask) => given(Operation::Start, 0, 0, 0, mask as u16),
+        Call::Begin(tran, home) => given(Operation::Begin, tran.0, home.0, 0, 0),
+        Call::Get(tran, rec) => given(Operation::Get, tran.0, 0, rec.0, 0),
+        Call::Store(tran, rec, value) => given(Operation::Store, tran.0, 0, rec.0, value),
+        Call::Delete(tran, rec) => given(Operation::Delete, tran.0, 0, rec.0, 0),
+        Call::Commit(tran) => given(Operation::Commit, tran.0, 0, 0, 0),
+        Call::Rollback(tran) => given(Operation::Rollback, tran.0, 0, 0, 0),
+        Call::Fit(card) => given(Operation::Fit, 0, card.0, 0, 0),
+        Call::Withdraw(card) => given(Operation::Withdraw, 0, card.0, 0, 0),
+        Call::Place(mask) => given(Operation::Place, 0, 0, 0, mask as u16),
+        Call::Fail(card) => given(Operation::Fail, 0, card.0, 0, 0),
+        Call::Move(card, block) => given(Operation::Move, 0, card.0, block.0 as u16, 0),
+        Call::Settle => given(Operation::Settle, 0, 0, 0, 0),
+        Call::State => given(Operation::State, 0, 0, 0, 0),
+        Call::Load(card) => given(Operation::Load, 0, card.0, 0, 0),
     }
 }
 
@@ -259,51 +255,47 @@ fn fields_for(command: Command) -> Fields
 {
     match command {
         Command::Of(call) => call_fields(call),
-        Command::WideMove(card, number) => given(MOVE, 0, card.0, number, 0),
+        Command::WideMove(card, number) => given(Operation::Move, 0, card.0, number, 0),
     }
 }
 
 // Whether the command can be written. A wide move of a number that a block can have is not of its form.
+#[tactic(auto, unfolding(crate::specs::Commands::is_writable))]
 fn is_writable(command: Command) -> bool
     ensures { result ≡ is_writable command }
 {
     match command {
-        Command::Of(call) => return is_formed(call_fields(call)),
-        Command::WideMove(_, number) => {
-            if number <= MOST_BLOCK {
-                return false;
-            }
-            return is_formed(fields_for(command));
-        }
+        Command::Of(call) => is_formed(call_fields(call)),
+        Command::WideMove(_, number) => number > MOST_BLOCK && is_formed(fields_for(command)),
     }
 }
 
 // Writes the fields into five lent bytes.
+#[tactic(auto, using(crate::proofs::Forms::formed_known, crate::proofs::Forms::formed_wide))]
 fn encode(bytes: &mut [u8], f: Fields)
     requires bytes_len { length bytes.old ≡ command_size }
-    requires f_value { formed f ≡ true }
+    requires is_formed { formed f ≡ true }
     ensures { bytes.new ≡ encoded f }
 {
-    bytes[0] = f.operation * FOUR_BITS + f.tran;
-    bytes[1] = f.card * FOUR_BITS + (f.number / EIGHT_BITS) as u8;
-    bytes[2] = (f.number % EIGHT_BITS) as u8;
-    bytes[3] = (f.value / EIGHT_BITS) as u8;
-    bytes[4] = (f.value % EIGHT_BITS) as u8;
+    bytes.copy_from_slice(&[
+        f.operation * FOUR_BITS + f.tran,
+        f.card * FOUR_BITS + (f.number / EIGHT_BITS) as u8,
+        (f.number % EIGHT_BITS) as u8,
+        (f.value / EIGHT_BITS) as u8,
+        (f.value % EIGHT_BITS) as u8,
+    ]);
 }
 
-// Writes a command: whether it was written. Refused, the bytes stay as found.
-pub fn write(bytes: &mut [u8], command: Command) -> Writing
+// Writes a command. Refused, the bytes stay as found.
+#[tactic(auto, unfolding(crate::specs::Commands::write_of, crate::specs::Commands::bytes_for, crate::specs::Commands::is_writable, crate::specs::Commands::write_fields, crate::specs::Commands::fields_leave))]
+pub fn write(bytes: &mut [u8], command: Command) -> Result<(), Malformed>
     ensures { (result ≡ write_of bytes.old command)
         × (bytes.new ≡ write_leaves bytes.old command) }
 {
-    if bytes.len() != SIZE {
-        return Writing::Malformed;
+    if !is_writable(command) {
+        return Err(Malformed);
     }
-    if is_writable(command) {
-        encode(bytes, fields_for(command));
-        return Writing::Written;
-    }
-    Writing::Malformed
+    codec::write(bytes, fields_for(command))
 }
 
 // The block of the call that performs a move of this number.

@@ -7,36 +7,23 @@ use native.Mathlib.Omega.{arith}
 use lib.Dec.{eqb, leb, ltb}
 use lib.ListN.{drop, length, take}
 use lib.Seq.{length-take-le}
-use borrow.Author.Tests.{le-leb, le-ltb, lt-ltb, ltb-true}
+use borrow.Author.Tests.{le-leb, lt-ltb, ltb-true}
 use Rattle.lists.specs.Segments.{segment, splice}
 use Rattle.lists.proofs.Bools.{and_l, and_r, and-when, not_is}
 use Rattle.lists.proofs.Segments.{get-put, length-segment}
 use Rattle.cabinet_rules.specs.Images.{Image}
 use Rattle.command.specs.Commands.{command_size}
 use Rattle.lines.specs.Lines.{longest_line}
-use Rattle.lines.proofs.Puts.{puts-same}
+use Rattle.lines.proofs.Puts.{puts_same}
 use Rattle.listing.specs.Listing.{Listed, command_count, has_room_for_all, image_behind, listing}
 use Rattle.console.specs.declared.Position.{Position}
 use Rattle.console.specs.Readings.{Advanced, Given, Standing, cut, gave, is_last, numbers_fit, performed, performed_size, position_behind, standing_after}
-use Rattle.console.proofs.Buffers.{at, cut-is, performed-is, performed-le}
+use Rattle.console.proofs.Buffers.{at, cut-is, performed-is, performed_le}
 
 -- ---- the position behind
 abbrev position : ℕ → ℕ → ℕ → Bool → Position
 position number commands waiting t =
     cond t (record { number = number + commands; waiting = waiting; more = true }) (record { number = number; waiting = waiting; more = false })
-
-pub behind-last : (number commands waiting : ℕ) (last : Bool) → last ≡ true
-    → ◌≡◌ {A = Position} (record { number = number; waiting = waiting; more = false }) (position_behind number commands waiting last)
-unfolding position_behind
-behind-last number commands waiting last h =
-    sym (ap (λ (t : Bool). position number commands waiting (not t && ltb (number + commands) (2 ^ 64))) h)
-
-pub behind-wide : (number commands waiting : ℕ) (last : Bool) → 2 ^ 64 ≤ number + commands
-    → ◌≡◌ {A = Position} (record { number = number; waiting = waiting; more = false }) (position_behind number commands waiting last)
-unfolding position_behind
-behind-wide number commands waiting true h = refl
-behind-wide number commands waiting false h =
-    sym (ap (position number commands waiting) (le-ltb (number + commands) (2 ^ 64) h))
 
 pub behind-next : (number commands waiting : ℕ) (last : Bool) → last ≡ false → number + commands < 2 ^ 64
     → ◌≡◌ {A = Position} (record { number = number + commands; waiting = waiting; more = true }) (position_behind number commands waiting last)
@@ -94,7 +81,7 @@ advanced number w got put e l b out o g g' next h k d ran moved behind =
     let s : Standing = at number w l g in
     let r : Given = gave (segment l w got) in
     let last : Bool = eqb got 0 in
-    let size : e ≤ w + got = subst (λ (n : ℕ). n ≤ w + got) (sym d) (performed-le (w + got) last) in
+    let size : e ≤ w + got = subst (λ (n : ℕ). n ≤ w + got) (sym d) (performed_le (w + got) last) in
     let p : take e l ≡ performed s r = sym (performed-is number w got l g h ∙ ap (λ (n : ℕ). take n l) (sym d)) in
     let q : segment l e (w + got - e) ≡ cut s r = sym (cut-is number w got l g h ∙ ap (λ (n : ℕ). segment l n (w + got - n)) (sym d)) in
     let len : got ≡ length (segment l w got) = sym (length-segment l w got h) in
@@ -103,7 +90,7 @@ advanced number w got put e l b out o g g' next h k d ran moved behind =
     ran.leaves ∙ (λ i. cond (fit i) (image_behind (p i) g (command_count (p i))) g) in
     let count : not last ≡ true → e / command_size ≡ command_count (take e l) = λ t. sym (whole-count (w + got) e last l (omega arith) d t) in
     record {
-      prints = puts-same (λ i. cond (fit i) (listing number (p i) g (command_count (p i))) []) ran.prints;
+      prints = puts_same (λ i. cond (fit i) (listing number (p i) g (command_count (p i))) []) ran.prints;
       leaves = image;
       goes = ap (λ (x : Position). x.more) behind ∙ behind_more number (e / command_size) (w + got - e) last
           ∙ and-when (not last) (ltb (number + e / command_size) (2 ^ 64)) (ltb (number + command_count (take e l)) (2 ^ 64))

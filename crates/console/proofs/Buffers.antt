@@ -2,30 +2,25 @@
 -- performed and what is cut are its two parts. Assumes nothing.
 use mathlib.Core.Path.{◌∙◌, ◌≡◌, ap, sym}
 use mathlib.Core.Bool.{Bool, false, true}
-use mathlib.Core.List.{List}
+use mathlib.Core.List.{List, ◌++◌}
 use Prim.Native.Nat.{◌+◌, ◌-◌, ◌<◌, ◌≤◌, ℕ}
 use native.Mathlib.Omega.{arith}
 use lib.Dec.{eqb}
-use lib.ListN.{drop, get_or, length, length-take, set, take}
+use lib.ListN.{drop, length, take}
 use lib.Seq.{drop_at, length-take-le, take-add, take-take}
+use Rattle.std.specs.List.{copy_within}
 use Rattle.lists.specs.Segments.{segment, splice}
-use Rattle.lists.proofs.Segments.{get_or-after, get_or-segment, length-segment, splice-more}
+use Rattle.lists.proofs.Segments.{length-segment}
 use Rattle.cabinet_rules.specs.Images.{Image}
 use Rattle.command.specs.Commands.{command_size}
 use Rattle.console.specs.Readings.{Standing, cut, gave, held_bytes, performed, performed_size}
 
--- ---- a move to the start of the buffer, byte by byte: what is read lies behind what was written
-pub moved_more : (l b : List ℕ) (a n i : ℕ) → a + n ≤ length l → i < n → b ≡ splice l 0 (take i (segment l a n))
-    → set b i (get_or b (a + i) 0) ≡ splice l 0 (take (i + 1) (segment l a n))
-moved_more l b a n i h k e =
-    let s : length (segment l a n) ≡ n = length-segment l a n h in
-    let t : length (take i (segment l a n)) ≡ i = simp length-take (omega arith) in
-    let r : get_or b (a + i) 0 ≡ get_or (segment l a n) i 0 =
-    ap (λ (m : List ℕ). get_or m (a + i) 0) e
-    ∙ get_or-after l 0 (take i (segment l a n)) (a + i) (omega arith) (omega arith)
-    ∙ sym (get_or-segment l a n i k) in
-    let z : i ≡ 0 + i = omega arith in
-    (λ j. set (e j) (z j) (r j)) ∙ splice-more l 0 (segment l a n) i (omega arith) (omega arith)
+-- ---- a move to the start of the buffer
+pub moved : (l : List ℕ) (a b : ℕ) → a ≤ b → b ≤ length l → copy_within l a b 0 ≡ splice l 0 (segment l a (b - a))
+unfolding segment splice
+moved l a b h k =
+    let n : length (segment l a (b - a)) ≡ b - a = length-segment l a (b - a) (omega arith) in
+    ap (λ (m : ℕ). segment l a (b - a) ++ drop (0 + m) l) (sym n)
 
 -- ---- the two parts of what is held
 pub drop-taken : (l : List ℕ) (e m : ℕ) → e ≤ m → m ≤ length l → drop e (take m l) ≡ segment l e (m - e)
@@ -34,9 +29,9 @@ drop-taken l e m h k =
     let s : m ≡ e + (m - e) = omega arith in
     ap (λ (j : ℕ). drop e (take j l)) s ∙ ap (drop e) (take-add e (m - e) l) ∙ drop_at (take e l) (take (m - e) (drop e l)) e (length-take-le e l (omega arith))
 
-pub performed-le : (n : ℕ) (last : Bool) → performed_size n last ≤ n
-performed-le n true = omega arith
-performed-le n false = omega arith
+pub performed_le : (n : ℕ) (last : Bool) → performed_size n last ≤ n
+performed_le n true = omega arith
+performed_le n false = omega arith
 
 pub rest-short : (n : ℕ) (last : Bool) → n - performed_size n last < command_size
 rest-short n true = omega arith
@@ -58,7 +53,7 @@ pub performed-is : (number w got : ℕ) (l : List ℕ) (g : Image) → w + got �
 unfolding performed
 performed-is number w got l g h =
     (λ i. take (performed_size (held-length number w got l g h i) (eqb (length-segment l w got h i) 0)) (held-is number w got l g i))
-    ∙ take-take (performed_size (w + got) (eqb got 0)) (w + got) l (performed-le (w + got) (eqb got 0))
+    ∙ take-take (performed_size (w + got) (eqb got 0)) (w + got) l (performed_le (w + got) (eqb got 0))
 
 pub cut-is : (number w got : ℕ) (l : List ℕ) (g : Image) → w + got ≤ length l
     → cut (at number w l g) (gave (segment l w got))
@@ -66,4 +61,4 @@ pub cut-is : (number w got : ℕ) (l : List ℕ) (g : Image) → w + got ≤ len
 unfolding cut
 cut-is number w got l g h =
     (λ i. drop (performed_size (held-length number w got l g h i) (eqb (length-segment l w got h i) 0)) (held-is number w got l g i))
-    ∙ drop-taken l (performed_size (w + got) (eqb got 0)) (w + got) (performed-le (w + got) (eqb got 0)) h
+    ∙ drop-taken l (performed_size (w + got) (eqb got 0)) (w + got) (performed_le (w + got) (eqb got 0)) h

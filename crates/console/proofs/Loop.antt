@@ -2,7 +2,7 @@
 -- numbers end. Assumes nothing.
 use mathlib.Core.Path.{◌∙◌, ◌≡◌, ap, refl, subst, sym}
 use mathlib.Core.Bool.{Bool, cond, false, not, true}
-use mathlib.Core.List.{List, ◌++◌, []}
+use mathlib.Core.List.{List, ◌++◌}
 use Prim.Native.Nat.{◌*◌, ◌+◌, ◌-◌, ◌<◌, ◌^◌, ◌≤◌, ℕ}
 use native.Mathlib.Omega.{arith}
 use native.Mathlib.Nat.{min-le_left}
@@ -38,18 +38,6 @@ read_some {s} {s'} {x} {out} {left} {b} {step} {g} e a =
       leaves = a.leaves;
       goes = λ h. sym a.goes ∙ h;
       stands = λ h. a.stands (sym a.goes ∙ h);
-    })
-
--- the same where the program stops, since the lines could not be written
-pub read-stop : {s s' : Standing} {x : Given} {out left b : List ℕ} {step : Step} {g : Image} (next : Position) → next.more ≡ false
-    → s ≡ s' → Advanced s x out step left b g → ReadSome s' next b g
-read-stop {s} {s'} {x} {out} {left} {b} {step} {g} next stops e a =
-    subst (λ (z : Standing). ReadSome z next b g) e
-    (record {
-      given = x;
-      leaves = a.leaves;
-      goes = λ h. tf next.more h stops;
-      stands = λ h. tf next.more h stops;
     })
 
 -- ---- the bytes read rise
@@ -101,10 +89,6 @@ pub record Performed (first now : Image) (more : Bool) : Type 0 where
   pub input : List ℕ
   pub leaves : now ≡ image_behind input first (command_count input)
   pub whole : more ≡ true → length input ≡ command_count input * command_size
-
-pub none-performed : (g : Image) → Performed g g true
-unfolding image_behind
-none-performed g = record { input = []; leaves = refl; whole = λ h. refl }
 
 pub more-performed : (g : Image) (s : Standing) (next : Position) (b : List ℕ) (h : Image) → Performed g s.image true → ReadSome s next b h
     → Performed g h next.more

@@ -2,26 +2,19 @@
 use mathlib.Core.Path.{◌∙◌, ◌≡◌, ap, refl, subst, sym}
 use mathlib.Core.Bool.{Bool, cond, false, true}
 use mathlib.Core.List.{List, []}
-use Prim.Native.Nat.{◌≤◌, zero-le, ℕ}
-use native.Mathlib.Omega.{arith}
-use lib.ListN.{length}
-use Rattle.std.specs.Prelude.{Err, Ok, Result}
-use Rattle.std.specs.Io.{ReadsAtMost}
+use Prim.Native.Nat.{zero-le, ℕ}
+use Rattle.std.specs.Prelude.{Err, IsErrAnd, MatchResult, Ok, OnOk, Result, is_ok}
+use Rattle.console.specs.declared.ending.Failure.{Failure}
 use Rattle.lists.specs.Segments.{segment}
 use Rattle.lists.proofs.Bools.{tf}
 use Rattle.cabinet_rules.specs.Images.{Image}
-use Rattle.lines.proofs.Puts.{puts_none, puts-same}
+use Rattle.lines.proofs.Puts.{puts_none, puts_same}
 use Rattle.listing.specs.Listing.{image_behind, listing}
 use Rattle.console.specs.declared.Position.{Position}
 use Rattle.console.specs.declared.Step.{Step}
 use Rattle.console.specs.Readings.{Advanced, Given, Standing, gave, given_by, given_size, numbers_fit, performed, read_failed, standing, stopped_at}
 
 -- ---- the answer: a number of bytes, or an error
--- a read into a part of a buffer answers at most the bytes of the part
-pub size-within : {E : Type 0} (n : ℕ) (b : List ℕ) (r : Result ℕ E) → length b ≤ n → ReadsAtMost r b → given_size r ≤ n
-size-within n b (Ok k) m h = omega (arith, h.0, m)
-size-within n b (Err e) m h = zero-le
-
 -- what a read gave, by its answer
 pub size-ok : {E : Type 0} (r : Result ℕ E) (k : ℕ) → r ≡ Ok k → given_size r ≡ k
 size-ok {E} r k e = ap (λ (x : Result ℕ E). given_size x) e
@@ -44,7 +37,7 @@ unfolding performed image_behind listing
 failed-step at next l out g e =
     let s : Standing = standing at l g in
     record {
-      prints = puts-same (none (numbers_fit s read_failed)) (puts_none out 0 zero-le);
+      prints = puts_same (none (numbers_fit s read_failed)) (puts_none out 0 zero-le);
       leaves = same (numbers_fit s read_failed);
       goes = ap (λ (x : Position). x.more) e;
       stands = λ h. tf false h refl;
@@ -68,3 +61,19 @@ unread {E} r x w l {s} {out} {left} {b} {step} {g} e a =
     same : (t : Bool) → cond t s.image s.image ≡ s.image
     same true = refl
     same false = refl
+
+-- ---- an answer whose error is given another type
+-- the answer was a number of bytes
+pub is_read : {T E : Type 0} (r : Result T E) → true ≡ is_ok r → (n : T) × (r ≡ Ok n)
+is_read (Ok n) e = (n, refl)
+is_read (Err x) e = tf true refl e
+
+pub of_ok : {T E P : Type 0} (r : Result T E) → OnOk r P → true ≡ is_ok r → P
+of_ok (Ok n) h e = h
+of_ok (Err x) h e = tf true refl e
+
+-- the answer was the error that the run ends with
+pub failed_read : {T E : Type 0} (make : E → Failure) (r : Result T E) (m : Result T Failure) (y : Failure) → MatchResult r (λ x. m ≡ Ok x) (λ e. IsErrAnd m (λ z. z ≡ make e)) → m ≡ Err y
+    → (e : E) × (r ≡ Err e) × (y ≡ make e)
+failed_read make (Ok x) m y h w = cc
+failed_read {T} make (Err e) m y h w = (e, refl, subst (λ (n : Result T Failure). IsErrAnd n (λ z. z ≡ make e)) w h)

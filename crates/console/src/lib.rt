@@ -4,7 +4,7 @@
 mod ending;
 
 ghost use Rattle.std.specs.Prelude.{◌*◌, ◌+◌, ◌-◌, ◌<◌, ◌≤◌, length, true, ◌≡◌, IfErr, IfOk, OnErr, OnOk};
-ghost use Rattle.lists.specs.Segments.{segment, splice};
+ghost use Rattle.lists.specs.Segments.{segment};
 ghost use Rattle.command.specs.Commands.{command_size};
 ghost use Rattle.lines.specs.Lines.{longest_line};
 ghost use Rattle.listing.specs.Listing.{command_count};
@@ -36,8 +36,6 @@ const COMMANDS: usize = 1024;
 const INPUT_SIZE: usize = COMMANDS * command::SIZE;
 
 const OUTPUT_SIZE: usize = COMMANDS * listing::LONGEST_LINE;
-
-const GREATEST: u64 = 18446744073709551615;
 
 // Where the program is in its input: the number of the next command, how many of its bytes wait at the start of the
 // input buffer, and whether the program reads on.
@@ -71,83 +69,57 @@ fn performed_size(held: usize, last: bool) -> usize
     ensures { result ≡ performed_size held last }
 {
     if last {
-        return held;
-    }
-    held - held % command::SIZE
-}
-
-// Moves the bytes of the buffer from one index to another to its start.
-fn move_to_start(buffer: &mut [u8], from: usize, to: usize)
-    requires { (from ≤ to) × (to ≤ length buffer.old) }
-    ensures { buffer.new
-        ≡ splice buffer.old 0 (segment buffer.old from (to - from)) }
-{
-    let mut i = 0;
-    while i < to - from {
-        buffer[i] = buffer[from + i];
-        i += 1;
+        held
+    } else {
+        held - held % command::SIZE
     }
 }
 
 // The position behind these commands, where so many bytes wait. The program stops where the next number would pass 64
 // bits.
+#[tactic(auto, unfolding(crate::specs::Readings::position_behind))]
 fn position_behind(number: u64, commands: usize, waiting: usize, last: bool) -> Position
     ensures { result ≡ position_behind number commands waiting last }
 {
-    if last {
-        return Position {
-            number: number,
-            waiting: waiting,
+    match number.checked_add(commands as u64) {
+        Some(number) if !last => Position {
+            number,
+            waiting,
+            more: true,
+        },
+        _ => Position {
+            number,
+            waiting,
             more: false,
-        };
-    }
-    if commands as u64 > GREATEST - number {
-        return Position {
-            number: number,
-            waiting: waiting,
-            more: false,
-        };
-    }
-    Position {
-        number: number + commands as u64,
-        waiting: waiting,
-        more: true,
+        },
     }
 }
 
 // Performs a reading, which stands in the input buffer behind the bytes that wait, and puts its lines into the output
 // buffer. The bytes of a command that it cuts wait at the start of the input buffer.
+#[tactic(auto, using(crate::proofs::Buffers::performed_le))]
 fn perform(image: &mut [u8], at: Position, got: usize, input: &mut [u8], out: &mut [u8]) -> Step
     requires got_in_bounds { at.waiting + got ≤ length input.old }
-    requires command_size_in_bounds { command_count input.old * longest_line command_size ≤ length out.old }
+    requires room_for_lines { command_count input.old * longest_line command_size ≤ length out.old }
     ensures { Advanced (standing at input.old image.old)
         (gave (segment input.old at.waiting got)) out.old result out.new
         input.new image.new
         × (result.put ≤ length out.old)
         × (result.next.waiting < command_size) }
 {
-    let waiting = at.waiting;
-    let number = at.number;
-    let held = waiting + got;
+    let held = at.waiting + got;
     let end = performed_size(held, got == 0);
-    let put = listing::run(image, number, &input[..end], out);
-    move_to_start(input, end, held);
-    let next = position_behind(number, end / command::SIZE, held - end, got == 0);
-    Step {
-        put: put,
-        next: next,
-    }
+    let put = listing::run(image, at.number, &input[..end], out);
+    input.copy_within(end..held, 0);
+    let next = position_behind(at.number, end / command::SIZE, held - end, got == 0);
+    Step { put, next }
 }
 
 // The position of a program that reads no more.
 fn stopped(at: Position) -> Position
     ensures { result ≡ stopped_at at }
 {
-    Position {
-        number: at.number,
-        waiting: at.waiting,
-        more: false,
-    }
+    Position { more: false, ..at }
 }
 
 // Performs what a read gave, by the answer to it. One that failed performs nothing: the rest of a cut command may follow,
@@ -159,22 +131,21 @@ fn advance(
     input: &mut [u8],
     out: &mut [u8],
 ) -> Step
-    requires waiting_lt_command_size { at.waiting < command_size }
+    requires waits_for_rest { at.waiting < command_size }
     requires got_in_bounds { at.waiting + given_size got ≤ length input.old }
-    requires command_size_in_bounds { command_count input.old * longest_line command_size ≤ length out.old }
+    requires room_for_lines { command_count input.old * longest_line command_size ≤ length out.old }
     ensures { Advanced (standing at input.old image.old)
         (given_by got at.waiting input.old) out.old result out.new input.new
         image.new
         × (result.put ≤ length out.old)
         × (result.next.waiting < command_size) }
 {
-    let unmoved = Step {
-        put: 0,
-        next: stopped(at),
-    };
     match got {
         Ok(size) => perform(image, at, size, input, out),
-        Err(_) => unmoved,
+        Err(_) => Step {
+            put: 0,
+            next: stopped(at),
+        },
     }
 }
 
@@ -188,9 +159,9 @@ fn read_on<R: Read, W: Write>(
     input: &mut [u8],
     out: &mut [u8],
 ) -> Result<Position, Failure>
-    requires waiting_lt_command_size { at.waiting < command_size }
-    requires command_size_in_bounds { command_size ≤ length input.old }
-    requires command_size_in_bounds_2 { command_count input.old * longest_line command_size ≤ length out.old }
+    requires waits_for_rest { at.waiting < command_size }
+    requires room_for_command { command_size ≤ length input.old }
+    requires room_for_lines { command_count input.old * longest_line command_size ≤ length out.old }
     ensures one { IfOk result (λ next. ReadOne (standing at input.old image.old) next
         input.new image.new (R.remaining reader.old) (R.remaining reader.new)
         (W.contents writer.old) (W.contents writer.new)) }
@@ -200,18 +171,11 @@ fn read_on<R: Read, W: Write>(
     ensures failed { IfErr result (NoneRead image.old image.new (R.remaining reader.old)
         (R.remaining reader.new) (W.contents writer.old) (W.contents writer.new)) }
 {
-    let waiting = at.waiting;
-    let answer = reader.read(&mut input[waiting..]);
+    let answer = reader.read(&mut input[at.waiting..]);
     let step = advance(image, at, answer, input, out);
-    let put = step.put;
-    let next = step.next;
-    match answer {
-        Ok(_) => match writer.write_all(&out[..put]) {
-            Ok(()) => Ok(next),
-            Err(reason) => Err(Failure::Output(reason)),
-        },
-        Err(reason) => Err(Failure::Input(reason)),
-    }
+    answer.map_err(Failure::Input)?;
+    writer.write_all(&out[..step.put]).map_err(Failure::Output)?;
+    Ok(step.next)
 }
 
 // Performs the commands that a reader gives on the image and writes their listing, to the end of the input or to a read
@@ -223,8 +187,8 @@ fn read_all<R: Read, W: Write>(
     input: &mut [u8],
     out: &mut [u8],
 ) -> Result<(), Failure>
-    requires command_size_in_bounds { command_size ≤ length input.old }
-    requires command_size_in_bounds_2 { command_count input.old * longest_line command_size ≤ length out.old }
+    requires room_for_command { command_size ≤ length input.old }
+    requires room_for_lines { command_count input.old * longest_line command_size ≤ length out.old }
     ensures some { RanSome image.old image.new }
     ensures known { OnOk result (ListsKnown image.old image.new (R.remaining reader.old)
         (W.contents writer.old) (W.contents writer.new)) }
@@ -233,8 +197,7 @@ fn read_all<R: Read, W: Write>(
 {
     let mut at = first_position();
     while at.more {
-        let next = read_on(image, at, reader, writer, input, out)?;
-        at = next;
+        at = read_on(image, at, reader, writer, input, out)?;
     }
     Ok(())
 }
@@ -252,9 +215,7 @@ pub fn run<R: Read, W: Write>(
     ensures failed { IfErr result (ListsRead image.old image.new (R.remaining reader.old)
         (R.remaining reader.new) (W.contents writer.old) (W.contents writer.new)) }
 {
-    let mut input_space = [0u8; INPUT_SIZE];
-    let mut out_space = [0u8; OUTPUT_SIZE];
-    let input: &mut [u8] = &mut input_space;
-    let out: &mut [u8] = &mut out_space;
-    read_all(image, reader, writer, input, out)
+    let mut input = [0u8; INPUT_SIZE];
+    let mut out = [0u8; OUTPUT_SIZE];
+    read_all(image, reader, writer, &mut input, &mut out)
 }

@@ -13,8 +13,8 @@ use Rattle.lines.specs.Text.{Puts}
 pub puts_none : (l : List ℕ) (a : ℕ) → a ≤ length l → Puts [] l a a l
 puts_none l a h = record { ends = omega arith; leaves = sym (splice-none l a h) }
 
-pub puts-byte : (l : List ℕ) (a b : ℕ) → a < length l → Puts (b ∷ []) l a (a + 1) (set l a b)
-puts-byte l a b h = record { ends = refl; leaves = set-splice l a b h }
+pub puts_byte : (l : List ℕ) (a b : ℕ) → a < length l → Puts (b ∷ []) l a (a + 1) (set l a b)
+puts_byte l a b h = record { ends = refl; leaves = set-splice l a b h }
 
 -- where the end, or the lengths, are within the buffer
 pub puts-next : {xs ys l m k : List ℕ} {a b c : ℕ} → Puts xs l a b m → Puts ys m b c k → c ≤ length l → Puts (xs ++ ys) l a c k
@@ -32,12 +32,12 @@ pub puts_then : {xs ys l m k : List ℕ} {a b c : ℕ} → Puts xs l a b m → P
 puts_then p q h = puts-next p q (omega (arith, p.ends, q.ends))
 
 -- a text that is the same
-pub puts-same : {xs ys l m : List ℕ} {a b : ℕ} → xs ≡ ys → Puts xs l a b m → Puts ys l a b m
-puts-same {xs} {ys} {l} {m} {a} {b} e p = subst (λ (t : List ℕ). Puts t l a b m) e p
+pub puts_same : {xs ys l m : List ℕ} {a b : ℕ} → xs ≡ ys → Puts xs l a b m → Puts ys l a b m
+puts_same {xs} {ys} {l} {m} {a} {b} e p = subst (λ (t : List ℕ). Puts t l a b m) e p
 
 -- two bytes
-pub puts-pair : {x y v w a b c : ℕ} {l m k : List ℕ} → x ≡ v → y ≡ w → Puts (x ∷ []) l a b m → Puts (y ∷ []) m b c k → a + 2 ≤ length l → Puts (v ∷ w ∷ []) l a c k
-puts-pair e f p q h = puts-same (λ i. e i ∷ f i ∷ []) (puts_then p q (omega arith))
+pub puts_pair : {x y v w a b c : ℕ} {l m k : List ℕ} → x ≡ v → y ≡ w → Puts (x ∷ []) l a b m → Puts (y ∷ []) m b c k → a + 2 ≤ length l → Puts (v ∷ w ∷ []) l a c k
+puts_pair e f p q h = puts_same (λ i. e i ∷ f i ∷ []) (puts_then p q (omega arith))
 
 -- a text at the start of a part that was lent, said of the whole
 pub puts-part : (t : List ℕ) (at k end : ℕ) (l ys : List ℕ) → k ≡ length l - at → at + end ≤ length l

@@ -20,13 +20,11 @@ pub const LONGEST_ANSWER: usize = 11;
 pub const LONGEST_REST: usize = LONGEST_NUMBER + LONGEST_ANSWER + 3;
 
 // Whether any line for this command fits into the buffer.
+#[tactic(auto, unfolding(crate::specs::Lines::has_room))]
 pub fn has_room(out: &[u8], command: &[u8]) -> bool
     ensures { result ≡ has_room out.now command.now }
 {
-    if out.len() < LONGEST_REST {
-        return false;
-    }
-    command.len() <= (out.len() - LONGEST_REST) / 2
+    LONGEST_REST <= out.len() && command.len() <= (out.len() - LONGEST_REST) / 2
 }
 
 // A word and a decimal number.
@@ -48,6 +46,7 @@ fn put_mask(out: &mut [u8], at: usize, mask: u8) -> usize
 }
 
 // An answer in words.
+#[tactic(auto, using(crate::proofs::Digits::length_16, crate::proofs::Digits::length_8, crate::proofs::Lines::placed_words), unfolding(crate::specs::Lines::words))]
 fn put_answer(out: &mut [u8], at: usize, answer: Answer) -> usize
     requires { at + longest_answer ≤ length out.old }
     ensures { Puts (words (shown answer)) out.old at result out.new
@@ -70,7 +69,8 @@ fn put_answer(out: &mut [u8], at: usize, answer: Answer) -> usize
 }
 
 // Puts the words of an answer at the start of the buffer: the number of bytes put. Where there is no room for
-// the longest answer nothing is put, and the answer is 0.
+// the longest answer nothing is put, and the answer is 0: it stays a number by its public clause (`words_in`).
+#[tactic(auto, using(crate::proofs::Puts::puts_none), unfolding(crate::specs::Lines::words_in))]
 pub fn put_words(out: &mut [u8], answer: Answer) -> usize
     ensures { Puts (words_in out.old (shown answer)) out.old 0 result out.new
         × (result ≤ length out.old) }
@@ -82,6 +82,7 @@ pub fn put_words(out: &mut [u8], answer: Answer) -> usize
 }
 
 // The number and the digits of a line, with a space behind each.
+#[tactic(auto, using(crate::proofs::Digits::length_64, crate::proofs::Digits::hex_length))]
 fn put_head(out: &mut [u8], number: u64, command: &[u8]) -> usize
     requires { longest_line (length command.now) ≤ length out.old }
     ensures { Puts (line_head number command.now) out.old 0 result out.new }
@@ -93,6 +94,7 @@ fn put_head(out: &mut [u8], number: u64, command: &[u8]) -> usize
 }
 
 // A line at the start of the buffer, which has room for it.
+#[tactic(auto, using(crate::proofs::Lines::head_length), unfolding(crate::specs::Lines::line))]
 fn put_whole_line(out: &mut [u8], number: u64, command: &[u8], answer: Answer) -> usize
     requires { longest_line (length command.now) ≤ length out.old }
     ensures { Puts (line number command.now (shown answer)) out.old 0 result out.new
@@ -104,7 +106,8 @@ fn put_whole_line(out: &mut [u8], number: u64, command: &[u8], answer: Answer) -
 }
 
 // Puts a line at the start of the buffer: the number of bytes put. Where there is no room for the longest line of this
-// command nothing is put, and the answer is 0.
+// command nothing is put, and the answer is 0: it stays a number by its public clause (`line_in`).
+#[tactic(auto, using(crate::proofs::Puts::puts_none), unfolding(crate::specs::Lines::line_in, crate::specs::Lines::has_room))]
 pub fn put_line(out: &mut [u8], number: u64, command: &[u8], answer: Answer) -> usize
     ensures { Puts (line_in out.old number command.now (shown answer)) out.old 0 result
         out.new

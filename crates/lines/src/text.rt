@@ -14,6 +14,7 @@ fn glyph(digit: u8) -> u8
 }
 
 // One byte.
+#[tactic(auto, using(crate::proofs::Puts::puts_byte))]
 pub fn put_byte(out: &mut [u8], at: usize, byte: u8) -> usize
     requires { at < length out.old }
     ensures { Puts (byte ∷ []) out.old at result out.new }
@@ -41,20 +42,21 @@ pub fn put_hex(out: &mut [u8], at: usize, byte: u8) -> usize
 }
 
 // Bytes as hexadecimal digits, one after the other.
+#[tactic(auto, using(crate::proofs::Puts::puts_none), unfolding(crate::specs::Text::hex_bytes))]
 pub fn put_hexes(out: &mut [u8], at: usize, bytes: &[u8]) -> usize
     requires { at + 2 * length bytes.now ≤ length out.old }
     ensures { Puts (hex_bytes bytes.now) out.old at result out.new }
 {
     let mut end = at;
-    let mut i = 0;
-    while i < bytes.len() {
-        end = put_hex(out, end, bytes[i]);
-        i += 1;
+    for &byte in bytes {
+        end = put_hex(out, end, byte);
     }
     end
 }
 
 // A decimal number: the digits of n / 10, then the last.
+// The library prints a number into a `Write` that may fail and answers no index, so `Puts` would need more code, not less.
+#[tactic(auto, using(crate::proofs::Digits::decimal_more, crate::proofs::Digits::decimal_small, crate::proofs::Digits::length_small, crate::proofs::Digits::length_more))]
 pub fn put_decimal(out: &mut [u8], at: usize, n: u64) -> usize
     requires { at + length (decimal n) ≤ length out.old }
     ensures { Puts (decimal n) out.old at result out.new }

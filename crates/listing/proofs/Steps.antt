@@ -1,8 +1,8 @@
 -- A step and a run of them: the laws that finish their proofs. Assumes nothing.
 use mathlib.Core.Path.{◌∙◌, ◌≡◌, ap, refl, subst, sym}
-use mathlib.Core.Bool.{Bool, ◌&&◌, cond, false, true}
+use mathlib.Core.Bool.{Bool, cond, false, true}
 use mathlib.Core.List.{List, ◌++◌, []}
-use Prim.Native.Nat.{◌*◌, ◌+◌, ◌-◌, ◌/◌, ◌<◌, ◌^◌, ◌≤◌, ℕ, zero-le}
+use Prim.Native.Nat.{◌*◌, ◌+◌, ◌-◌, ◌^◌, ◌≤◌, ℕ, zero-le}
 use native.Mathlib.Omega.{arith}
 use native.Mathlib.Numerals.{add-one}
 use lib.Dec.{leb}
@@ -10,9 +10,9 @@ use lib.ListN.{drop, length, length-drop, length-take}
 use borrow.Rule.Slice.PartMut.{mid_of, put_mid}
 use lib.Seq.{take_all}
 use native.Mathlib.Nat.{min-le_left}
-use borrow.Author.Tests.{le-leb, leb-true, lt-leb}
+use borrow.Author.Tests.{le-leb, leb-true}
 use Rattle.lists.specs.Segments.{segment}
-use Rattle.lists.proofs.Bools.{and_l, and_r, same_test}
+use Rattle.lists.proofs.Bools.{and_l, and_r}
 use Rattle.image.proofs.Parts.{length_part}
 use Rattle.cabinet_rules.specs.Images.{Image}
 use Rattle.promise.specs.Promise.{shown}
@@ -23,7 +23,7 @@ use Rattle.lines.specs.Lines.{has_room, line, line_in, longest_line}
 use Rattle.listing.specs.Listing.{Listed, Stepped, command_bytes, command_count, has_room_for_all, image_behind, line_on, listing}
 use Rattle.lines.specs.Text.{Puts}
 use Rattle.lines.proofs.Lines.{line-there}
-use Rattle.lines.proofs.Puts.{puts-next, puts_none, puts-part, puts-same}
+use Rattle.lines.proofs.Puts.{puts-next, puts_none, puts-part, puts_same}
 
 -- ---- one command
 -- what is chosen by a test that is known
@@ -43,7 +43,7 @@ no_step n command out g h = chosen n command out g 0 out g false h (puts_none ou
 pub one-step : (n : ℕ) (command out : List ℕ) (g : Image) (a : Answer) (end : ℕ) (o : List ℕ) (g' : Image) → true ≡ has_room out command
     → Obeyed command g a g' → Puts (line_in out n command (shown a)) out 0 end o → Stepped n command out g end o g'
 one-step n command out g a end o g' h d p =
-    chosen n command out g end o g' true h (puts-same (sym (line-there out command n (shown a) (sym h)) ∙ ap (line n command) d.answers) p, d.leaves)
+    chosen n command out g end o g' true h (puts_same (sym (line-there out command n (shown a) (sym h)) ∙ ap (line n command) d.answers) p, d.leaves)
 
 -- with room, a step is the line and the image after the command
 pub stepped : {n : ℕ} {command out : List ℕ} {g : Image} {end : ℕ} {o : List ℕ} {g' : Image} → has_room out command ≡ true → Stepped n command out g end o g'
@@ -57,9 +57,9 @@ last-command l a n h =
     take_all (length l - a) (drop a l) (omega (arith, length-drop a l)) ∙ sym (take_all n (drop a l) (omega (arith, length-drop a l)))
 
 -- a command has at most five bytes
-pub command-short : (l : List ℕ) (a : ℕ) → length (segment l a command_size) ≤ command_size
+pub command_short : (l : List ℕ) (a : ℕ) → length (segment l a command_size) ≤ command_size
 unfolding segment
-command-short l a = subst (λ (n : ℕ). n ≤ command_size) (sym (length-take command_size (drop a l))) (min-le_left command_size (length (drop a l)))
+command_short l a = subst (λ (n : ℕ). n ≤ command_size) (sym (length-take command_size (drop a l))) (min-le_left command_size (length (drop a l)))
 
 -- a command of the input, performed with its line in a part of the buffer
 pub turned : (n at end k start stop i : ℕ) (input out part : List ℕ) (g g' : Image)
@@ -74,7 +74,7 @@ turned n at end k start stop i input out part g g' e f h r s m =
     let d : segment input start (stop - start) ≡ command_bytes input i = f ∙ ap (λ (a : ℕ). segment input a command_size) e in
     let s' : Stepped n (command_bytes input i) (mid_of at k out) g end part g' = subst (λ (l : List ℕ). Stepped n l (mid_of at k out) g end part g') d s in
     let m' : end ≤ longest_line (length (command_bytes input i)) = subst (λ (l : List ℕ). end ≤ longest_line (length l)) d m in
-    let short : length (command_bytes input i) ≤ command_size = command-short input (i * command_size) in
+    let short : length (command_bytes input i) ≤ command_size = command_short input (i * command_size) in
     let long : length (mid_of at k out) ≡ k = length_part at k out k refl (omega arith) in
     let room : has_room (mid_of at k out) (command_bytes input i) ≡ true = le-leb (longest_line (length (command_bytes input i))) (length (mid_of at k out)) (omega arith) in
     let q = stepped room s' in
@@ -86,7 +86,7 @@ pub listing-more : (n i at end : ℕ) (input out o o' : List ℕ) (g h : Image) 
     → Puts (line_on (n + i) (command_bytes input i) h) o at end o' → end ≤ length out → Puts (listing n input g (i + 1)) out 0 end o'
 unfolding listing
 listing-more n i at end input out o o' g h e p q m =
-    puts-same (ap (λ (k : Image). listing n input g i ++ line_on (n + i) (command_bytes input i) k) e ∙ ap (listing n input g) (sym (add-one i))) (puts-next p q m)
+    puts_same (ap (λ (k : Image). listing n input g i ++ line_on (n + i) (command_bytes input i) k) e ∙ ap (listing n input g) (sym (add-one i))) (puts-next p q m)
 
 pub image-more : (i : ℕ) (input : List ℕ) (g h h' : Image) → h ≡ image_behind input g i → h' ≡ command_next (command_bytes input i) h → h' ≡ image_behind input g (i + 1)
 unfolding image_behind
@@ -107,11 +107,6 @@ listed_by n input out g end o g' t e p =
 pub no_run : (n : ℕ) (input out : List ℕ) (g : Image) → false ≡ has_room_for_all n input out → Listed n input out g 0 out g
 no_run n input out g h = listed_by n input out g 0 out g false h (puts_none out 0 zero-le, refl)
 
-pub whole_run : (n i end : ℕ) (input out o : List ℕ) (g g' : Image) → true ≡ has_room_for_all n input out → i ≡ command_count input
-    → Puts (listing n input g i) out 0 end o → g' ≡ image_behind input g i → Listed n input out g end o g'
-whole_run n i end input out o g g' h e p q =
-    listed_by n input out g end o g' true h (puts-same (ap (listing n input g) e) p, q ∙ ap (image_behind input g) e)
-
 -- ---- room for all
 pub room_out : (n : ℕ) (input out : List ℕ) → has_room_for_all n input out ≡ true
     → (command_count input * longest_line command_size ≤ length out) × (n + command_count input ≤ 2 ^ 64)
@@ -120,20 +115,3 @@ room_out n input out h = (
   leb-true (command_count input * longest_line command_size) (length out) (and_l (leb (command_count input * longest_line command_size) (length out)) _ h),
   leb-true (n + command_count input) (2 ^ 64) (and_r (leb (command_count input * longest_line command_size) (length out)) _ h),
 )
-
-pub room-not : (n : ℕ) (input out : List ℕ) → length out / longest_line command_size < command_count input → false ≡ has_room_for_all n input out
-unfolding has_room_for_all
-room-not n input out h =
-    sym (ap (λ (t : Bool). t && leb (n + command_count input) (2 ^ 64)) (lt-leb (command_count input * longest_line command_size) (length out) (omega arith)))
-
-pub room_by : (n : ℕ) (input out : List ℕ) (t : Bool) → command_count input ≤ length out / longest_line command_size → t ≡ leb (n + command_count input) (2 ^ 64)
-    → t ≡ has_room_for_all n input out
-unfolding has_room_for_all
-room_by n input out t h e =
-    e ∙ sym (ap (λ (u : Bool). u && leb (n + command_count input) (2 ^ 64)) (le-leb (command_count input * longest_line command_size) (length out) (omega arith)))
-
-pub numbers_fit_lem : (n k : ℕ) → n < 2 ^ 64 → 1 ≤ k → leb (k - 1) (18446744073709551615 - n) ≡ leb (n + k) (2 ^ 64)
-numbers_fit_lem n k h e =
-    same_test (leb (k - 1) (18446744073709551615 - n)) (leb (n + k) (2 ^ 64))
-    (λ p. le-leb (n + k) (2 ^ 64) (omega (arith, leb-true (k - 1) (18446744073709551615 - n) p)))
-    (λ p. le-leb (k - 1) (18446744073709551615 - n) (omega (arith, leb-true (n + k) (2 ^ 64) p)))

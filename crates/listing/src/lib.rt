@@ -12,8 +12,6 @@ ghost use Rattle.lines.specs.Text.{Puts};
 // The longest line of a command of five bytes.
 pub const LONGEST_LINE: usize = lines::LONGEST_REST + 2 * command::SIZE;
 
-const GREATEST: u64 = 18446744073709551615;
-
 // Performs one command, and puts its line at the start of the buffer: the number of bytes put. Where there is no room
 // for the longest line nothing is done, and the answer is 0.
 pub fn step(image: &mut [u8], number: u64, bytes: &[u8], out: &mut [u8]) -> usize
@@ -32,25 +30,17 @@ pub fn step(image: &mut [u8], number: u64, bytes: &[u8], out: &mut [u8]) -> usiz
 fn count(input: &[u8]) -> usize
     ensures { result ≡ command_count input.now }
 {
-    let whole = input.len() / command::SIZE;
-    if input.len() % command::SIZE == 0 {
-        return whole;
-    }
-    whole + 1
+    input.len().div_ceil(command::SIZE)
 }
 
 // Whether the longest lines of all commands have room, and their numbers 64 bits.
+#[tactic(auto, unfolding(crate::specs::Listing::has_room_for_all))]
 fn has_room_for_all(number: u64, input: &[u8], out: &[u8]) -> bool
     ensures { result ≡ has_room_for_all number input.now out.now }
 {
     let commands = count(input);
-    if commands > out.len() / LONGEST_LINE {
-        return false;
-    }
-    if commands == 0 {
-        return true;
-    }
-    commands as u64 - 1 <= GREATEST - number
+    commands <= out.len() / LONGEST_LINE
+        && (commands == 0 || commands as u64 - 1 <= u64::MAX - number)
 }
 
 // Where the command that starts here ends.
@@ -66,9 +56,10 @@ fn command_end(input: &[u8], start: usize) -> usize
 }
 
 // Performs command i of the input, and puts its line at an index of the buffer: the index behind it.
+#[tactic(auto, using(crate::proofs::Steps::command_short))]
 fn turn(image: &mut [u8], number: u64, input: &[u8], i: usize, out: &mut [u8], at: usize) -> usize
-    requires command_size_in_bounds { i * command_size < length input.now }
-    requires command_size_in_bounds_2 { at + longest_line command_size ≤ length out.old }
+    requires has_command { i * command_size < length input.now }
+    requires has_room { at + longest_line command_size ≤ length out.old }
     ensures { Puts (line_on number (command_bytes input.now i) image.old)
         out.old at result out.new
         × (result ≤ at + longest_line command_size)
@@ -83,6 +74,7 @@ fn turn(image: &mut [u8], number: u64, input: &[u8], i: usize, out: &mut [u8], a
 // Performs all commands of an input, and puts their lines at the start of the buffer, the first with this number: the
 // number of bytes put. Where the longest lines have no room, or the numbers would pass 64 bits, nothing is done and the
 // answer is 0.
+#[tactic(auto, using(crate::proofs::Steps::room_out), unfolding(crate::specs::Listing::image_behind, crate::specs::Listing::listing))]
 pub fn run(image: &mut [u8], number: u64, input: &[u8], out: &mut [u8]) -> usize
     ensures { Listed number input.now out.old image.old result out.new
         image.new
@@ -92,11 +84,9 @@ pub fn run(image: &mut [u8], number: u64, input: &[u8], out: &mut [u8]) -> usize
         return 0;
     }
     let commands = count(input);
-    let mut i = 0;
     let mut at = 0;
-    while i < commands {
+    for i in 0..commands {
         at = turn(image, number + i as u64, input, i, out, at);
-        i += 1;
     }
     at
 }

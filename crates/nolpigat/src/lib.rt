@@ -17,8 +17,7 @@ ghost use Rattle.command.specs.Commands.{fields_given};
 ghost use Rattle.queries.specs.Queries.{holders_on, source_on, told_on};
 ghost use Rattle.queries.specs.declared.Query.{Query};
 
-use command::codec::Shown;
-use command::{Fields, Writing};
+use command::{Fields, Malformed};
 use image::{Block, Card, Rec, Tran};
 use queries::Query;
 
@@ -275,16 +274,15 @@ pub extern "C" fn nolpigat_write_command(
     ensures { CodedWriting bytes.old (fields_given operation tran card number value) result bytes.new }
 {
     let f = Fields {
-        operation: operation,
-        tran: tran,
-        card: card,
-        number: number,
-        value: value,
+        operation,
+        tran,
+        card,
+        number,
+        value,
     };
-    let writing = command::codec::write(bytes, f);
-    match writing {
-        Writing::Written => codes::form_code(true),
-        Writing::Malformed => codes::form_code(false),
+    match command::codec::write(bytes, f) {
+        Ok(()) => codes::form_code(true),
+        Err(Malformed) => codes::form_code(false),
     }
 }
 
@@ -302,9 +300,8 @@ pub extern "C" fn nolpigat_read_command(
         (fields_given operation.old tran.old card.old number.old value.old) result
         (fields_given operation.new tran.new card.new number.new value.new) }
 {
-    let shown = command::codec::read(bytes);
-    match shown {
-        Shown::Has(f) => {
+    match command::codec::read(bytes) {
+        Ok(f) => {
             *operation = f.operation;
             *tran = f.tran;
             *card = f.card;
@@ -312,6 +309,6 @@ pub extern "C" fn nolpigat_read_command(
             *value = f.value;
             codes::form_code(true)
         }
-        Shown::Malformed => codes::form_code(false),
+        Err(Malformed) => codes::form_code(false),
     }
 }

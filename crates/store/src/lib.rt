@@ -13,7 +13,6 @@ ghost use Rattle.returns.specs.Promise.{ReturnDone};
 
 pub mod moves;
 
-use command::Reading;
 use image::{Block, Card, Rec, Tran};
 use promise::{Answer, Call};
 use refusals::Refusal;
@@ -157,11 +156,8 @@ pub fn perform(image: &mut [u8], call: Call) -> Result<Answer, Refusal>
 pub fn perform_command(image: &mut [u8], bytes: &[u8]) -> Result<Answer, Refusal>
     ensures { Obeyed bytes.now image.old result image.new }
 {
-    let reading = command::read(bytes);
-    match reading {
-        Reading::Asks(asked) => perform(image, command::call_for(asked)),
-        Reading::Malformed => Err(Refusal::Malformed),
-    }
+    let asked = command::read(bytes)?;
+    perform(image, command::call_for(asked))
 }
 
 // A failed card works again in a store that has stopped, with its table as it is (request A.7).

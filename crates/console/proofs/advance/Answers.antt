@@ -10,7 +10,7 @@ use Rattle.console.proofs.advance.Goals as goal
 pub perform-requires : goal.perform-requires
 perform-requires c = record {
   got_in_bounds = omega (arith, c.requires.got_in_bounds, size-ok _ _ c.in-Ok.is);
-  command_size_in_bounds = c.requires.command_size_in_bounds;
+  room_for_lines = c.requires.room_for_lines;
 }
 
 pub returns-in-Ok : goal.returns-in-Ok
@@ -26,5 +26,5 @@ returns-in-Err c =
       advanced-same (given-err _ _ a.at.waiting a.input.now c.in-Err.is)
           (failed-step a.at c.stopped.result a.input.now a.out.now a.image.now e),
       zero-le,
-      subst (λ (p : Position). p.waiting < command_size) (sym e) c.requires.waiting_lt_command_size,
+      subst (λ (p : Position). p.waiting < command_size) (sym e) c.requires.waits_for_rest,
     )

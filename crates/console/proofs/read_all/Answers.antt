@@ -27,33 +27,33 @@ loop-at-init g c =
           (sym e) (none_listed a.image.now a.input.now _ _),
     )
 
-pub returns-in_err-next-clause-some : goal.returns-in_err-next-clause-some
-returns-in_err-next-clause-some g c =
+pub returns-in_err-at-clause-some : goal.returns-in_err-at-clause-some
+returns-in_err-at-clause-some g c =
     let a = c.args in
     let l = c.loop-at in
     let p : Performed a.image.now l.image true = subst (λ (m : Bool). Performed a.image.now l.image m) c.loop-at-test.true (performed_of l.invariant.4) in
     let r = c.read_on in
-    ran-some (more-performed a.image.now (standing l.at l.input l.image) (stopped_at l.at) r.new.input r.new.image p c.in_err-next.ensures.some)
+    ran-some (more-performed a.image.now (standing l.at l.input l.image) (stopped_at l.at) r.new.input r.new.image p c.in_err-at.ensures.some)
 
-pub returns-in_err-next-clause-failed : goal.returns-in_err-next-clause-failed
-returns-in_err-next-clause-failed g c =
+pub returns-in_err-at-clause-failed : goal.returns-in_err-at-clause-failed
+returns-in_err-at-clause-failed g c =
     let a = c.args in
     let l = c.loop-at in
     let r = c.read_on in
     let p = err_from_is_err_and c.from_residual.result c.from_residual.ensures.1 in
     rw (p.1, p.2)
-    (lists_read a.image.now l.image r.new.image l.at l.input _ _ _ _ _ _ c.in_err-next.field-0.0 l.invariant.4 c.loop-at-test.true l.invariant.3
-    (omega (arith, l.invariant.1, l.invariant.3, c.requires.command_size_in_bounds)) c.in_err-next.ensures.failed)
+    (lists_read a.image.now l.image r.new.image l.at l.input _ _ _ _ _ _ c.in_err-at.field-0.0 l.invariant.4 c.loop-at-test.true l.invariant.3
+    (omega (arith, l.invariant.1, l.invariant.3, c.requires.room_for_command)) c.in_err-at.ensures.failed)
 
 pub loop-at-smaller : goal.loop-at-smaller
 loop-at-smaller g c =
     let l = c.loop-at in
-    let next : Position = c.in_ok-next.next in
+    let next : Position = c.in_ok-at.at in
     let r = c.read_on in
     let s : Standing = standing l.at l.input l.image in
-    let some = some_of {s = s} c.in_ok-next.ensures.one in
-    let w = length-take-le l.at.waiting l.input (omega (arith, l.invariant.1, l.invariant.3, c.requires.command_size_in_bounds)) in
-    falls l.at next c.loop-at-test.true c.in_ok-next.ensures.waits (λ h. omega (arith, w, rises s next r.new.input r.new.image some h)) (below s next r.new.input r.new.image some)
+    let some = some_of {s = s} c.in_ok-at.ensures.one in
+    let w = length-take-le l.at.waiting l.input (omega (arith, l.invariant.1, l.invariant.3, c.requires.room_for_command)) in
+    falls l.at next c.loop-at-test.true c.in_ok-at.ensures.waits (λ h. omega (arith, w, rises s next r.new.input r.new.image some h)) (below s next r.new.input r.new.image some)
 
 pub loop-at-preserved : goal.loop-at-preserved
 loop-at-preserved g c =
@@ -63,8 +63,8 @@ loop-at-preserved g c =
       r.auto.image ∙ l.invariant.0,
       r.auto.input ∙ l.invariant.1,
       r.auto.out ∙ l.invariant.2,
-      c.in_ok-next.ensures.waits,
-      more_listed a.image.now l.image r.new.image l.at c.in_ok-next.next l.input r.new.input _ _ _ _ _ _ l.invariant.4 c.loop-at-test.true c.in_ok-next.ensures.one,
+      c.in_ok-at.ensures.waits,
+      more_listed a.image.now l.image r.new.image l.at c.in_ok-at.at l.input r.new.input _ _ _ _ _ _ l.invariant.4 c.loop-at-test.true c.in_ok-at.ensures.one,
     )
 
 pub returns-clause-known : goal.returns-clause-known

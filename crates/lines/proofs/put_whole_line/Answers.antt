@@ -5,27 +5,10 @@ use mir.Syntax.{w64}
 use mir.Val.{Fits}
 use lib.ListN.{length}
 use Rattle.lines.specs.Lines.{line_head, line}
-use Rattle.lines.proofs.Lines.{head-length}
+use Rattle.lines.proofs.Lines.{head_length}
 use Rattle.lines.proofs.Puts.{puts-next}
 use borrow.Author.Rules.{rules}
 use Rattle.lines.proofs.put_whole_line.Goals as goal
-
-pub put_answer-behind_answer-requires : goal.put_answer-behind_answer-requires
-put_answer-behind_answer-requires c =
-    let a = c.args in
-    let f : Fits w64 a.number = search rules in
-    let h : length (line_head a.number a.command.now) ≤ 22 + 2 * length a.command.now = head-length _ _ f.fits in
-    let p = c.put_head-at in
-    omega (arith, c.requires, p.ensures.ends, p.auto.out)
-
-pub put_byte-requires : goal.put_byte-requires
-put_byte-requires c =
-    let a = c.args in
-    let f : Fits w64 a.number = search rules in
-    let h : length (line_head a.number a.command.now) ≤ 22 + 2 * length a.command.now = head-length _ _ f.fits in
-    let p = c.put_head-at in
-    let q = c.put_answer-behind_answer in
-    omega (arith, c.requires, p.ensures.ends, p.auto.out, q.ensures.1, q.auto.out)
 
 pub returns : goal.returns
 unfolding line
@@ -33,7 +16,7 @@ returns c =
     let a = c.args in
     let pre = c.requires in
     let f : Fits w64 a.number = search rules in
-    let h : length (line_head a.number a.command.now) ≤ 22 + 2 * length a.command.now = head-length _ _ f.fits in
+    let h : length (line_head a.number a.command.now) ≤ 22 + 2 * length a.command.now = head_length _ _ f.fits in
     let p = c.put_head-at in
     let q = c.put_answer-behind_answer in
     let r = c.put_byte in

@@ -3,12 +3,12 @@ use mathlib.Core.Path.{◌∙◌, sym}
 use Rattle.codes.proofs.CommandCodes.{read_has, read_none}
 use Rattle.nolpigat.proofs.nolpigat_read_command.Goals as goal
 
-pub returns-in-Has : goal.returns-in-Has
-returns-in-Has c =
+pub returns-in-Ok : goal.returns-in-Ok
+returns-in-Ok c =
     let a = c.args in
-    read_has a.bytes.now _ c.in-Has.f (sym c.read-shown.ensures ∙ c.in-Has.is) c.form_code.ensures
+    read_has a.bytes.now _ c.in-Ok.f (sym c.read.ensures ∙ c.in-Ok.is) c.form_code.ensures
 
-pub returns-in-Malformed : goal.returns-in-Malformed
-returns-in-Malformed c =
+pub returns-in-Err : goal.returns-in-Err
+returns-in-Err c =
     let a = c.args in
-    read_none a.bytes.now _ (sym c.read-shown.ensures ∙ c.in-Malformed.is) c.form_code-in-Malformed.ensures
+    read_none a.bytes.now _ (sym c.read.ensures ∙ c.in-Err.is) c.form_code-in-Err.ensures

@@ -2,10 +2,8 @@
 use Rattle.codes.proofs.CommandCodes.{write_done, write-refused}
 use Rattle.nolpigat.proofs.nolpigat_write_command.Goals as goal
 
-pub returns-in-Written : goal.returns-in-Written
-returns-in-Written c =
-    write_done c.write-writing.ensures c.in-Written.is c.form_code.ensures
+pub returns-in-Ok : goal.returns-in-Ok
+returns-in-Ok c = write_done c.write.ensures c.in-Ok.is c.form_code.ensures
 
-pub returns-in-Malformed : goal.returns-in-Malformed
-returns-in-Malformed c =
-    write-refused c.write-writing.ensures c.in-Malformed.is c.form_code-in-Malformed.ensures
+pub returns-in-Err : goal.returns-in-Err
+returns-in-Err c = write-refused c.write.ensures c.in-Err.is c.form_code-in-Err.ensures
