@@ -7,7 +7,7 @@ use native.Mathlib.Omega.{arith}
 use lib.ListN.{length, length-append}
 use Rattle.method.specs.Rules.{Answer}
 use Rattle.cabinet_rules.specs.Cabinet.{cabinet}
-use Rattle.promise.specs.Promise.{shown}
+use Rattle.promise.specs.Promise.{said, shown}
 use Rattle.promise.specs.declared.Answer.TheVariants.{Placed}
 use Rattle.lines.specs.Lines.{has_room, line, line_head, line_in, words}
 use Rattle.lines.specs.Text.{decimal, hex_byte, hex_bytes, text}
@@ -29,7 +29,7 @@ head_length n command h =
     omega arith
 
 -- ---- answers
-pub placed_words : (m : ℕ) → m < 256 → text "placed " ++ hex_byte m ≡ words (shown (Placed m))
+pub placed_words : (m : ℕ) → m < 256 → text "placed " ++ hex_byte m ≡ words (said (Placed m))
 unfolding words
 placed_words m h =
     let e : m ≡ m % 256 = omega arith in

@@ -10,6 +10,7 @@ ghost use Rattle.lines.specs.Lines.{has_room, line, line_head, line_in, longest_
 
 use crate::text::{put_byte, put_decimal, put_hex, put_hexes, put_word};
 use promise::Answer;
+use refusals::Refusal;
 
 // Digits of the greatest line number and letters of the longest answer; with two spaces and a newline, all of a line
 // but its command.
@@ -47,31 +48,31 @@ fn put_mask(out: &mut [u8], at: usize, mask: u8) -> usize
 
 // An answer in words.
 #[tactic(auto, using(crate::proofs::Digits::length_16, crate::proofs::Digits::length_8, crate::proofs::Lines::placed_words), unfolding(crate::specs::Lines::words))]
-fn put_answer(out: &mut [u8], at: usize, answer: Answer) -> usize
+fn put_answer(out: &mut [u8], at: usize, answer: Result<Answer, Refusal>) -> usize
     requires { at + longest_answer ≤ length out.old }
     ensures { Puts (words (shown answer)) out.old at result out.new
         × (result ≤ at + longest_answer) }
 {
     match answer {
-        Answer::Ok => put_word(out, at, b"ok"),
-        Answer::Value(n) => put_count(out, at, b"value ", n),
-        Answer::Absent => put_word(out, at, b"absent"),
-        Answer::Placed(mask) => put_mask(out, at, mask),
-        Answer::Unplaced => put_word(out, at, b"unplaced"),
-        Answer::Stopped => put_word(out, at, b"stopped"),
-        Answer::Copied(n) => put_count(out, at, b"copies ", n as u16),
-        Answer::Retired(n) => put_count(out, at, b"retired ", n as u16),
-        Answer::Protected => put_word(out, at, b"protected"),
-        Answer::Unprotected => put_word(out, at, b"unprotected"),
-        Answer::Loaded(n) => put_count(out, at, b"load ", n),
-        Answer::Refused(n) => put_count(out, at, b"refused ", n as u16),
+        Ok(Answer::Accepted) => put_word(out, at, b"ok"),
+        Ok(Answer::Value(n)) => put_count(out, at, b"value ", n),
+        Ok(Answer::Absent) => put_word(out, at, b"absent"),
+        Ok(Answer::Placed(mask)) => put_mask(out, at, mask),
+        Ok(Answer::Unplaced) => put_word(out, at, b"unplaced"),
+        Ok(Answer::Stopped) => put_word(out, at, b"stopped"),
+        Ok(Answer::Copied(n)) => put_count(out, at, b"copies ", n as u16),
+        Ok(Answer::Retired(n)) => put_count(out, at, b"retired ", n as u16),
+        Ok(Answer::Protected) => put_word(out, at, b"protected"),
+        Ok(Answer::Unprotected) => put_word(out, at, b"unprotected"),
+        Ok(Answer::Loaded(n)) => put_count(out, at, b"load ", n),
+        Err(refusal) => put_count(out, at, b"refused ", refusal.number() as u16),
     }
 }
 
 // Puts the words of an answer at the start of the buffer: the number of bytes put. Where there is no room for
 // the longest answer nothing is put, and the answer is 0: it stays a number by its public clause (`words_in`).
 #[tactic(auto, using(crate::proofs::Puts::puts_none), unfolding(crate::specs::Lines::words_in))]
-pub fn put_words(out: &mut [u8], answer: Answer) -> usize
+pub fn put_words(out: &mut [u8], answer: Result<Answer, Refusal>) -> usize
     ensures { Puts (words_in out.old (shown answer)) out.old 0 result out.new
         × (result ≤ length out.old) }
 {
@@ -95,7 +96,7 @@ fn put_head(out: &mut [u8], number: u64, command: &[u8]) -> usize
 
 // A line at the start of the buffer, which has room for it.
 #[tactic(auto, using(crate::proofs::Lines::head_length), unfolding(crate::specs::Lines::line))]
-fn put_whole_line(out: &mut [u8], number: u64, command: &[u8], answer: Answer) -> usize
+fn put_whole_line(out: &mut [u8], number: u64, command: &[u8], answer: Result<Answer, Refusal>) -> usize
     requires { longest_line (length command.now) ≤ length out.old }
     ensures { Puts (line number command.now (shown answer)) out.old 0 result out.new
         × (result ≤ longest_line (length command.now)) }
@@ -108,7 +109,7 @@ fn put_whole_line(out: &mut [u8], number: u64, command: &[u8], answer: Answer) -
 // Puts a line at the start of the buffer: the number of bytes put. Where there is no room for the longest line of this
 // command nothing is put, and the answer is 0: it stays a number by its public clause (`line_in`).
 #[tactic(auto, using(crate::proofs::Puts::puts_none), unfolding(crate::specs::Lines::line_in, crate::specs::Lines::has_room))]
-pub fn put_line(out: &mut [u8], number: u64, command: &[u8], answer: Answer) -> usize
+pub fn put_line(out: &mut [u8], number: u64, command: &[u8], answer: Result<Answer, Refusal>) -> usize
     ensures { Puts (line_in out.old number command.now (shown answer)) out.old 0 result
         out.new
         × (result ≤ longest_line (length command.now)) }

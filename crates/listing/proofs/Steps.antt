@@ -15,8 +15,7 @@ use Rattle.lists.specs.Segments.{segment}
 use Rattle.lists.proofs.Bools.{and_l, and_r}
 use Rattle.image.proofs.Parts.{length_part}
 use Rattle.cabinet_rules.specs.Images.{Image}
-use Rattle.promise.specs.Promise.{shown}
-use Rattle.promise.specs.declared.Answer.{Answer}
+use Rattle.promise.specs.Promise.{Answered, shown}
 use Rattle.command.specs.Commands.{command_size}
 use Rattle.command.specs.Meaning.{Obeyed, command_next}
 use Rattle.lines.specs.Lines.{has_room, line, line_in, longest_line}
@@ -40,7 +39,7 @@ chosen n command out g end o g' t e p =
 pub no_step : (n : ℕ) (command out : List ℕ) (g : Image) → false ≡ has_room out command → Stepped n command out g 0 out g
 no_step n command out g h = chosen n command out g 0 out g false h (puts_none out 0 zero-le, refl)
 
-pub one-step : (n : ℕ) (command out : List ℕ) (g : Image) (a : Answer) (end : ℕ) (o : List ℕ) (g' : Image) → true ≡ has_room out command
+pub one-step : (n : ℕ) (command out : List ℕ) (g : Image) (a : Answered) (end : ℕ) (o : List ℕ) (g' : Image) → true ≡ has_room out command
     → Obeyed command g a g' → Puts (line_in out n command (shown a)) out 0 end o → Stepped n command out g end o g'
 one-step n command out g a end o g' h d p =
     chosen n command out g end o g' true h (puts_same (sym (line-there out command n (shown a) (sym h)) ∙ ap (line n command) d.answers) p, d.leaves)
