@@ -194,11 +194,10 @@ pub fn nth_member(mask: u8, i: u8) -> u8
     requires { i < length (members (byte mask)) }
     ensures { result ≡ get_or (members (byte mask)) i 0 }
 {
+    let behind = members(mask) as u8 - 1 - i;
     let mut left = mask;
-    let mut k: u8 = u8::count_ones(mask) as u8 - 1;
-    while i < k {
+    for _ in 0..behind {
         left = without_last(left);
-        k -= 1;
     }
     last_member(left)
 }

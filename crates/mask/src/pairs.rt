@@ -120,15 +120,13 @@ pub fn fill(masks: &mut [u8], pairs: &[u8])
         × MasksBelow (λ b c. elem c (first_card (pair_at (λ j. get_or pairs.now j 0) b)
         ∷ second_card (pair_at (λ j. get_or pairs.now j 0) b) ∷ [])) masks.new block_count }
 {
-    let mut q: usize = 0;
-    while q < GROUP_COUNT {
+    for q in 0..GROUP_COUNT {
         let bits = group(pairs, q);
         let b = q * BLOCKS_IN_GROUP as usize;
         masks[b] = mask_in(bits, 0);
         masks[b + 1] = mask_in(bits, 1);
         masks[b + 2] = mask_in(bits, 2);
         masks[b + 3] = mask_in(bits, 3);
-        q += 1;
     }
 }
 
@@ -162,11 +160,9 @@ pub fn are_pairs_of(pairs: &[u8], mask: u8) -> bool
 {
     let good = good_pairs(mask);
     let mut all = TOP_BIT;
-    let mut i: usize = 0;
-    while i < GROUP_COUNT / 2 {
+    for i in 0..GROUP_COUNT / 2 {
         let q = i * 2;
         all = all & four_in(good, group(pairs, q)) & four_in(good, group(pairs, q + 1));
-        i += 1;
     }
     all / TOP_BIT == 1
 }
@@ -187,14 +183,12 @@ pub fn pack(pairs: [u8; image::BLOCK_COUNT]) -> [u8; image::PAIRS_SIZE]
     ensures { result ≡ (pairs_from (λ b. get_or pairs b 0)).0 }
 {
     let mut bytes = [0u8; image::PAIRS_SIZE];
-    let mut q: usize = 0;
-    while q < GROUP_COUNT {
+    for q in 0..GROUP_COUNT {
         let n = group_of(pairs, q);
         let at = q * GROUP_SIZE;
         bytes[at] = (n / 0x1_0000 % 0x100) as u8;
         bytes[at + 1] = (n / 0x100 % 0x100) as u8;
         bytes[at + 2] = (n % 0x100) as u8;
-        q += 1;
     }
     bytes
 }
