@@ -29,11 +29,9 @@ pub const COPY_COUNT: usize = 2;
 
 pub const TRAN_COUNT: usize = 15;
 
-// Limits: the least members of a placement; the most copies of a block; the most active placements that a place leaves,
-// and that there ever are; the cards on a supply rail.
+// Limits: the least members of a placement; the most active placements that a place leaves, and that there ever are; the
+// cards on a supply rail.
 pub const LEAST_MEMBERS: u32 = COPY_COUNT as u32;
-
-pub const MOST_COPIES: usize = COPY_COUNT;
 
 pub const MOST_PLACED: u8 = 3;
 

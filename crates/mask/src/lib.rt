@@ -220,13 +220,6 @@ pub struct Placement {
     pub rails: bool,
 }
 
-// The sites of a block: the first `count` of the cards, in the order of the rules.
-#[derive(Clone, Copy)]
-pub struct Sites {
-    pub count: u8,
-    pub cards: [Card; image::MOST_COPIES],
-}
-
 impl Placement {
     // The cards of a cabinet, and the members that two copies need.
     pub const MOST_CARDS: u8 = image::CARD_COUNT as u8;
@@ -292,19 +285,16 @@ impl Placement {
         Card(u8::leading_zeros(across) as u8)
     }
 
-    // The sites of a block, as a list: different members, on two rails whenever both have members and the placement is
+    // The sites of a block, in the order of the rules: different members, on two rails whenever both have members and the placement is
     // by rails.
-    pub fn sites(self, block: Block) -> Sites
+    pub fn sites(self, block: Block) -> [Card; image::COPY_COUNT]
         requires enough { Enough (meant self).mask }
         requires block_lt_block_count { block.0 < block_count }
         ensures { AreSites result (placed (meant self)) block.0 }
     {
         let first = self.member_at(block.0);
         let second = self.second_site(block, first);
-        Sites {
-            count: image::COPY_COUNT as u8,
-            cards: [first, second],
-        }
+        [first, second]
     }
 
     // The same as a mask.

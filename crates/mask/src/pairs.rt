@@ -2,7 +2,7 @@
 // four blocks in three bytes.
 ghost use Rattle.std.specs.Prelude.{◌≡◌, ◌∷◌, [], ◌*◌, ◌<◌, ◌^◌, length, get_or};
 ghost use Rattle.lists.specs.Tests.{all_below, elem, one_if};
-ghost use Rattle.image.specs.Layout.{block_count, copy_count, pairs_size};
+ghost use Rattle.image.specs.Layout.{block_count, pairs_size};
 ghost use Rattle.mask.specs.Masks.{AreMembers, byte};
 ghost use Rattle.mask.specs.Pairs.{
   blocks_in_group,
@@ -21,7 +21,6 @@ ghost use Rattle.mask.specs.PairSets.{AreGoodPairs, has_pair, top_bit};
 ghost use Rattle.mask.specs.Placements.{site_list};
 ghost use Rattle.mask.specs.SiteMasks.{MasksBelow};
 
-use crate::Sites;
 use image::{Block, Card, wide};
 
 // The blocks of a group and their bytes.
@@ -85,16 +84,11 @@ pub fn pair_at(pairs: &[u8], block: Block) -> u8
 }
 
 // The two cards of a pair, as the sites of a block.
-pub fn sites(pair: u8) -> Sites
+pub fn sites(pair: u8) -> [Card; image::COPY_COUNT]
     requires { pair < pair_bound }
-    ensures { (result.count ≡ copy_count) × (site_list result ≡ first_card pair ∷ second_card pair ∷ []) }
+    ensures { site_list result ≡ first_card pair ∷ second_card pair ∷ [] }
 {
-    let first = Card(pair / CARD_COUNT);
-    let second = Card(pair % CARD_COUNT);
-    Sites {
-        count: image::COPY_COUNT as u8,
-        cards: [first, second],
-    }
+    [Card(pair / CARD_COUNT), Card(pair % CARD_COUNT)]
 }
 
 // The same as a mask.
