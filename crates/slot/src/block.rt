@@ -157,31 +157,19 @@ fn end_slots(block: &mut [u8], take: bool, set: u16)
     requires { length block.old ≡ block_size }
     ensures { block.new ≡ (end_slots take (in_set set) (of_list block.old)).0 }
 {
-    let mut i = 0;
-    while i < SLOT_COUNT {
+    for i in 0..SLOT_COUNT {
         end_slot(block, i, take, set);
-        i += 1;
     }
-}
-
-// The bit if it is on, else 0.
-fn bit_if(on: bool, bit: u8) -> u8
-    ensures { (result ≡ cond on bit 0) × (result ≤ bit) }
-{
-    if on {
-        return bit;
-    }
-    0
 }
 
 // The bits that every number of the set has: one that no number of the set lacks.
 fn shared_bits(set: u16) -> u8
     ensures { result ≡ shared_bits set }
 {
-    let a = bit_if((set & LACK_1) == 0, 1);
-    let b = bit_if((set & LACK_2) == 0, 2);
-    let c = bit_if((set & LACK_4) == 0, 4);
-    let d = bit_if((set & LACK_8) == 0, 8);
+    let a = if set & LACK_1 == 0 { 1 } else { 0 };
+    let b = if set & LACK_2 == 0 { 2 } else { 0 };
+    let c = if set & LACK_4 == 0 { 4 } else { 0 };
+    let d = if set & LACK_8 == 0 { 8 } else { 0 };
     a + b + c + d
 }
 
@@ -208,10 +196,8 @@ pub fn end_held(block: &mut [u8], take: bool, set: u16)
     requires { length block.old ≡ block_size }
     ensures { block.new ≡ ended_block take (in_set set) block.old }
 {
-    if is_held(block) {
-        if may_pick(block, set) {
-            end_slots(block, take, set);
-        }
+    if is_held(block) && may_pick(block, set) {
+        end_slots(block, take, set);
     }
 }
 
@@ -230,10 +216,8 @@ pub fn committed_count(block: &[u8]) -> u8
     ensures { result ≡ committed_count (of_list block.now) }
 {
     let mut n = 0;
-    let mut i = 0;
-    while i < SLOT_COUNT {
+    for i in 0..SLOT_COUNT {
         n += committed_at(block, i);
-        i += 1;
     }
     n
 }

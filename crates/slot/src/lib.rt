@@ -38,7 +38,8 @@ const PRESENT: u64 = VALUE * VALUES;
 // The bit of a block's first byte that says 'held'.
 pub const HELD: u8 = 128;
 
-// A present bit and a value.
+// A present bit and a value. It is no Option, since an absent state of a slot may have any value, which `slot_of` reads
+// and `word_of` writes again.
 #[derive(Clone, Copy)]
 pub struct Entry {
     pub present: bool,
@@ -149,7 +150,8 @@ impl Slot {
         self
     }
 
-    // The slot after its transaction has ended: its pending state is taken or dropped.
+    // The slot after its transaction has ended: its pending state is taken or dropped, as a command that is read at run
+    // time says. A closure in the place of the bool would test it just so, and `freed_slot` has it as a value.
     pub fn free(self, take: bool) -> Slot
         ensures { result ≡ freed_slot take self }
     {
