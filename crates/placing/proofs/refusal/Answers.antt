@@ -25,12 +25,6 @@ returns-then-not-work c =
     let in-range-at : are_lines c.args.lines.now ≡ true = sym c.in_range.ensures ∙ not-false _ (ap not c.if-not-in_range.false) in
     says-9 c.args.k c.requires c.args.lines.now in-range-at c.if-k.false (sym c.work.ensures ∙ not-true _ (ap not c.if-not-work.true))
 
-pub coverage-covered-requires : goal.coverage-covered-requires
-coverage-covered-requires c =
-    -- the tests that were passed
-    let in-range-at : are_lines c.args.lines.now ≡ true = sym c.in_range.ensures ∙ not-false _ (ap not c.if-not-in_range.false) in
-    in-range-at
-
 pub returns-then-covered : goal.returns-then-covered
 returns-then-covered c =
     -- the tests that were passed

@@ -1,12 +1,9 @@
 -- The loop counts those of the first i lines that have the block. Assumes nothing.
 use mathlib.Core.Path.{◌≡◌}
-use Prim.Native.Nat.{◌-◌, ◌≤◌}
+use Prim.Native.Nat.{◌≤◌}
 use Rattle.lists.specs.Tests.{count_below}
 use Rattle.table_lines.specs.Lines.{has_block, line_at}
 use Rattle.table_lines.proofs.lines_with.Given as goal
 
 abbrev pub invariant-loop-i : goal.invariant-loop-i
-invariant-loop-i l = (l.i ≤ l.count) × (l.n ≤ l.i) × (l.n ≡ count_below l.i (λ j. has_block (line_at l.lines j) l.block.0))
-
-abbrev pub decreases-loop-i : goal.decreases-loop-i
-decreases-loop-i l = l.count - l.i
+invariant-loop-i l = (l.n ≤ l.i) × (l.n ≡ count_below l.i (λ j. has_block (line_at l.lines j) l.block.0))

@@ -1,12 +1,8 @@
 -- The mask has the cards that the first i lines name. Assumes nothing.
 use mathlib.Core.Path.{◌≡◌}
-use Prim.Native.Nat.{◌-◌, ◌≤◌}
 use Rattle.mask.specs.Masks.{byte}
 use Rattle.table_lines.specs.Lines.{named_by}
 use Rattle.table_lines.proofs.named.Given as goal
 
 abbrev pub invariant-loop-i : goal.invariant-loop-i
-invariant-loop-i l = (l.i ≤ l.count) × (byte l.mask ≡ named_by l.lines l.i)
-
-abbrev pub decreases-loop-i : goal.decreases-loop-i
-decreases-loop-i l = l.count - l.i
+invariant-loop-i l = byte l.mask ≡ named_by l.lines l.i

@@ -1,41 +1,32 @@
--- The pair is that of the last of the first i lines that has the block. Assumes nothing.
-use mathlib.Core.Bool.{cond}
-use mathlib.Core.Path.{◌∙◌, ◌≡◌, ap, ap₂, refl, sym}
-use Prim.Native.Nat.{ℕ, ◌+◌, ◌*◌, ◌-◌, ◌<◌}
+-- A line in range has cards, which make a pair. The next line's pair is taken where it has the block. Assumes nothing.
+use mathlib.Core.Bool.{Bool, cond}
+use mathlib.Core.Path.{◌∙◌, ◌≡◌, ap, sym}
+use Prim.Native.Nat.{◌+◌, ◌*◌}
 use native.Mathlib.Omega.{arith}
-use borrow.Author.Rules.{rules}
 use Rattle.image.specs.Layout.{card_count}
-use Rattle.table_lines.specs.Lines.{Line, has_block, line_count, pair_by}
+use Rattle.table_lines.specs.Lines.{Line, has_block, line_at, pair_by}
 use Rattle.table_lines.specs.Meant.{meant}
 use Rattle.table_lines.proofs.Lines.{line-cards, pair-more}
 use Rattle.table_lines.proofs.pair_for.Goals as goal
+use Rattle.table_lines.proofs.pair_for.Goals.{then-has_block, else-has_block}
 
-pub loop-i-init : goal.loop-i-init
-loop-i-init c = (omega arith, omega arith, refl)
+pub overflow_mul-pair : goal.overflow_mul-pair
+overflow_mul-pair c = omega (arith, line-cards c.args.lines.now c.requires (meant c.line_at-line.result) c.loop-i.i c.line_at-line.ensures (omega arith))
 
-pub pair_with-pair-requires : goal.pair_with-pair-requires
-pair_with-pair-requires c =
-    let l = c.loop-i in
-    let x = c.args.lines.now in
-    let n : l.i < line_count x = search rules in
-    let k = line-cards x c.requires (meant c.line_at.result) l.i c.line_at.ensures n in
-    (k.0, k.1, l.invariant.1)
+pub overflow_add-pair : goal.overflow_add-pair
+overflow_add-pair c = omega (arith, line-cards c.args.lines.now c.requires (meant c.line_at-line.result) c.loop-i.i c.line_at-line.ensures (omega arith))
 
 pub loop-i-preserved : goal.loop-i-preserved
 loop-i-preserved c =
     let l = c.loop-i in
     let x = c.args.lines.now in
-    let b = c.args.block.0 in (
-      omega arith,
-      c.pair_with-pair.ensures.1,
-      c.pair_with-pair.ensures.0
-          ∙ ap₂ (λ (n : Line) (p : ℕ). cond (has_block n b) (n.one * card_count + n.two) p) c.line_at.ensures l.invariant.2
-          ∙ sym (pair-more x b l.i),
-    )
-
-pub returns : goal.returns
-returns c =
-    let l = c.loop-i in
-    let x = c.args.lines.now in
-    let e : l.i ≡ line_count x = omega arith in
-    (l.invariant.2 ∙ ap (pair_by x c.args.block.0) e, l.invariant.1)
+    let b = c.args.block.0 in
+    let cards = line-cards x c.requires (meant c.line_at-line.result) l.i c.line_at-line.ensures (omega arith) in
+    let has : c.has_block.result ≡ has_block (line_at x l.i) b = c.has_block.ensures ∙ ap (λ (n : Line). has_block n b) c.line_at-line.ensures in
+    let pair : Line → _ = λ n. n.one * card_count + n.two in
+    let next = λ (t : Bool) (e : c.has_block.result ≡ t).
+    pair-more x b l.i ∙ ap (λ (h : Bool). cond h (pair (line_at x l.i)) (pair_by x b l.i)) (sym has ∙ e) in
+    elim c.if-has_block.branch [
+      | then-has_block w ↦ (omega (arith, cards), w.pair-is ∙ ap pair c.line_at-line.ensures ∙ sym (next _ w.if-has_block.true))
+      | else-has_block w ↦ (omega arith, w.pair-is ∙ l.invariant.1 ∙ sym (next _ w.if-has_block.false))
+    ]

@@ -1,12 +1,9 @@
 -- The pair is that of the last of the first i lines that has the block. Assumes nothing.
 use mathlib.Core.Path.{◌≡◌}
-use Prim.Native.Nat.{◌-◌, ◌<◌, ◌≤◌}
+use Prim.Native.Nat.{◌<◌}
 use Rattle.mask.specs.Pairs.{pair_bound}
 use Rattle.table_lines.specs.Lines.{pair_by}
 use Rattle.table_lines.proofs.pair_for.Given as goal
 
 abbrev pub invariant-loop-i : goal.invariant-loop-i
-invariant-loop-i l = (l.i ≤ l.count) × (l.pair < pair_bound) × (l.pair ≡ pair_by l.lines l.block.0 l.i)
-
-abbrev pub decreases-loop-i : goal.decreases-loop-i
-decreases-loop-i l = l.count - l.i
+invariant-loop-i l = (l.pair < pair_bound) × (l.pair ≡ pair_by l.lines l.block.0 l.i)

@@ -1,7 +1,6 @@
 -- The first b elements are the pairs of the blocks below b; at the end all are, and what is packed of them is what is packed of the pairs.
 -- Assumes nothing.
 use mathlib.Core.Path.{◌≡◌}
-use Prim.Native.Nat.{◌-◌, ◌≤◌}
 use lib.ListN.{length}
 use Rattle.image.specs.Layout.{block_count}
 use Rattle.mask.proofs.PairLaws.{Holds}
@@ -9,8 +8,5 @@ use Rattle.table_lines.specs.Lines.{line_count, pair_by}
 use Rattle.table_lines.proofs.pairs.Given as goal
 
 abbrev pub invariant-loop-b : goal.invariant-loop-b
-invariant-loop-b l = (l.b ≤ block_count) × (length l.each ≡ block_count)
+invariant-loop-b l = (length l.each ≡ block_count)
     × Holds (λ k v. v ≡ pair_by l.lines k (line_count l.lines)) l.each l.b
-
-abbrev pub decreases-loop-b : goal.decreases-loop-b
-decreases-loop-b l = block_count - l.b
