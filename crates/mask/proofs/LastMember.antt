@@ -9,7 +9,7 @@ use lib.Bits.{bit_and}
 use lib.Count.{count_leading_zeros}
 use lib.Dec.{ltb, eqb}
 use lib.ListN.{length, get_or, take}
-use lib.Seq.{get_or-take, length-take-le, take-take}
+use lib.Seq.{get_or-take, length-take-le}
 use borrow.Author.Tests.{eqb-true, lt-ltb}
 use Rattle.lists.specs.Tests.{all_below}
 use Rattle.lists.proofs.Bools.{imp-out}
@@ -61,8 +61,3 @@ module _ (mask left n : ℕ) (few : n ≤ length (members (byte mask))) (are : m
   pub left-last : 0 < n → get_or (members (byte left)) (length (members (byte left)) - 1) 0 ≡ get_or (members (byte mask)) (n - 1) 0
   left-last some = ap (λ (i : ℕ). get_or (members (byte left)) (i - 1) 0) left-length ∙ ap (λ (l : List ℕ). get_or l (n - 1) 0) are
       ∙ get_or-take n (members (byte mask)) (n - 1) 0 (omega arith)
-
-  -- without it, those before it are left
-  pub left_less : take (length (members (byte left)) - 1) (members (byte left)) ≡ take (n - 1) (members (byte mask))
-  left_less = ap (λ (i : ℕ). take (i - 1) (members (byte left))) left-length ∙ ap (take (n - 1)) are
-      ∙ take-take (n - 1) n (members (byte mask)) (omega arith)

@@ -7,7 +7,7 @@ use mathlib.Core.List.{List, [], ◌∷◌}
 use Prim.Native.Nat.{ℕ, suc, zero, ◌<◌}
 use native.Mathlib.Omega.{arith}
 use lib.Dec.{eqb}
-use lib.ListN.{get_or, get_or-map, length, length-map}
+use lib.ListN.{get_or, get_or-map, length}
 use borrow.Author.Tests.{eqb-true}
 use Rattle.lists.specs.Tests.{elem, distinct}
 use Rattle.lists.specs.Tabulate.{tabulate}

@@ -1,11 +1,10 @@
 -- Once all behind it are taken off, member number i is the last. Assumes nothing.
-use mathlib.Core.Path.{◌≡◌, ap, ◌∙◌, sym}
-use Prim.Native.Nat.{ℕ, ◌+◌, ◌-◌}
+use mathlib.Core.Path.{◌≡◌, ap, ◌∙◌}
+use Prim.Native.Nat.{ℕ, ◌-◌}
 use native.Mathlib.Omega.{arith}
-use lib.ListN.{get_or, length, take}
-use lib.Seq.{take_all}
+use lib.ListN.{get_or, length}
 use Rattle.mask.specs.Masks.{byte, members}
-use Rattle.mask.proofs.LastMember.{left-last, left-length, left_less}
+use Rattle.mask.proofs.LastMember.{left-last, left-length}
 use Rattle.mask.proofs.Masks.{size-members}
 use Rattle.mask.proofs.MaskSites.{few-members}
 use Rattle.mask.proofs.nth_member.Goals as goal
@@ -20,22 +19,11 @@ overflow_sub-behind c = omega (arith, size-members (byte c.args.mask))
 pub overflow_sub-behind-2 : goal.overflow_sub-behind-2
 overflow_sub-behind-2 c = omega (arith, size-members (byte c.args.mask))
 
-pub loop-init : goal.loop-init
-loop-init c = sym (take_all _ (members (byte c.args.mask)) (omega arith))
-
 pub without_last-left-requires : goal.without_last-left-requires
 without_last-left-requires c =
     let l = c.loop in
     let m = byte c.args.mask in
     omega (arith, size-members m, left-length c.args.mask l.left (length (members m) - l.counter) (omega arith) l.invariant)
-
-pub loop-preserved : goal.loop-preserved
-loop-preserved c =
-    let l = c.loop in
-    let m = byte c.args.mask in
-    let n : ℕ = length (members m) - l.counter in
-    let next : n - 1 ≡ length (members m) - (l.counter + 1) = omega arith in
-    c.without_last-left.ensures ∙ left_less c.args.mask l.left n (omega arith) l.invariant ∙ ap (λ (k : ℕ). take k (members m)) next
 
 pub last_member-requires : goal.last_member-requires
 last_member-requires c =

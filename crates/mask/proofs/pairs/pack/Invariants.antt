@@ -1,4 +1,4 @@
--- Group by group the bytes are those of what is packed (`pack-turn`). Assumes nothing.
+-- Group by group the bytes are those of what is packed. Assumes nothing.
 use mathlib.Core.Path.{◌≡◌}
 use Prim.Native.Nat.{◌*◌}
 use lib.ListN.{get_or, length}
