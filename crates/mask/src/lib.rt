@@ -60,10 +60,7 @@ fn bit_of(card: Card) -> u8
 pub fn has(mask: u8, card: Card) -> bool
     ensures { result ≡ has_card (byte mask) card.0 }
 {
-    if card.0 < Placement::MOST_CARDS {
-        return (mask & bit_of(card)) != 0;
-    }
-    false
+    card.0 < Placement::MOST_CARDS && (mask & bit_of(card)) != 0
 }
 
 // How many members.
@@ -138,10 +135,7 @@ pub fn one_more(failed: u8, base: u8, mask: u8) -> bool
 {
     let first = u8::leading_zeros(mask & (ALL_BITS - base)) as u8;
     let extra = Card(first);
-    if has(failed, extra) {
-        return mask == with_card(base, extra);
-    }
-    false
+    has(failed, extra) && mask == with_card(base, extra)
 }
 
 // The first member.
@@ -203,13 +197,15 @@ pub fn nth_member(mask: u8, i: u8) -> u8
 }
 
 // The bits of the rail that the card is not on: cards 0 to 3 hang on one supply rail and 4 to 7 on the other.
+#[tactic(auto, unfolding(crate::specs::Placements::other_rail))]
 fn other_rail(card: Card) -> u8
     ensures { result ≡ other_rail card.0 }
 {
     if card.0 < image::RAIL_SIZE {
-        return SECOND_RAIL;
+        SECOND_RAIL
+    } else {
+        FIRST_RAIL
     }
-    FIRST_RAIL
 }
 
 // A placement whose sites its mask gives: which cards, and whether they are chosen by rails or as the base does. The
@@ -265,9 +261,10 @@ impl Placement {
         ensures { result ≡ cond self.rails (bit_and self.mask (other_rail card.0)) 0 }
     {
         if self.rails {
-            return self.mask & other_rail(card);
+            self.mask & other_rail(card)
+        } else {
+            0
         }
-        0
     }
 
     // The second site: the first of the members on the other rail than the first site. If there is none, or the sites
@@ -303,8 +300,7 @@ impl Placement {
         requires block_lt_block_count { block.0 < block_count }
         ensures { AreMembers result (is_site (placed (meant self)) block.0) }
     {
-        let first = self.member_at(block.0);
-        let second = self.second_site(block, first);
+        let [first, second] = self.sites(block);
         pair(first, second)
     }
 }

@@ -96,7 +96,8 @@ pub fn site_mask(pair: u8) -> u8
     requires { pair < pair_bound }
     ensures { AreMembers result (λ c. elem c (first_card pair ∷ second_card pair ∷ [])) }
 {
-    crate::pair(Card(pair / CARD_COUNT), Card(pair % CARD_COUNT))
+    let [first, second] = sites(pair);
+    crate::pair(first, second)
 }
 
 // The same of the pair at a place of a group's bits.

@@ -44,8 +44,5 @@ pub fn next_place(count: usize, place: usize) -> usize
     ensures { result ≡ (place + 1) % count }
 {
     let next = place + 1;
-    if next == count {
-        return 0;
-    }
-    next
+    if next == count { 0 } else { next }
 }

@@ -22,7 +22,7 @@ returns-then-has c =
     ap (eqb a.mask) (sym (mod-eq_of_lt h) ∙ ap (λ (x : Byte). x.0) c.with_card.ensures)
     ∙ rw (sym c.has.ensures ∙ c.if-has.true) at (one-more-is (byte a.failed) a.base a.mask (omega arith) (omega arith))
 
-pub returns : goal.returns
-returns c =
+pub returns-else-has : goal.returns-else-has
+returns-else-has c =
     let a = c.args in
-    rw (sym c.has.ensures ∙ c.if-has.false) at (one-more-is (byte a.failed) a.base a.mask (omega arith) (omega arith))
+    c.if-has.false ∙ rw (sym c.has.ensures ∙ c.if-has.false) at (one-more-is (byte a.failed) a.base a.mask (omega arith) (omega arith))
