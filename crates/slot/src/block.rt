@@ -56,7 +56,7 @@ pub fn is_held(block: &[u8]) -> bool
     block[0] >= HELD
 }
 
-// The 40 bits of slot i.
+// The 40 bits of slot i. The library reads numbers of 8 bytes, for which the 5 would have to be copied behind 3 zeros.
 fn word_at(block: &[u8], i: usize) -> u64
     requires block_len { length block.now ≡ block_size }
     requires i_lt_slot_count { i < slot_count }

@@ -77,10 +77,7 @@ impl Entry {
     pub fn plain(self) -> Entry
         ensures { result ≡ entry_of (state_of self) }
     {
-        if self.present {
-            return self;
-        }
-        Entry::absent()
+        if self.present { self } else { Entry::absent() }
     }
 }
 
@@ -155,10 +152,7 @@ impl Slot {
     pub fn free(self, take: bool) -> Slot
         ensures { result ≡ freed_slot take self }
     {
-        if take {
-            return self.take();
-        }
-        self.drop()
+        if take { self.take() } else { self.drop() }
     }
 }
 
