@@ -5,7 +5,6 @@ ghost use Rattle.std.specs.Prelude.{◌≡◌, true, false, ◌^◌, ◌<◌};
 ghost use Rattle.std.proofs.Math.Option.{none};
 ghost use Rattle.slot.specs.Words.{
   InRange,
-  bit_number,
   entry_of,
   freed_slot,
   locked_slot,
@@ -55,13 +54,6 @@ pub struct Slot {
     pub spare: u8,
 }
 
-// A bit as a number.
-fn bit(x: bool) -> u64
-    ensures { (result ≡ bit_number x) × (result < 2) }
-{
-    if x { 1 } else { 0 }
-}
-
 impl Entry {
     // No value.
     pub fn absent() -> Entry
@@ -108,12 +100,10 @@ impl Slot {
     {
         let committed = self.committed;
         let pending = self.pending;
-        let p = bit(committed.present);
-        let q = bit(pending.present);
-        p * PRESENT
+        u64::from(committed.present) * PRESENT
             + committed.value as u64 * VALUE
             + self.lock as u64 * LOCK
-            + q * PENDING_PRESENT
+            + u64::from(pending.present) * PENDING_PRESENT
             + pending.value as u64 * PENDING_VALUE
             + self.spare as u64
     }
