@@ -78,13 +78,6 @@ pub struct Rec(pub u16);
 #[derive(Clone, Copy, PartialEq, Eq, Debug)]
 pub struct Tran(pub u8);
 
-// A byte as a number of 64 bits.
-pub fn wide(b: u8) -> u64
-    ensures { (result ≡ b) × (result < 256) }
-{
-    b as u64
-}
-
 // Writes bytes into s from index at.
 pub fn write_at(s: &mut [u8], at: usize, bytes: &[u8])
     requires { at + length bytes.now ≤ length s.old }

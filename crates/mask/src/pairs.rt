@@ -21,7 +21,7 @@ ghost use Rattle.mask.specs.PairSets.{AreGoodPairs, has_pair, top_bit};
 ghost use Rattle.mask.specs.Placements.{site_list};
 ghost use Rattle.mask.specs.SiteMasks.{MasksBelow};
 
-use image::{Block, Card, wide};
+use image::{Block, Card};
 
 // The blocks of a group and their bytes.
 const BLOCKS_IN_GROUP: u8 = 4;
@@ -62,7 +62,7 @@ fn group(pairs: &[u8], q: usize) -> u64
     ensures { (result ≡ group_at (λ j. get_or pairs.now j 0) q) × (result < 256 ^ group_size) }
 {
     let at = q * GROUP_SIZE;
-    (wide(pairs[at]) * 0x100 + wide(pairs[at + 1])) * 0x100 + wide(pairs[at + 2])
+    (u64::from(pairs[at]) * 0x100 + u64::from(pairs[at + 1])) * 0x100 + u64::from(pairs[at + 2])
 }
 
 // The pair at a place of such bits.
@@ -70,7 +70,7 @@ fn pair_in(bits: u64, place: u8) -> u8
     requires { place < blocks_in_group }
     ensures { (result ≡ pair_in_group bits place) × (result < pair_bound) }
 {
-    let below = wide(BLOCKS_IN_GROUP - 1 - place);
+    let below = u64::from(BLOCKS_IN_GROUP - 1 - place);
     ((bits >> (PAIR_BITS * below)) % PAIR_COUNT) as u8
 }
 
@@ -130,7 +130,7 @@ pub fn fill(masks: &mut [u8], pairs: &[u8])
 fn good_pairs(mask: u8) -> u64
     ensures { AreGoodPairs result (byte mask) }
 {
-    let m = wide(mask);
+    let m = u64::from(mask);
     let own = (m * ROWS) & OWN_BITS;
     let rows = ((own + LOW_BITS) / HIGH_BIT) & ROWS;
     rows * m - own
@@ -168,9 +168,10 @@ fn group_of(pairs: [u8; image::BLOCK_COUNT], q: usize) -> u64
     ensures { result ≡ group_of (λ b. get_or pairs b 0) q }
 {
     let b = q * BLOCKS_IN_GROUP as usize;
-    ((wide(pairs[b]) * PAIR_COUNT + wide(pairs[b + 1])) * PAIR_COUNT + wide(pairs[b + 2]))
+    ((u64::from(pairs[b]) * PAIR_COUNT + u64::from(pairs[b + 1])) * PAIR_COUNT
+        + u64::from(pairs[b + 2]))
         * PAIR_COUNT
-        + wide(pairs[b + 3])
+        + u64::from(pairs[b + 3])
 }
 
 // The bytes that keep the pairs of the blocks.

@@ -24,7 +24,7 @@ ghost use Rattle.slot.specs.Blocks.{
 };
 
 use crate::{Entry, HELD, Slot};
-use image::{SLOT_COUNT, SLOT_SIZE, wide};
+use image::{SLOT_COUNT, SLOT_SIZE};
 
 // The byte of a slot that has its lock, and the weight and the bound of the lock there.
 const LOCK_AT: usize = 3;
@@ -63,11 +63,11 @@ fn word_at(block: &[u8], i: usize) -> u64
     ensures { (result ≡ word_at (of_list block.now) i) × (result < 2 ^ 40) }
 {
     let at = 1 + i * SLOT_SIZE;
-    let a = wide(block[at]);
-    let b = wide(block[at + 1]);
-    let c = wide(block[at + 2]);
-    let d = wide(block[at + 3]);
-    let e = wide(block[at + 4]);
+    let a = u64::from(block[at]);
+    let b = u64::from(block[at + 1]);
+    let c = u64::from(block[at + 2]);
+    let d = u64::from(block[at + 3]);
+    let e = u64::from(block[at + 4]);
     (((a * 256 + b) * 256 + c) * 256 + d) * 256 + e
 }
 
