@@ -33,7 +33,9 @@ use Rattle.cabinet_rules.specs.Delivery.{current}
 use Rattle.cabinet_rules.specs.Images.{Ends, Image, after, answer_by, end_in, end_of, next_by, refusal_by}
 use Rattle.cabinet_rules.proofs.After.{after-ext}
 use Rattle.promise.specs.Promise.{Done}
-use Rattle.promise.specs.declared.Answer.TheVariants.{Ok, Refused}
+use Rattle.std.specs.Prelude.{Ok, Err}
+use Rattle.refusals.specs.declared.Refusal.TheVariants.{Length, Placement}
+use Rattle.promise.specs.declared.Answer.TheVariants.{Accepted}
 use Rattle.promise.proofs.Laid.{is_block}
 use Rattle.promise.proofs.Stamping.{byte-number, stamped-as}
 use Rattle.cards.proofs.Tables.{none-byte}
@@ -90,19 +92,19 @@ module _ (g : Image) (mask : ℕ) where
   abbrev m : Byte
   m = byte mask
 
-  pub start-1 : (length g ≡ image_size → ⊥) → Done (start m) g (Refused 1) g
+  pub start-1 : (length g ≡ image_size → ⊥) → Done (start m) g (Err Length) g
   unfolding answer_by next_by refusal_by
   start-1 n = record { answers = rw (ne_eqb (length g) image_size n); leaves = rw (ne_eqb (length g) image_size n) }
 
   module _ (w : Whole g) {n : ℕ} (e : n ≡ size m) where
-    pub start-9 : n < least_members → Done (start m) g (Refused 9) g
+    pub start-9 : n < least_members → Done (start m) g (Err Placement) g
     unfolding answer_by next_by refusal_by refusal start_row
     start-9 z =
         let few = lt-ltb (size m) least_members (omega (arith, e)) in
         record { answers = rw (eq-eqb (length g) image_size w, few); leaves = rw (eq-eqb (length g) image_size w, few) }
 
     pub start-done : least_members ≤ n → mask < 256 → (x : Struct) (out first behind : Image) → Is x (started (from_mask m) m no_cards tt first_serial) → out ≡ zeros (length g)
-        → first ≡ put_control out (meaning x) → behind ≡ put_stamps first (byte x.working) (record { serial = x.serial; mask = mask }) card_count → Done (start m) g Ok behind
+        → first ≡ put_control out (meaning x) → behind ≡ put_stamps first (byte x.working) (record { serial = x.serial; mask = mask }) card_count → Done (start m) g (Ok Accepted) behind
     unfolding answer_by next_by refusal_by refusal start_row act
     start-done z small x out first behind ix o f l =
         let some-members = le-ltb (size m) least_members (omega (arith, e)) in

@@ -5,6 +5,7 @@ ghost use Rattle.std.specs.Prelude.{◌≡◌, ◌<◌};
 ghost use Rattle.lists.specs.Tests.{any_below};
 ghost use Rattle.image.specs.Layout.{card_count, tran_bound};
 ghost use Rattle.image.specs.Parts.{Whole};
+ghost use Rattle.refusals.specs.Refusals.{row_of};
 ghost use Rattle.method.specs.ControlPart.{begun_at};
 ghost use Rattle.method.specs.Rules.{in_active, refusal, fit, withdraw, place};
 ghost use Rattle.method.specs.PlainList.{no_blocks};
@@ -20,22 +21,23 @@ use control::{Control, codec, serials, stamps};
 use image::{Card, TRAN_COUNT};
 use mask::Placement;
 use promise::Answer;
+use refusals::Refusal;
 
 // All zero, then the mask's cards work, are the one placement and have its stamp. Older contents are not examined.
-pub fn start(image: &mut [u8], mask: u8) -> Answer
+pub fn start(image: &mut [u8], mask: u8) -> Result<Answer, Refusal>
     ensures { Done (asked (Call.Start mask)) image.old result image.new }
 {
     if image.len() != image::IMAGE_SIZE {
-        return Answer::Refused(1);
+        return Err(Refusal::Length);
     }
     if mask::members(mask) < image::LEAST_MEMBERS {
-        return Answer::Refused(9);
+        return Err(Refusal::Placement);
     }
     image::clear(image);
     let k = Control::started(mask);
     codec::write(image, k);
     stamps::put_all(image, k.working, k.serial, mask);
-    Answer::Ok
+    Ok(Answer::Accepted)
 }
 
 // Whether the card is in an active placement.
@@ -43,13 +45,10 @@ fn in_active(k: Control, card: Card) -> bool
     requires { Counted k }
     ensures { result ≡ in_active cabinet (meaning k) card.0 }
 {
-    let mut i: u8 = 0;
-    while i < k.count {
-        let at = i as usize;
-        if mask::has(k.masks[at], card) {
+    for i in 0..k.count as usize {
+        if mask::has(k.masks[i], card) {
             return true;
         }
-        i += 1;
     }
     false
 }
@@ -65,89 +64,70 @@ fn empty_card(image: &mut [u8], card: Card, after: Control)
 }
 
 // The rows of fit from 3 on.
-fn fit_refusal(k: Control, card: Card) -> u8
+fn check_fit(k: Control, card: Card) -> Result<(), Refusal>
     requires { Counted k }
-    ensures { result ≡ refusal cabinet (fit card.0) (meaning k) (no_blocks cabinet) }
+    ensures { row_of result ≡ refusal cabinet (fit card.0) (meaning k) (no_blocks cabinet) }
 {
     if card.0 >= Placement::MOST_CARDS {
-        return 3;
+        return Err(Refusal::Range);
     }
     if k.stopped {
-        return 4;
+        return Err(Refusal::Stopped);
     }
     if mask::has(k.working, card) {
-        return 8;
+        return Err(Refusal::Card);
     }
     if in_active(k, card) {
-        return 8;
+        return Err(Refusal::Card);
     }
-    0
+    Ok(())
 }
 
 // The card comes to work, no longer failed, with a table of zeros.
-pub fn fit(image: &mut [u8], card: Card) -> Answer
+pub fn fit(image: &mut [u8], card: Card) -> Result<Answer, Refusal>
     ensures { Done (asked (Call.Fit card)) image.old result image.new }
 {
-    let found = control_form::read(image);
-    if found.refusal != 0 {
-        return Answer::Refused(found.refusal);
-    }
-    let k = found.control;
-    let refusal = fit_refusal(k, card);
-    if refusal != 0 {
-        return Answer::Refused(refusal);
-    }
+    let k = control_form::read(image)?;
+    check_fit(k, card)?;
     empty_card(image, card, k.admit(card));
-    Answer::Ok
+    Ok(Answer::Accepted)
 }
 
 // Whether some transaction was begun at the card.
 fn begun_here(k: Control, card: Card) -> bool
     ensures { result ≡ any_below tran_bound (begun_at (meaning k) card.0) }
 {
-    let mut i = 0;
-    while i < TRAN_COUNT {
+    for i in 0..TRAN_COUNT {
         if codec::is_home(k.homes[i], card) {
             return true;
         }
-        i += 1;
     }
     false
 }
 
 // The rows of withdraw from 3 on.
-fn withdraw_refusal(k: Control, card: Card) -> u8
+fn check_withdraw(k: Control, card: Card) -> Result<(), Refusal>
     requires { Counted k }
-    ensures { result ≡ refusal cabinet (withdraw card.0) (meaning k) (no_blocks cabinet) }
+    ensures { row_of result ≡ refusal cabinet (withdraw card.0) (meaning k) (no_blocks cabinet) }
 {
-    let on_card = promise::rows::card_refusal(k, card);
-    if on_card != 0 {
-        return on_card;
-    }
+    promise::rows::check_card(k, card)?;
     if in_active(k, card) {
-        return 8;
+        return Err(Refusal::Card);
     }
     if begun_here(k, card) {
-        return 14;
+        return Err(Refusal::Home);
     }
-    0
+    Ok(())
 }
 
 // The card's table is zeroed; it no longer works.
-pub fn withdraw(image: &mut [u8], card: Card) -> Answer
+pub fn withdraw(image: &mut [u8], card: Card) -> Result<Answer, Refusal>
     ensures { Done (asked (Call.Withdraw card)) image.old result image.new }
 {
-    let found = control_form::read(image);
-    if found.refusal != 0 {
-        return Answer::Refused(found.refusal);
-    }
-    let k = found.control;
-    let refusal = withdraw_refusal(k, card);
-    if refusal != 0 {
-        return Answer::Refused(refusal);
-    }
+    let k = control_form::read(image)?;
+    check_withdraw(k, card)?;
     empty_card(image, card, k.dismiss(card));
-    Answer::Ok
+    Ok(Answer::Accepted)
 }
 
 // Whether the newest placement is the one that a place of this mask makes.
@@ -162,46 +142,39 @@ fn is_again(k: Control, mask: u8) -> bool
 }
 
 // The rows of place from 4 on.
-fn place_refusal(k: Control, mask: u8) -> u8
+fn check_place(k: Control, mask: u8) -> Result<(), Refusal>
     requires { Counted k }
-    ensures { result ≡ refusal cabinet (place (by_mask (byte mask))) (meaning k) (no_blocks cabinet) }
+    ensures { row_of result ≡ refusal cabinet (place (by_mask (byte mask))) (meaning k) (no_blocks cabinet) }
 {
     if k.stopped {
-        return 4;
+        return Err(Refusal::Stopped);
     }
     if mask::members(mask) < image::LEAST_MEMBERS {
-        return 9;
+        return Err(Refusal::Placement);
     }
     if !mask::within(mask, k.working) {
-        return 9;
+        return Err(Refusal::Placement);
     }
     if is_again(k, mask) {
-        return 9;
+        return Err(Refusal::Placement);
     }
     if k.count >= image::MOST_PLACED {
-        return 10;
+        return Err(Refusal::Active);
     }
     if k.serial >= serials::LIMIT {
-        return 20;
+        return Err(Refusal::Serials);
     }
-    0
+    Ok(())
 }
 
 // The mask becomes the newest placement, by rails, and every working card gets its stamp.
-pub fn place(image: &mut [u8], mask: u8) -> Answer
+pub fn place(image: &mut [u8], mask: u8) -> Result<Answer, Refusal>
     ensures { Done (asked (Call.Place mask)) image.old result image.new }
 {
-    let found = control_form::read(image);
-    if found.refusal != 0 {
-        return Answer::Refused(found.refusal);
-    }
-    let k = found.control;
-    let refusal = place_refusal(k, mask);
-    if refusal != 0 {
-        return Answer::Refused(refusal);
-    }
+    let k = control_form::read(image)?;
+    check_place(k, mask)?;
     let added = k.add(mask);
     codec::write(image, added);
     stamps::put_all(image, added.working, added.serial, mask);
-    Answer::Ok
+    Ok(Answer::Accepted)
 }

@@ -18,9 +18,9 @@ use Rattle.method.specs.Rules.{View, move, refusal, refused, row, unless_refused
 use Rattle.cabinet_rules.specs.Cabinet.{cabinet}
 use Rattle.cabinet_rules.specs.Delivery.{current}
 use Rattle.cabinet_rules.specs.Images.{Image, after_plan, answer, answer_by, next, next_by, plan_on, refusal_by, refusal_on}
-use Rattle.promise.specs.Promise.{Done, asked}
-use Rattle.promise.specs.declared.Answer.{Answer}
-use Rattle.promise.specs.declared.Answer.TheVariants.{Refused}
+use Rattle.std.specs.Prelude.{Err}
+use Rattle.refusals.specs.declared.Refusal.TheVariants.{Malformed as NotFormed}
+use Rattle.promise.specs.Promise.{Answered, Done, asked}
 use Rattle.promise.specs.declared.Call.{Call}
 use Rattle.command.specs.declared.Command.{Command}
 use Rattle.command.specs.declared.Command.TheVariants.{Of, WideMove}
@@ -89,7 +89,7 @@ call-leaves (WideMove c n) g =
     (λ b h. refused-next c.0 b g h ∙ sym (refused-next c.0 most_block g (omega arith)))
 
 -- ---- bytes that are read, and what is done for them, are obeyed
-pub obeyed-malformed : {l : List ℕ} {m : Image} → read_of l ≡ Malformed → Obeyed l m (Refused malformed) m
+pub obeyed-malformed : {l : List ℕ} {m : Image} → read_of l ≡ Malformed → Obeyed l m (Err NotFormed) m
 unfolding command_answer command_next
 obeyed-malformed {l} {m} e =
     let f : well_formed l ≡ false = read-malformed l e in
@@ -98,7 +98,7 @@ obeyed-malformed {l} {m} e =
       leaves = sym (ap (λ (t : Bool). cond t (next (ruled (command_of l)) m) m) f);
     }
 
-pub obeyed-asked : {l : List ℕ} {c : Command} {k : Call} {m n : Image} {a : Answer} → read_of l ≡ Asks c → k ≡ call_for c → Done (asked k) m a n → Obeyed l m a n
+pub obeyed-asked : {l : List ℕ} {c : Command} {k : Call} {m n : Image} {a : Answered} → read_of l ≡ Asks c → k ≡ call_for c → Done (asked k) m a n → Obeyed l m a n
 unfolding command_answer command_next
 obeyed-asked {l} {c} {k} {m} {n} {a} e call done =
     let d : Done (asked (call_for c)) m a n = subst (λ (x : Call). Done (asked x) m a n) call done in

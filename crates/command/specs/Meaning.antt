@@ -3,8 +3,7 @@ use Rattle.std.specs.Prelude.{ℕ, leb, cond, List, ◌≡◌}
 use Rattle.method.specs.Rules.{Answer, Call, move, refused}
 use Rattle.cabinet_rules.specs.Cabinet.{cabinet}
 use Rattle.cabinet_rules.specs.Images.{Image, answer, next}
-use Rattle.promise.specs.Promise.{asked, shown}
-use Rattle.promise.specs.declared.Answer.{Answer as AnswerValue}
+use Rattle.promise.specs.Promise.{Answered, asked, shown}
 use Rattle.promise.specs.declared.Call.{Call as CallValue}
 use Rattle.promise.specs.declared.Call.TheVariants.{Move}
 use Rattle.command.specs.declared.Command.{Command}
@@ -25,7 +24,7 @@ unfoldable pub command_next : List ℕ → Image → Image
 command_next l g = cond (well_formed l) (next (ruled (command_of l)) g) g
 
 -- The bytes of a command on an image were answered a and left the image behind.
-pub record Obeyed (l : List ℕ) (before : Image) (a : AnswerValue) (behind : Image) : Type 0 where
+pub record Obeyed (l : List ℕ) (before : Image) (a : Answered) (behind : Image) : Type 0 where
   pub answers : shown a ≡ command_answer l before
   pub leaves : behind ≡ command_next l before
 

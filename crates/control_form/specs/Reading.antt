@@ -1,5 +1,5 @@
 -- What the reader finds in an image, and what it looks at byte by byte. Assumes nothing.
-use Rattle.std.specs.Prelude.{◌≡◌, Bool, ◌&&◌, ◌||◌, cond, ◌≢◌, List, [], ◌∷◌, ℕ, zero, suc, ◌%◌, ◌*◌, ◌/◌, ◌+◌, ◌-◌, eqb, leb, ltb, get_or}
+use Rattle.std.specs.Prelude.{Result, IfOk, ◌≡◌, Bool, ◌&&◌, ◌||◌, cond, ◌≢◌, List, [], ◌∷◌, ℕ, zero, suc, ◌%◌, ◌*◌, ◌/◌, ◌+◌, ◌-◌, eqb, leb, ltb, get_or}
 use Rattle.std.specs.Int.Bits.{bit_and}
 use Rattle.lists.specs.Tests.{all_below}
 use Rattle.image.specs.Layout.{control_size, most_placed, pairs_size}
@@ -12,7 +12,9 @@ use Rattle.control.specs.ControlBytes.{last_mask_at, marks_at, masks_at, pairs_i
 use Rattle.control.specs.Serials.{first_serial, serial_in, serial_most}
 use Rattle.control.specs.Meaning.{Is, free_marks}
 use Rattle.control_form.specs.ControlForm.{chain_ok, form_refusal, home_ok, is_safe, members_ok}
-use Rattle.control_form.specs.declared.Found.{Found}
+use Rattle.control.specs.declared.Control.{Control}
+use Rattle.refusals.specs.declared.Refusal.{Refusal}
+use Rattle.refusals.specs.Refusals.{row_of}
 
 -- Bytes of a word, and half of them.
 abbrev pub word_size : ℕ
@@ -104,13 +106,8 @@ kept_ok_at l t i =
     cond (table_mark_in (get_or l marks_at 0) i) (are_pairs_of (mask_at l i) (pairs_in t i))
     (all_below pairs_size (λ j. eqb (t (i * pairs_size + j)) 0))
 
--- No control part: that of a start with no cards, which stands where none can be read.
-abbrev pub no_part : Part
-no_part = started (from_mask no_cards) no_cards no_cards tt first_serial
-
--- What reading an image finds: row 1 or 2 of the refusal table and no control part, or else 0 and the control part that
--- the bytes show, without its pairs.
-pub record Reads (image : List ℕ) (r : Found) : Type 0 where
-  pub refusal_is : r.refusal ≡ form_refusal image
-  pub good : r.refusal ≡ 0 → Is r.control (front_part (control_of (λ n. get_or image n 0) (tail_at image)))
-  pub bad : r.refusal ≢ 0 → Is r.control no_part
+-- What reading an image finds: row 1 or 2 of the refusal table, or else the control part that the bytes show, without its
+-- pairs.
+pub record Reads (image : List ℕ) (r : Result Control Refusal) : Type 0 where
+  pub refusal_is : row_of r ≡ form_refusal image
+  pub good : IfOk r (λ k. Is k (front_part (control_of (λ n. get_or image n 0) (tail_at image))))

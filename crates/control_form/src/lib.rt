@@ -8,7 +8,7 @@ ghost use Rattle.image.specs.Parts.{Whole};
 ghost use Rattle.mask.specs.Masks.{byte};
 ghost use Rattle.control.specs.ControlBytes.{control_of, count_in, homes_at, homes_end, masks_at, serial_end, stopped_in, working_at};
 ghost use Rattle.control_form.specs.ControlForm.{all_safe, control_form, count_ok, front_ok, is_safe, members_ok};
-ghost use Rattle.control.specs.Meaning.{meaning, Counted, Is};
+ghost use Rattle.control.specs.Meaning.{meaning, Counted};
 ghost use Rattle.control_form.specs.Reading.{
   Reads,
   all_from,
@@ -21,7 +21,6 @@ ghost use Rattle.control_form.specs.Reading.{
   marks_ok,
   mask_test,
   newest_in,
-  no_part,
   other_zeros,
   placement_ok,
   serials_in,
@@ -35,14 +34,8 @@ use control::codec::{
 };
 use control::{Control, FIRST_TABLE_MARK, MASK_COUNT, serials};
 use image::MOST_ACTIVE;
+use refusals::Refusal;
 use words::WORD_SIZE;
-
-// Row 1 or 2 of the refusal table, or else 0 and the control part.
-#[derive(Clone, Copy)]
-pub struct Found {
-    pub refusal: u8,
-    pub control: Control,
-}
 
 // The mask of all cards.
 const ALL_CARDS: u8 = 0xff;
@@ -361,30 +354,15 @@ fn form_ok(image: &[u8]) -> bool
     behind_ok(image, &image[image::TAIL_START..image::IMAGE_SIZE])
 }
 
-// No control part, and why.
-fn unread(refusal: u8) -> Found
-    ensures { (result.refusal ≡ refusal) × Is result.control no_part }
-{
-    let none = Control::started(0);
-    Found {
-        refusal: refusal,
-        control: none,
-    }
-}
-
 // The control part of an image, or why it cannot be read.
-pub fn read(image: &[u8]) -> Found
+pub fn read(image: &[u8]) -> Result<Control, Refusal>
     ensures { Reads image.now result }
 {
     if image.len() != image::IMAGE_SIZE {
-        return unread(1);
+        return Err(Refusal::Length);
     }
     if !form_ok(image) {
-        return unread(2);
+        return Err(Refusal::ControlForm);
     }
-    let k = decode(image);
-    Found {
-        refusal: 0,
-        control: k,
-    }
+    Ok(decode(image))
 }

@@ -20,7 +20,7 @@ use control::codec::{
 };
 use control::{FIRST_TABLE_MARK, MASK_COUNT, serials, stamps};
 use image::{Block, Card};
-use promise::Filled;
+use refusals::Refusal;
 
 // The length of an image from before A.6, which ends with the tables, and from before A.7: no table has a stamp.
 const OLDER_SIZE: usize = image::CONTROL_SIZE + image::CARD_COUNT * image::BLOCKS_SIZE;
@@ -142,21 +142,21 @@ fn form_21216(older: &[u8]) -> bool
 
 // Fills the lent buffer with the image from before A.6 at the length of A.6, and answers how many bytes were written;
 // refused, it leaves the buffer as lent. A stopped image is converted too.
-pub fn convert_21024(older: &[u8], image: &mut [u8]) -> Filled
+pub fn convert_21024(older: &[u8], image: &mut [u8]) -> Result<u16, Refusal>
     ensures { PairsDone older.now image.old result image.new }
 {
     if older.len() != OLDER_SIZE {
-        return Filled::Refused(1);
+        return Err(Refusal::Length);
     }
     if image.len() != PAIRS_IMAGE_SIZE {
-        return Filled::Refused(1);
+        return Err(Refusal::Length);
     }
     if !form_21024(older) {
-        return Filled::Refused(2);
+        return Err(Refusal::ControlForm);
     }
     image::write_at(image, 0, older);
     image::clear(&mut image[OLDER_SIZE..PAIRS_IMAGE_SIZE]);
-    Filled::Bytes(PAIRS_IMAGE_SIZE as u16)
+    Ok(PAIRS_IMAGE_SIZE as u16)
 }
 
 // Writes the blocks of a card's table where they are now, and no stamp behind them.
@@ -207,18 +207,18 @@ fn carry(older: &[u8], image: &mut [u8])
 }
 
 // Fills the lent buffer with the image from before A.7 at the length of A.7, as the converter above does.
-pub fn convert_21216(older: &[u8], image: &mut [u8]) -> Filled
+pub fn convert_21216(older: &[u8], image: &mut [u8]) -> Result<u16, Refusal>
     ensures { StampsDone older.now image.old result image.new }
 {
     if older.len() != PAIRS_IMAGE_SIZE {
-        return Filled::Refused(1);
+        return Err(Refusal::Length);
     }
     if image.len() != image::IMAGE_SIZE {
-        return Filled::Refused(1);
+        return Err(Refusal::Length);
     }
     if !form_21216(older) {
-        return Filled::Refused(2);
+        return Err(Refusal::ControlForm);
     }
     carry(older, image);
-    Filled::Bytes(image::IMAGE_SIZE as u16)
+    Ok(image::IMAGE_SIZE as u16)
 }

@@ -29,6 +29,7 @@ use Rattle.cabinet_rules.specs.Cabinet.{cabinet}
 use Rattle.cabinet_rules.proofs.FormLaws.{numbered-in}
 use Rattle.cabinet_rules.specs.Images.{Image, control_in, plan_on, tail_in}
 use Rattle.promise.specs.Given.{view_of}
+use Rattle.std.specs.Prelude.{Ok}
 use Rattle.promise.specs.Promise.{Done}
 use Rattle.promise.specs.declared.Answer.TheVariants.{Placed, Unplaced}
 use Rattle.promise.proofs.Finish.{by_both, by-plan, form-good}
@@ -85,7 +86,7 @@ module _ {m x : Struct} {g out : Image} {c : ℕ} (f : Failing m g c) (s : stopp
   unplaced-plan h = in-run f (rw (s, h))
 
   pub unplaced-done : {n : ℕ} {b : Bool} → n ≡ newest_mask m → b ≡ has_card (byte n) c → b ≡ false
-      → (behind : Image) → behind ≡ put_control out (meaning x) → Done (fail c) g Unplaced behind
+      → (behind : Image) → behind ≡ put_control out (meaning x) → Done (fail c) g (Ok Unplaced) behind
   unplaced-done e h z behind l =
       let w = drop_held cabinet (begun_at (control_in g) c) c (view_of g) in
       by_both (fail c) refl g f.formed Unplaced closed_part w behind f.accepted (unplaced-plan (had e h ∙ z)) (same-tail g (form-good g f.formed))
@@ -118,7 +119,7 @@ module _ {m x : Struct} {g out : Image} {c : ℕ} (f : Failing m g c) (s : stopp
     whole-added written l = let w : Whole out = out-whole in ap length l ∙ length-put out (meaning y) (omega arith) ∙ w
 
     pub placed-done : {b : Bool} → b ≡ has_card (byte n) c → b ≡ true → mask < 256 → (written behind : Image) → written ≡ put_control out (meaning y)
-        → behind ≡ put_stamps written (byte y.working) (record { serial = y.serial; mask = mask }) card_count → Done (fail c) g (Placed mask) behind
+        → behind ≡ put_stamps written (byte y.working) (record { serial = y.serial; mask = mask }) card_count → Done (fail c) g (Ok (Placed mask)) behind
     placed-done h z small written behind l st =
         let w = drop_held cabinet (begun_at (control_in g) c) c (view_of g) in
         let keeps : KeepsTail added_part g = more-tail g closed_part (from_mask (without_card newest c)) (form-good g f.formed) refl refl (suc (control_in g).serial) in

@@ -19,7 +19,12 @@ use Rattle.cabinet_rules.specs.Cabinet.{cabinet}
 use Rattle.cabinet_rules.specs.Images.{Image, control_in, plan_on}
 use Rattle.promise.specs.Given.{Given, rows_on, view_of}
 use Rattle.promise.specs.Promise.{Done}
-use Rattle.promise.specs.declared.Answer.TheVariants.{Refused, Stopped}
+use Rattle.promise.specs.declared.Answer.{Answer as AnswerValue}
+use Rattle.promise.specs.declared.Answer.TheVariants.{Stopped}
+use Rattle.std.specs.Prelude.{Result, Ok}
+use Rattle.refusals.specs.Refusals.{number}
+use Rattle.refusals.specs.declared.Refusal.{Refusal}
+use Rattle.refusals.proofs.HandedOn.{HandsOn}
 use Rattle.promise.proofs.Finish.{by-control, by-rules, form-good}
 use Rattle.promise.proofs.Laid.{same-tail}
 use Rattle.promise.proofs.SharedRows.{stopped-is}
@@ -39,11 +44,11 @@ module _ {k : Struct} {g : Image} (is : Given k g) (c : ℕ) where
   unfolding fail_rows
   rows_on_lem e = e ∙ ap (λ (p : Part). fail_rows p c) is.is.means ∙ fail-rows g c
 
-  pub fail-refused : (n : ℕ) → n ≡ fail_rows (meaning k) c → n ≢ 0 → Done (fail c) g (Refused n) g
-  fail-refused n e d = by-rules (fail c) refl g is.formed n (rows_on_lem e) d
+  pub fail-refused : (r : Refusal) (a : Result AnswerValue Refusal) → number r ≡ fail_rows (meaning k) c → HandsOn r a → Done (fail c) g a g
+  fail-refused r a e = by-rules (fail c) refl g is.formed r a (rows_on_lem e)
 
   -- no row applies, and the card is marked
-  module _ {n : ℕ} {m : Struct} (e : n ≡ fail_rows (meaning k) c) (z : n ≡ 0)
+  module _ {m : Struct} (e : 0 ≡ fail_rows (meaning k) c)
       (im : Is m (with_cards (meaning k) (without_card (meaning k).working c) (with_card (meaning k).failed c))) where
     marks : meaning m ≡ front_part (marked cabinet (control_in g) c)
     marks = im.means ∙ ap (λ (x : Part). marked cabinet x c) is.is.means
@@ -53,7 +58,7 @@ module _ {k : Struct} {g : Image} (is : Given k g) (c : ℕ) where
     failing r = record {
       formed = is.formed;
       running = sym (stopped-is k g is) ∙ r;
-      accepted = sym z ∙ rows_on_lem e;
+      accepted = rows_on_lem e;
       is = record { counted = im.counted; means = marks };
     }
 
@@ -63,8 +68,8 @@ module _ {k : Struct} {g : Image} (is : Given k g) (c : ℕ) where
     mark-plan r = ap (λ (b : Bool). cond b (unwritten cabinet stops (marked cabinet (control_in g) c))
         (cond (stopping cabinet (control_in g) c) (stop_plan cabinet (control_in g) (view_of g) c) (fail_plan cabinet (control_in g) (view_of g) c))) (sym (stopped-is k g is) ∙ r)
 
-    pub marked-done : k.stopped ≡ true → (behind : Image) → behind ≡ put_control g (meaning m) → Done (fail c) g Stopped behind
-    marked-done r behind l = by-control (fail c) refl g is.formed Stopped (marked cabinet (control_in g) c) behind (sym z ∙ rows_on_lem e) (mark-plan r)
+    pub marked-done : k.stopped ≡ true → (behind : Image) → behind ≡ put_control g (meaning m) → Done (fail c) g (Ok Stopped) behind
+    marked-done r behind l = by-control (fail c) refl g is.formed Stopped (marked cabinet (control_in g) c) behind (rows_on_lem e) (mark-plan r)
         (same-tail g (form-good g is.formed)) (l ∙ ap (put_control g) marks)
 
 -- the card is one of the cabinet

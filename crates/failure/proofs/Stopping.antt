@@ -12,6 +12,7 @@ use Rattle.control.specs.declared.Control.{Control as Struct}
 use Rattle.cabinet_rules.specs.Cabinet.{cabinet}
 use Rattle.cabinet_rules.specs.Images.{Image, control_in, plan_on}
 use Rattle.promise.specs.Given.{view_of}
+use Rattle.std.specs.Prelude.{Ok}
 use Rattle.promise.specs.Promise.{Done}
 use Rattle.promise.specs.declared.Answer.TheVariants.{Stopped}
 use Rattle.promise.proofs.Finish.{by_both, form-good}
@@ -54,7 +55,7 @@ module _ {m : Struct} {g : Image} {c : ℕ} (f : Failing m g c) where
       ap (λ (p : Part). put_control (laid (end_writes (meaning m).working false (in_set (set_of (is_open p))) g) g) (halted p)) f.is.means
       ∙ ap (λ (i : Image). put_control i (front_part (halted less_card))) (dropped (is_open (control_in g)))
 
-  pub stopped-done : stopping cabinet (control_in g) c ≡ true → (behind : Image) → behind ≡ stopped_on (meaning m) g → Done (fail c) g Stopped behind
+  pub stopped-done : stopping cabinet (control_in g) c ≡ true → (behind : Image) → behind ≡ stopped_on (meaning m) g → Done (fail c) g (Ok Stopped) behind
   stopped-done s behind l =
       let w = drop_held cabinet (is_open (control_in g)) c (view_of g) in
       by_both (fail c) refl g f.formed Stopped (halted less_card) w behind f.accepted (stop-plan s) (same-tail g (form-good g f.formed)) (l ∙ stopped-is)

@@ -1,7 +1,8 @@
 // fail: a card is lost, and the store goes on without it or stops; one that has stopped marks it.
 #![tactic(auto)]
 
-ghost use Rattle.std.specs.Prelude.{false, ◌≡◌};
+ghost use Rattle.std.specs.Prelude.{false, Ok, ◌≡◌};
+ghost use Rattle.refusals.specs.Refusals.{row_of};
 ghost use Rattle.image.specs.Parts.{Whole};
 ghost use Rattle.method.specs.Rules.{stopping};
 ghost use Rattle.control.specs.Meaning.{Counted, meaning};
@@ -15,18 +16,19 @@ use control::{Control, codec, stamps};
 use image::Card;
 use mask::Placement;
 use promise::Answer;
+use refusals::Refusal;
 
 // Rows 3 and 8. There is no row 4: a store that has stopped marks cards too.
-fn refusal(k: Control, card: Card) -> u8
-    ensures { result ≡ fail_rows (meaning k) card.0 }
+fn check(k: Control, card: Card) -> Result<(), Refusal>
+    ensures { row_of result ≡ fail_rows (meaning k) card.0 }
 {
     if card.0 >= Placement::MOST_CARDS {
-        return 3;
+        return Err(Refusal::Range);
     }
     if !mask::has(k.working, card) {
-        return 8;
+        return Err(Refusal::Card);
     }
-    0
+    Ok(())
 }
 
 // An active placement is lost: the store stops, with what was open rolled back on the cards that work.
@@ -44,7 +46,7 @@ fn stop(image: &mut [u8], marked: Control)
 fn go_on(image: &mut [u8], marked: Control, card: Card) -> Answer
     requires failing { Failing marked image.old card.0 }
     requires card_value { stopping cabinet (control_in image.old) card.0 ≡ false }
-    ensures { Done (asked (Call.Fail card)) image.old result image.new }
+    ensures { Done (asked (Call.Fail card)) image.old (Ok result) image.new }
 {
     tables::end_held(image, marked.working, false, tables::begun_at(marked, card));
     let closed = marked.close_at(card);
@@ -62,26 +64,19 @@ fn go_on(image: &mut [u8], marked: Control, card: Card) -> Answer
 
 // The card no longer works and is marked failed. Where the store has stopped that is all; where an active placement is then
 // lost, the store stops.
-pub fn fail(image: &mut [u8], card: Card) -> Answer
+pub fn fail(image: &mut [u8], card: Card) -> Result<Answer, Refusal>
     ensures { Done (asked (Call.Fail card)) image.old result image.new }
 {
-    let found = control_form::read(image);
-    if found.refusal != 0 {
-        return Answer::Refused(found.refusal);
-    }
-    let k = found.control;
-    let refusal = refusal(k, card);
-    if refusal != 0 {
-        return Answer::Refused(refusal);
-    }
+    let k = control_form::read(image)?;
+    check(k, card)?;
     let marked = k.mark_failed(card);
     if k.stopped {
         codec::write(image, marked);
-        return Answer::Stopped;
+        return Ok(Answer::Stopped);
     }
     if !control_form::all_safe(marked) {
         stop(image, marked);
-        return Answer::Stopped;
+        return Ok(Answer::Stopped);
     }
-    go_on(image, marked, card)
+    Ok(go_on(image, marked, card))
 }

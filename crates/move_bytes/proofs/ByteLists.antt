@@ -14,10 +14,13 @@ use Rattle.cabinet_rules.specs.Images.{Image}
 use Rattle.cabinet_rules.specs.MoveLists.{list_answer_on, moves_on}
 use Rattle.cabinet_rules.proofs.MoveLists.{listed-clear}
 use Rattle.move_list.specs.Plans.{move_for}
-use Rattle.move_list.specs.Promise.{EveryListFits, ListDone, blank_list, blank_move, filled_by, list_after, most_moves, shown_list}
+use Rattle.move_list.specs.Promise.{EveryListFits, Listed, ListDone, blank_list, blank_move, filled_by, list_after, most_moves, shown_list}
 use Rattle.move_list.proofs.MoveRooms.{any-room, by_room, every-list-fits}
-use Rattle.move_list.specs.declared.Listed.{Listed}
-use Rattle.move_list.specs.declared.Listed.TheVariants.{Moves, None, Refused}
+use Rattle.std.specs.Prelude.{Some, None, Ok, Err}
+use Rattle.refusals.specs.Refusals.{number}
+use Rattle.refusals.specs.declared.Refusal.{Refusal}
+use Rattle.refusals.specs.declared.Refusal.TheVariants.{List as TooShort}
+use Rattle.refusals.proofs.HandedOn.{HandsOn, handed-on}
 use Rattle.move_list.specs.declared.Move.{Move}
 use Rattle.move_bytes.specs.MoveBytes.{BytesDone, bytes_after, bytes_of, filled_bytes, first_bytes, room_of}
 use Rattle.move_bytes.proofs.EntryBytes.{length-first}
@@ -35,16 +38,16 @@ module _ (g : Image) (a : Listed) (ms : List Move) (d : ListDone g blank_list a 
   unfolding bytes_after
   done-by b filled e f = record { answers = sym e; fills = f ∙ sym (ap (λ (z : ListAnswer). filled_bytes z (map move_for (moves_on g)) lent) e) }
 
-  pub none_done : a ≡ None → BytesDone g lent None lent
-  none_done e = done-by None lent (by-room no_list (ap shown_list e)) refl
+  pub none_done : a ≡ Ok None → BytesDone g lent (Ok None) lent
+  none_done e = done-by (Ok None) lent (by-room no_list (ap shown_list e)) refl
 
-  pub refused-done : (n : ℕ) → a ≡ Refused n → BytesDone g lent (Refused n) lent
-  refused-done n e = done-by (Refused n) lent (by-room (not_listed n) (ap shown_list e)) refl
+  pub refused-done : (r : Refusal) (b : Listed) → a ≡ Err r → HandsOn r b → BytesDone g lent b lent
+  refused-done r b e h = rw (handed-on b h) (done-by (Err r) lent (by-room (not_listed (number r)) (ap shown_list e)) refl)
 
-  pub short-done : (n : ℕ) → a ≡ Moves n → room_of lent < n → BytesDone g lent (Refused 16) lent
-  short-done n e h = done-by (Refused 16) lent (by-room (listed n) (ap shown_list e) ∙ rw (lt-ltb (room_of lent) n h)) refl
+  pub short-done : (n : ℕ) → a ≡ Ok (Some n) → room_of lent < n → BytesDone g lent (Err TooShort) lent
+  short-done n e h = done-by (Err TooShort) lent (by-room (listed n) (ap shown_list e) ∙ rw (lt-ltb (room_of lent) n h)) refl
 
-  module _ (n : ℕ) (e : a ≡ Moves n) where
+  module _ (n : ℕ) (e : a ≡ Ok (Some n)) where
     all_listed : list_answer_on (length blank_list) g ≡ listed n
     all_listed = sym d.answers ∙ ap shown_list e
 
@@ -70,7 +73,7 @@ module _ (g : Image) (a : Listed) (ms : List Move) (d : ListDone g blank_list a 
         let l = ap length moves-are ∙ length-append (map move_for (moves_on g)) (drop n blank_list) in
         omega (arith, l, moves_long)
 
-    pub fit-done : n ≤ room_of lent → BytesDone g lent (Moves n) (splice lent 0 (first_bytes ms n))
+    pub fit-done : n ≤ room_of lent → BytesDone g lent (Ok (Some n)) (splice lent 0 (first_bytes ms n))
     unfolding splice
-    fit-done h = done-by (Moves n) (splice lent 0 (first_bytes ms n)) (by-room (listed n) (ap shown_list e) ∙ rw (le-ltb (room_of lent) n h))
+    fit-done h = done-by (Ok (Some n)) (splice lent 0 (first_bytes ms n)) (by-room (listed n) (ap shown_list e) ∙ rw (le-ltb (room_of lent) n h))
         (ap₂ (λ (xs : List ℕ) (k : ℕ). xs ++ drop k lent) first-are (zero-add (length (first_bytes ms n)) ∙ length-first ms n long-enough))

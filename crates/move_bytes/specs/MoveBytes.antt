@@ -5,8 +5,7 @@ use Rattle.method.specs.MoveList.{ListAnswer, listed, no_list, not_listed}
 use Rattle.cabinet_rules.specs.Images.{Image}
 use Rattle.cabinet_rules.specs.MoveLists.{list_answer_on, moves_on}
 use Rattle.move_list.specs.Plans.{move_for}
-use Rattle.move_list.specs.Promise.{shown_list}
-use Rattle.move_list.specs.declared.Listed.{Listed}
+use Rattle.move_list.specs.Promise.{Listed, shown_list}
 use Rattle.move_list.specs.declared.Move.{Move}
 
 -- An entry is two bytes: its card, then its block.

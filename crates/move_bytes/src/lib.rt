@@ -7,7 +7,8 @@ ghost use Rattle.lists.specs.Segments.{splice};
 ghost use Rattle.move_list.specs.Promise.{most_moves};
 ghost use Rattle.move_bytes.specs.MoveBytes.{BytesDone, bytes_of, entry_size, first_bytes};
 
-use move_list::{Listed, MOST_MOVES, Move};
+use move_list::{MOST_MOVES, Move};
+use refusals::Refusal;
 
 // The bytes of an entry.
 pub const ENTRY_SIZE: usize = 2;
@@ -28,30 +29,26 @@ fn put_entries(bytes: &mut [u8], moves: [Move; MOST_MOVES], n: usize)
     requires { (n ≤ most_moves) × (n * entry_size ≤ length bytes.old) }
     ensures { bytes.new ≡ splice bytes.old 0 (first_bytes moves n) }
 {
-    let mut i: usize = 0;
-    while i < n {
+    for i in 0..n {
         put_entry(bytes, i * ENTRY_SIZE, moves[i]);
-        i += 1;
     }
 }
 
 // The list in a buffer with room for half as many entries as it has bytes.
-pub fn list(image: &[u8], bytes: &mut [u8]) -> Listed
+pub fn list(image: &[u8], bytes: &mut [u8]) -> Result<Option<u16>, Refusal>
     ensures { BytesDone image.now bytes.old result bytes.new }
 {
     let found = store::moves::all(image);
-    let listed = found.listed;
+    let listed = found.listed?;
     match listed {
-        Listed::Moves(count) => {
+        Some(count) => {
             let n = count as usize;
             if bytes.len() / ENTRY_SIZE < n {
-                return Listed::Refused(move_list::SHORT);
+                return Err(Refusal::List);
             }
-            let moves = found.moves;
-            put_entries(bytes, moves, n);
-            Listed::Moves(count)
+            put_entries(bytes, found.moves, n);
+            Ok(Some(count))
         }
-        Listed::None => Listed::None,
-        Listed::Refused(refusal) => Listed::Refused(refusal),
+        None => Ok(None),
     }
 }

@@ -7,7 +7,8 @@ use mathlib.Core.Path.{◌∙◌, ◌≡◌, ap, ap₂, fun_ext, refl, sym}
 use native.Mathlib.Numerals.{add-one}
 use native.Mathlib.Omega.{arith}
 use Rattle.lists.specs.Tests.{any_in, any_below, concat_map, keep_if, numbers_below}
-use Rattle.lists.proofs.Bools.{and_l, and-when, tf}
+use Rattle.std.specs.Prelude.{Some, None}
+use Rattle.lists.proofs.Bools.{and_l, and-when}
 use Rattle.lists.proofs.Counts.{any_below_lem}
 use Rattle.lists.proofs.Lists.{any-map, concat-more}
 use Rattle.lists.proofs.Numbers.{any-concat-below, any-keep-below}
@@ -118,20 +119,13 @@ unfolding moves_below move_list
 all-counted g n count e c = c ∙ ap (λ (m : ℕ). length (concat_map (moves_of_block g) (numbers_below m))) e
 
 -- ---- what is found
-pub finds-locked : (g : Image) (o : List ℕ) (b : ℕ) → b < block_count → locked_block g b ≡ true
-    → Finds (record { refusal = 0; locked = true; count = 0; origins = o }) g
-finds-locked g o b h e = record {
-  clear = refl;
-  locked-is = some-locked g b h e;
-  moves-are = λ z. tf true refl z;
-  count-is = λ z. tf true refl z;
-}
+pub finds-locked : (g : Image) (b : ℕ) → b < block_count → locked_block g b ≡ true → Finds g None
+finds-locked g b h e = record { locked-is = some-locked g b h e; moves-are = tt; count-is = tt }
 
 pub finds-moves : (g : Image) (o : List ℕ) (n count : ℕ) → n ≡ block_count → count ≡ length (moves_below g n) → MasksBelow (origin g) o n
-    → any_below n (locked_block g) ≡ false → Finds (record { refusal = 0; locked = false; count = count; origins = o }) g
+    → any_below n (locked_block g) ≡ false → Finds g (Some (record { count = count; origins = o }))
 finds-moves g o n count e c below free = record {
-  clear = refl;
   locked-is = none-locked g n e free;
-  moves-are = λ z. all-moves g o n e below;
-  count-is = λ z. all-counted g n count e c;
+  moves-are = all-moves g o n e below;
+  count-is = all-counted g n count e c;
 }

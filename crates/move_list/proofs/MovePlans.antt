@@ -11,14 +11,14 @@ use mathlib.Core.Path.{◌∙◌, ◌≡◌, ap, refl, sym}
 use native.Mathlib.Numerals.{add-one}
 use native.Mathlib.Omega.{arith}
 use Rattle.lists.specs.Tests.{concat_map, numbers_below}
-use Rattle.lists.proofs.Bools.{split}
+use Rattle.lists.proofs.Bools.{split, tf}
 use Rattle.lists.proofs.Cases.{by-eq}
 use Rattle.lists.proofs.Lists.{concat-more}
 use Rattle.lists.proofs.Numbers.{get_or-concat}
 use Rattle.image.specs.Layout.{block_count}
 use Rattle.mask.specs.Masks.{byte, members, size}
 use Rattle.mask.proofs.Masks.{size-members}
-use Rattle.method.specs.MoveList.{Entry, ListAnswer, entry_at, list_answer, listed, no_list, not_listed}
+use Rattle.method.specs.MoveList.{Entry, ListAnswer, any_move_locked, entry_at, list_answer, listed, no_list, not_listed}
 use Rattle.method.specs.Rules.{refusal, state}
 use Rattle.control_form.specs.ControlForm.{form_refusal}
 use Rattle.control.specs.declared.Control.{Control}
@@ -28,10 +28,14 @@ use Rattle.cabinet_rules.specs.MoveLists.{list_answer_on, list_refusal, moves_on
 use Rattle.promise.specs.Given.{Given, view_of}
 use Rattle.promise.proofs.Finish.{form-row, refusal-rules}
 use Rattle.promise.proofs.SharedRows.{state-rows}
-use Rattle.move_list.specs.Plans.{Finds, Plans, plan_answer, filled_of, first_moves, move_at, move_for, moves_at, moves_in, refused_plan, stored_by}
-use Rattle.move_list.specs.Promise.{ListDone, filled_by, list_after, shown_list}
-use Rattle.move_list.specs.declared.Listed.{Listed}
-use Rattle.move_list.specs.declared.Listed.TheVariants.{Moves, None, Refused}
+use Rattle.std.specs.Prelude.{Option, Some, None, Result, Ok, Err, is_ok}
+use Rattle.refusals.specs.Refusals.{number}
+use Rattle.refusals.specs.declared.Refusal.{Refusal}
+use Rattle.refusals.specs.declared.Refusal.TheVariants.{Stopped, List as TooShort}
+use Rattle.refusals.proofs.HandedOn.{HandsOn, handed-on}
+use Rattle.refusals.proofs.Numbers.{not-none}
+use Rattle.move_list.specs.Plans.{Finds, Plans, first_moves, move_at, move_for, moves_at, moves_in, stored_by}
+use Rattle.move_list.specs.Promise.{Listed, ListDone, filled_by, list_after, shown_list}
 use Rattle.move_list.specs.declared.Move.{Move}
 use Rattle.move_list.specs.declared.Plan.{Plan}
 
@@ -40,23 +44,23 @@ rows-of-state : (g : Image) → list_refusal g ≡ refusal_on state g
 unfolding refusal_by refusal
 rows-of-state g = refl
 
-pub plan-by-form : (g : Image) (n : ℕ) → n ≡ form_refusal g → n ≢ 0 → Plans (refused_plan n) g
-plan-by-form g n e d = record { refusal_is = form-row state refl g n e d ∙ sym (rows-of-state g); finds = λ z. absurd (d z) }
+pub plan-by-form : (g : Image) (r : Refusal) (a : Result (Option Plan) Refusal) → number r ≡ form_refusal g → HandsOn r a → Plans g a
+plan-by-form g r a e h = rw (handed-on a h) (record { refusal_is = form-row state refl g (number r) e (not-none r) ∙ sym (rows-of-state g); finds = tt })
 
 module _ (k : Control) (g : Image) (is : Given k g) where
   rows : list_refusal g ≡ refusal_on state g
   rows = rows-of-state g
 
-  pub plan-stopped : k.stopped ≡ true → Plans (refused_plan 4) g
+  pub plan-stopped : k.stopped ≡ true → Plans g (Err Stopped)
   plan-stopped e = record {
     refusal_is = rw e at (state-rows k g is) ∙ sym (refusal-rules state refl g is.formed) ∙ sym rows;
-    finds = λ z. absurd (omega (arith, z));
+    finds = tt;
   }
 
-  pub plan-found : k.stopped ≡ false → (p : Plan) → Finds p g → Plans p g
+  pub plan-found : k.stopped ≡ false → (p : Option Plan) → Finds g p → Plans g (Ok p)
   plan-found e p f = record {
-    refusal_is = f.clear ∙ (rw e at (state-rows k g is)) ∙ sym (refusal-rules state refl g is.formed) ∙ sym rows;
-    finds = λ z. f;
+    refusal_is = (rw e at (state-rows k g is)) ∙ sym (refusal-rules state refl g is.formed) ∙ sym rows;
+    finds = f;
   }
 
 -- ---- the n-th move
@@ -115,78 +119,81 @@ first_taken l (suc n) h =
 first-all : (l : List Entry) (n : ℕ) → n ≡ length l → first_moves l n ≡ map move_for l
 first-all l n e = first_taken l n (omega (arith, e)) ∙ ap (λ (k : ℕ). map move_for (take k l)) e ∙ ap (map move_for) (take-length l)
 
--- no more entries are filled than there is room for
-pub stored-le : (p : Plan) (room : ℕ) → stored_by p room ≤ room
-unfolding plan_answer
-stored-le p room = go (not (eqb p.refusal 0)) p.locked (split (ltb room p.count))
-  where
-    go : (a b : Bool) → (ltb room p.count ≡ true) ⊎ (ltb room p.count ≡ false)
-        → filled_of (cond a (Refused p.refusal) (cond b None (cond (ltb room p.count) (Refused 16) (Moves p.count)))) ≤ room
-    go true b c = omega arith
-    go false true c = omega arith
-    go false false (inl e) = rw e (omega arith)
-    go false false (inr e) = rw e (ltb-false room p.count e)
+-- the number in a result and its refusal, and others where it is the other
+abbrev or-zero : Result ℕ Refusal → ℕ
+or-zero (Ok n) = n
+or-zero (Err r) = 0
 
-module _ (p : Plan) (g : Image) (plans : Plans p g) (lent : List Move) where
+abbrev or-short : Result ℕ Refusal → Refusal
+or-short (Ok n) = TooShort
+or-short (Err r) = r
+
+-- what is filled is the number of moves, and there is room for them
+pub stored-clear : (p : Plan) (room n : ℕ) → Ok n ≡ stored_by p room → (n ≡ p.count) × (ltb room p.count ≡ false)
+unfolding stored_by
+stored-clear p room n e = go (split (ltb room p.count))
+  where
+    go : (ltb room p.count ≡ true) ⊎ (ltb room p.count ≡ false) → (n ≡ p.count) × (ltb room p.count ≡ false)
+    go (inl t) = let m : stored_by p room ≡ Err TooShort = rw t in tf true refl (ap (λ (x : Result ℕ Refusal). is_ok x) (e ∙ m))
+    go (inr t) = let m : stored_by p room ≡ Ok p.count = rw t in (ap or-zero (e ∙ m), t)
+
+pub stored-short : (p : Plan) (room : ℕ) (r : Refusal) → Err r ≡ stored_by p room → (r ≡ TooShort) × (ltb room p.count ≡ true)
+unfolding stored_by
+stored-short p room r e = go (split (ltb room p.count))
+  where
+    go : (ltb room p.count ≡ true) ⊎ (ltb room p.count ≡ false) → (r ≡ TooShort) × (ltb room p.count ≡ true)
+    go (inl t) = let m : stored_by p room ≡ Err TooShort = rw t in (ap or-short (e ∙ m), t)
+    go (inr t) = let m : stored_by p room ≡ Ok p.count = rw t in tf true refl (sym (ap (λ (x : Result ℕ Refusal). is_ok x) (e ∙ m)))
+
+-- ---- the promise of the call, by what was found
+module _ (g : Image) (lent : List Move) where
   abbrev room : ℕ
   room = length lent
 
-  abbrev moves : List Entry
-  moves = moves_in p.origins
-
-  -- What the code leaves in the lent list.
-  abbrev pub left_by : List Move
-  left_by = first_moves moves (stored_by p room) ++ drop (stored_by p room) lent
-
   -- from what the code answers, where the rules answer the same
-  done-by : (x : Listed) → plan_answer p room ≡ x → list_answer_on room g ≡ shown_list x
-      → first_moves moves (filled_of x) ++ drop (filled_of x) lent ≡ filled_by (shown_list x) (map move_for (moves_on g)) lent → ListDone g lent (plan_answer p room) left_by
+  done-by : (a : Listed) (filled : List Move) → list_answer_on room g ≡ shown_list a → filled ≡ filled_by (shown_list a) (map move_for (moves_on g)) lent → ListDone g lent a filled
   unfolding list_after
-  done-by x a l f = record {
-    answers = ap shown_list a ∙ sym l;
-    fills = ap (λ (z : Listed). first_moves moves (filled_of z) ++ drop (filled_of z) lent) a ∙ f ∙ sym (ap (λ (z : ListAnswer). filled_by z (map move_for (moves_on g)) lent) l);
-  }
+  done-by a filled l f = record { answers = sym l; fills = f ∙ sym (ap (λ (z : ListAnswer). filled_by z (map move_for (moves_on g)) lent) l) }
 
-  refused-done : p.refusal ≢ 0 → ListDone g lent (plan_answer p room) left_by
-  unfolding plan_answer list_answer_on
-  refused-done d = done-by (Refused p.refusal) (rw (ne_eqb p.refusal 0 d))
-      (ap (λ (n : ℕ). unless_refused_list n (list_answer cabinet (control_in g) (view_of g) room)) (sym plans.refusal_is) ∙ go p.refusal d) refl
+  pub refused-done : (r : Refusal) (a : Listed) → number r ≡ list_refusal g → HandsOn r a → ListDone g lent a lent
+  unfolding list_answer_on
+  refused-done r a e h = rw (handed-on a h) (done-by (Err r) lent
+      (ap (λ (n : ℕ). unless_refused_list n (list_answer cabinet (control_in g) (view_of g) room)) (sym e) ∙ go (number r) (not-none r)) refl)
     where
       go : (n : ℕ) → n ≢ 0 → unless_refused_list n (list_answer cabinet (control_in g) (view_of g) room) ≡ not_listed n
       go zero d = absurd (d refl)
       go (suc n) d = refl
 
-  module _ (clear : p.refusal ≡ 0) where
-    f : Finds p g
-    f = plans.finds clear
-
-    by-rules : list_answer_on room g ≡ cond p.locked no_list (cond (ltb room (length (moves_on g))) (not_listed 16) (listed (length (moves_on g))))
+  module _ (clear : 0 ≡ list_refusal g) where
+    by-rules : (locked : Bool) → locked ≡ any_move_locked cabinet (control_in g) (view_of g)
+        → list_answer_on room g ≡ cond locked no_list (cond (ltb room (length (moves_on g))) (not_listed 16) (listed (length (moves_on g))))
     unfolding list_answer_on list_answer
-    by-rules = rw (sym plans.refusal_is ∙ clear)
-        (ap (λ (t : Bool). cond t no_list (cond (ltb room (length (moves_on g))) (not_listed 16) (listed (length (moves_on g))))) (sym f.locked-is))
+    by-rules locked e = rw (sym clear)
+        (ap (λ (t : Bool). cond t no_list (cond (ltb room (length (moves_on g))) (not_listed 16) (listed (length (moves_on g))))) (sym e))
 
-    locked-done : p.locked ≡ true → ListDone g lent (plan_answer p room) left_by
-    unfolding plan_answer
-    locked-done e = done-by None (rw (eq-eqb p.refusal 0 clear, e)) (by-rules ∙ rw e) refl
+    pub locked-done : Finds g None → ListDone g lent (Ok None) lent
+    locked-done f = done-by (Ok None) lent (by-rules true f.locked-is) refl
 
-    module _ (free : p.locked ≡ false) where
+    module _ (p : Plan) (f : Finds g (Some p)) where
       by_count : list_answer_on room g ≡ cond (ltb room p.count) (not_listed 16) (listed p.count)
-      by_count = by-rules ∙ rw free (ap (λ (n : ℕ). cond (ltb room n) (not_listed 16) (listed n)) (sym (f.count-is free)))
+      by_count = by-rules false f.locked-is ∙ ap (λ (n : ℕ). cond (ltb room n) (not_listed 16) (listed n)) (sym f.count-is)
 
-      short-done : ltb room p.count ≡ true → ListDone g lent (plan_answer p room) left_by
-      unfolding plan_answer
-      short-done e = done-by (Refused 16) (rw (eq-eqb p.refusal 0 clear, free, e)) (by_count ∙ rw e) refl
+      pub short-done : (r : Refusal) (a : Listed) → Err r ≡ stored_by p room → HandsOn r a → ListDone g lent a lent
+      short-done r a e h =
+          let s = stored-short p room r e in
+          rw (handed-on a h, s.0) (done-by (Err TooShort) lent (by_count ∙ rw s.1) refl)
 
-      filled-done : ltb room p.count ≡ false → ListDone g lent (plan_answer p room) left_by
-      unfolding plan_answer
-      filled-done e = done-by (Moves p.count) (rw (eq-eqb p.refusal 0 clear, free, e)) (by_count ∙ rw e)
-          (ap (λ (l : List Move). l ++ drop p.count lent) (first-all moves p.count (f.count-is free ∙ ap length (sym (f.moves-are free))) ∙ ap (map move_for) (f.moves-are free)))
+      pub filled-done : (n : ℕ) → Ok n ≡ stored_by p room → (filled : List Move) → filled ≡ first_moves (moves_in p.origins) n ++ drop n lent
+          → ListDone g lent (Ok (Some p.count)) filled
+      filled-done n e filled l =
+          let s = stored-clear p room n e in
+          done-by (Ok (Some p.count)) filled (by_count ∙ rw s.1)
+          (l ∙ ap (λ (m : ℕ). first_moves (moves_in p.origins) m ++ drop m lent) s.0
+          ∙ ap (λ (l : List Move). l ++ drop p.count lent)
+          (first-all (moves_in p.origins) p.count (f.count-is ∙ ap length (sym f.moves-are)) ∙ ap (map move_for) f.moves-are))
 
-  -- The promise of the call.
-  pub list_done : ListDone g lent (plan_answer p room) left_by
-  list_done = by-eq (ListDone g lent (plan_answer p room) left_by) p.refusal 0 (λ e. accepted e (split p.locked) (split (ltb room p.count))) refused-done
-    where
-      accepted : p.refusal ≡ 0 → (p.locked ≡ true) ⊎ (p.locked ≡ false) → (ltb room p.count ≡ true) ⊎ (ltb room p.count ≡ false) → ListDone g lent (plan_answer p room) left_by
-      accepted e (inl l) c = locked-done e l
-      accepted e (inr l) (inl c) = short-done e l c
-      accepted e (inr l) (inr c) = filled-done e l c
+-- no more entries are filled than there is room for
+pub stored-le : (p : Plan) (room n : ℕ) → Ok n ≡ stored_by p room → n ≤ room
+stored-le p room n e =
+    let s = stored-clear p room n e in
+    omega (arith, s.0, ltb-false room p.count s.1)

@@ -1,5 +1,5 @@
 -- What the code finds of the moves in an image. Assumes nothing.
-use Rattle.std.specs.Prelude.{suc, zero, ℕ, eqb, ltb, get_or, length, replicate, cond, false, not, List, [], ◌++◌, ◌∷◌, map, ◌≡◌}
+use Rattle.std.specs.Prelude.{Option, is_none, IfSome, Result, Ok, Err, IfOk, suc, zero, ℕ, ltb, get_or, length, cond, List, [], ◌++◌, ◌∷◌, map, ◌≡◌}
 use Rattle.lists.specs.Tests.{concat_map, numbers_below}
 use Rattle.image.specs.Layout.{block_count}
 use Rattle.mask.specs.Masks.{byte, members}
@@ -8,8 +8,9 @@ use Rattle.cabinet_rules.specs.Cabinet.{cabinet}
 use Rattle.cabinet_rules.specs.Images.{Image, control_in}
 use Rattle.cabinet_rules.specs.MoveLists.{list_refusal, moves_on}
 use Rattle.promise.specs.Given.{view_of}
-use Rattle.move_list.specs.declared.Listed.{Listed}
-use Rattle.move_list.specs.declared.Listed.TheVariants.{Moves, None, Refused}
+use Rattle.refusals.specs.Refusals.{row_of}
+use Rattle.refusals.specs.declared.Refusal.{Refusal}
+use Rattle.refusals.specs.declared.Refusal.TheVariants.{List as TooShort}
 use Rattle.move_list.specs.declared.Move.{Move}
 use Rattle.move_list.specs.declared.Plan.{Plan}
 
@@ -33,33 +34,17 @@ first_moves l zero = []
 first_moves l (suc n) = first_moves l n ++ (move_at l n ∷ [])
 
 -- ---- a plan
--- No move is locked and the masks stand for these moves; or one is locked.
-pub record Finds (p : Plan) (g : Image) : Type 0 where
-  pub clear : p.refusal ≡ 0
-  pub locked-is : p.locked ≡ any_move_locked cabinet (control_in g) (view_of g)
-  pub moves-are : p.locked ≡ false → moves_in p.origins ≡ moves_on g
-  pub count-is : p.locked ≡ false → p.count ≡ length (moves_on g)
+-- No move is locked and the masks stand for these moves; or one is locked, and there is no plan.
+pub record Finds (g : Image) (p : Option Plan) : Type 0 where
+  pub locked-is : is_none p ≡ any_move_locked cabinet (control_in g) (view_of g)
+  pub moves-are : IfSome p (λ q. moves_in q.origins ≡ moves_on g)
+  pub count-is : IfSome p (λ q. q.count ≡ length (moves_on g))
 
--- A plan of an image: the call is refused, or this is found.
-pub record Plans (p : Plan) (g : Image) : Type 0 where
-  pub refusal_is : p.refusal ≡ list_refusal g
-  pub finds : p.refusal ≡ 0 → Finds p g
+-- What is found in an image: the call is refused, or this.
+pub record Plans (g : Image) (p : Result (Option Plan) Refusal) : Type 0 where
+  pub refusal_is : row_of p ≡ list_refusal g
+  pub finds : IfOk p (Finds g)
 
--- The plan of a refused call.
-abbrev pub refused_plan : ℕ → Plan
-refused_plan n = record { refusal = n; locked = false; count = 0; origins = replicate block_count 0 }
-
--- What is answered to a lent list with so much room, and how many of its entries are filled.
-unfoldable pub plan_answer : Plan → ℕ → Listed
-plan_answer p room =
-    cond (not (eqb p.refusal 0)) (Refused p.refusal) (
-    cond p.locked None (
-    cond (ltb room p.count) (Refused 16) (Moves p.count)))
-
-abbrev pub filled_of : Listed → ℕ
-filled_of (Moves n) = n
-filled_of None = 0
-filled_of (Refused n) = 0
-
-abbrev pub stored_by : Plan → ℕ → ℕ
-stored_by p room = filled_of (plan_answer p room)
+-- How many entries of a lent list with so much room are filled: as many as there are moves, or the list is too short.
+unfoldable pub stored_by : Plan → ℕ → Result ℕ Refusal
+stored_by p room = cond (ltb room p.count) (Err TooShort) (Ok p.count)

@@ -1,19 +1,23 @@
 -- The promise of the call that lists moves (request A.3). Assumes nothing.
-use Rattle.std.specs.Prelude.{◌*◌, ◌≤◌, ℕ, drop, length, replicate, List, ◌++◌, map, ◌≡◌}
+use Rattle.std.specs.Prelude.{Option, Some, None, Result, Ok, Err, ◌*◌, ◌≤◌, ℕ, drop, length, replicate, List, ◌++◌, map, ◌≡◌}
 use Rattle.image.specs.Layout.{block_count, card_count}
 use Rattle.method.specs.MoveList.{ListAnswer, listed, no_list, not_listed}
 use Rattle.cabinet_rules.specs.Images.{Image}
 use Rattle.cabinet_rules.specs.MoveLists.{list_answer_on, moves_on}
 use Rattle.move_list.specs.Plans.{move_for}
-use Rattle.move_list.specs.declared.Listed.{Listed}
-use Rattle.move_list.specs.declared.Listed.TheVariants.{Moves, None, Refused}
+use Rattle.refusals.specs.Refusals.{number}
+use Rattle.refusals.specs.declared.Refusal.{Refusal}
 use Rattle.move_list.specs.declared.Move.{Move}
 
--- The answer of the rules for each case of the code's enum.
+-- What the call answers: the number of moves, none where one of them is locked, or its refusal.
+abbrev pub Listed : Type 0
+Listed = Result (Option ℕ) Refusal
+
+-- The answer of the rules for it.
 abbrev pub shown_list : Listed → ListAnswer
-shown_list (Moves n) = listed n
-shown_list None = no_list
-shown_list (Refused n) = not_listed n
+shown_list (Ok (Some n)) = listed n
+shown_list (Ok None) = no_list
+shown_list (Err r) = not_listed (number r)
 
 -- The lent list after the call: the moves in its first entries, those beyond their number as lent; the whole list as
 -- lent where the answer is 'none' or a refusal.

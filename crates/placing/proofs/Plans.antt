@@ -5,7 +5,6 @@ use lib.Dec.{leb}
 use lib.ListN.{length, length-map}
 use mathlib.Core.Bool.{not}
 use mathlib.Core.List.{List}
-use mathlib.Core.Logic.{◌≢◌}
 use mathlib.Core.Path.{◌∙◌, ◌≡◌, ap, refl, sym}
 use Rattle.image.specs.Layout.{most_placed}
 use Rattle.mask.specs.Placements.{pairless}
@@ -21,7 +20,12 @@ use Rattle.cabinet_rules.specs.Images.{Image, control_in, plan_on}
 use Rattle.cabinet_rules.specs.Places.{by_lines, is_spent, placed_row, table_rows}
 use Rattle.promise.specs.Given.{Given, rows_on}
 use Rattle.promise.specs.Promise.{Done}
-use Rattle.promise.specs.declared.Answer.TheVariants.{Ok, Refused}
+use Rattle.promise.specs.declared.Answer.{Answer as AnswerValue}
+use Rattle.promise.specs.declared.Answer.TheVariants.{Accepted}
+use Rattle.std.specs.Prelude.{Result, Ok}
+use Rattle.refusals.specs.Refusals.{number}
+use Rattle.refusals.specs.declared.Refusal.{Refusal}
+use Rattle.refusals.proofs.HandedOn.{HandsOn}
 use Rattle.promise.proofs.Finish.{by-plan, by-rules}
 use Rattle.placing.specs.Placed.{table_added, with_table}
 use Rattle.placing.proofs.Rows.{rows_of}
@@ -47,14 +51,14 @@ unfolding act
 plan-is l g = refl
 
 -- ---- on an image that was read
-module _ {k : Struct} {g : Image} (is : Given k g) (l : List ℕ) (n : ℕ) (e : n ≡ rows_of l (meaning k)) where
-  rows_on_lem : n ≡ rows_on (place (by_lines l)) g
-  rows_on_lem = e ∙ ap (rows_of l) is.is.means ∙ rows-front l (control_in g) ∙ rows-there l g
+module _ {k : Struct} {g : Image} (is : Given k g) (l : List ℕ) where
+  rows_on_lem : {n : ℕ} → n ≡ rows_of l (meaning k) → n ≡ rows_on (place (by_lines l)) g
+  rows_on_lem e = e ∙ ap (rows_of l) is.is.means ∙ rows-front l (control_in g) ∙ rows-there l g
 
-  pub table-refused : n ≢ 0 → Done (place (by_lines l)) g (Refused n) g
-  table-refused d = by-rules (place (by_lines l)) refl g is.formed n rows_on_lem d
+  pub table-refused : (r : Refusal) (a : Result AnswerValue Refusal) → number r ≡ rows_of l (meaning k) → HandsOn r a → Done (place (by_lines l)) g a g
+  table-refused r a e = by-rules (place (by_lines l)) refl g is.formed r a (rows_on_lem e)
 
-  pub table_done : n ≡ 0 → (behind : Image) → behind ≡ with_table l g → Done (place (by_lines l)) g Ok behind
+  pub table_done : 0 ≡ rows_of l (meaning k) → (behind : Image) → behind ≡ with_table l g → Done (place (by_lines l)) g (Ok Accepted) behind
   unfolding with_table
-  table_done z behind w = by-plan (place (by_lines l)) refl g is.formed Ok (table_plan l g) behind (sym z ∙ rows_on_lem) (plan-is l g) refl
+  table_done e behind w = by-plan (place (by_lines l)) refl g is.formed Accepted (table_plan l g) behind (rows_on_lem e) (plan-is l g) refl
       w

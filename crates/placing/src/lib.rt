@@ -2,6 +2,7 @@
 #![tactic(auto)]
 
 ghost use Rattle.std.specs.Prelude.{◌≡◌, true, ◌<◌};
+ghost use Rattle.refusals.specs.Refusals.{row_of};
 ghost use Rattle.image.specs.Layout.{most_active};
 ghost use Rattle.table_lines.specs.Lines.{are_lines};
 ghost use Rattle.method.specs.PlainList.{no_blocks};
@@ -15,35 +16,36 @@ ghost use Rattle.placing.specs.Placed.{with_table};
 
 use control::{Control, codec, serials, stamps};
 use promise::Answer;
+use refusals::Refusal;
 
 // The rows from 3 on, a test each.
-fn refusal(k: Control, lines: &[u8]) -> u8
+fn check(k: Control, lines: &[u8]) -> Result<(), Refusal>
     requires { Counted k }
-    ensures { result ≡ refusal cabinet (place (by_lines lines.now)) (meaning k) (no_blocks cabinet) }
+    ensures { row_of result ≡ refusal cabinet (place (by_lines lines.now)) (meaning k) (no_blocks cabinet) }
 {
     if !table_lines::in_range(lines) {
-        return 3;
+        return Err(Refusal::Range);
     }
     if k.stopped {
-        return 4;
+        return Err(Refusal::Stopped);
     }
     if !table_lines::work(lines, k.working) {
-        return 9;
+        return Err(Refusal::Placement);
     }
     let covered = table_lines::coverage(lines);
     if covered.gap {
-        return 17;
+        return Err(Refusal::Gap);
     }
     if covered.overlap {
-        return 18;
+        return Err(Refusal::Overlap);
     }
     if k.count >= image::MOST_PLACED {
-        return 10;
+        return Err(Refusal::Active);
     }
     if k.serial >= serials::LIMIT {
-        return 20;
+        return Err(Refusal::Serials);
     }
-    0
+    Ok(())
 }
 
 // The placement of the lines becomes the newest: its pairs stand behind those of the older placements, its mask and its
@@ -62,18 +64,11 @@ fn add(image: &mut [u8], k: Control, lines: &[u8])
 }
 
 // The placement of the lines becomes the newest.
-pub fn place_by_table(image: &mut [u8], lines: &[u8]) -> Answer
+pub fn place_by_table(image: &mut [u8], lines: &[u8]) -> Result<Answer, Refusal>
     ensures { Done (place (by_lines lines.now)) image.old result image.new }
 {
-    let found = control_form::read(image);
-    if found.refusal != 0 {
-        return Answer::Refused(found.refusal);
-    }
-    let k = found.control;
-    let refusal = refusal(k, lines);
-    if refusal != 0 {
-        return Answer::Refused(refusal);
-    }
+    let k = control_form::read(image)?;
+    check(k, lines)?;
     add(image, k, lines);
-    Answer::Ok
+    Ok(Answer::Accepted)
 }

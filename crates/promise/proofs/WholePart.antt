@@ -2,6 +2,7 @@
 -- Assumes nothing.
 use Prim.Native.Nat.{◌+◌, ◌-◌, ◌<◌, ◌≤◌, ℕ}
 use lib.ListN.{get_or, length}
+use Rattle.std.specs.Prelude.{Ok}
 use mathlib.Core.Bool.{false}
 use mathlib.Core.List.{List}
 use mathlib.Core.Option.{none}
@@ -22,7 +23,7 @@ use Rattle.cabinet_rules.specs.Cabinet.{cabinet}
 use Rattle.cabinet_rules.specs.Images.{Image, after, block_in, plan_on, tail_in}
 use Rattle.cabinet_rules.proofs.After.{after-ext}
 use Rattle.promise.specs.Given.{rows_on}
-use Rattle.promise.specs.Promise.{Done, shown}
+use Rattle.promise.specs.Promise.{Done, said}
 use Rattle.promise.specs.declared.Answer.{Answer as AnswerValue}
 use Rattle.promise.proofs.Finish.{by-plan, form-long}
 use Rattle.promise.proofs.Laid.{block-is, is_block}
@@ -80,5 +81,5 @@ module _ (g : Image) (k : Part) (w : Whole g) where
 
 -- accepted, and the whole control part changes
 pub by_whole : (c : Call cabinet) → is_start c ≡ false → (g : Image) → form_refusal g ≡ 0 → (a : AnswerValue) (k : Part) (behind : Image)
-    → 0 ≡ rows_on c g → plan_on c g ≡ unwritten cabinet (shown a) k → behind ≡ put_control (put_tail g (tail_byte k)) (front_part k) → Done c g a behind
-by_whole c late g clear a k behind e q l = by-plan c late g clear a (unwritten cabinet (shown a) k) behind e q refl (l ∙ write-whole g k (form-long g clear))
+    → 0 ≡ rows_on c g → plan_on c g ≡ unwritten cabinet (said a) k → behind ≡ put_control (put_tail g (tail_byte k)) (front_part k) → Done c g (Ok a) behind
+by_whole c late g clear a k behind e q l = by-plan c late g clear a (unwritten cabinet (said a) k) behind e q refl (l ∙ write-whole g k (form-long g clear))

@@ -1,5 +1,7 @@
 -- The promise of every call: its answer and the image that it leaves are those of the rules. Assumes nothing.
-use Rattle.std.specs.Prelude.{◌≡◌}
+use Rattle.std.specs.Prelude.{◌≡◌, ℕ, Result, Ok, Err}
+use Rattle.refusals.specs.Refusals.{number}
+use Rattle.refusals.specs.declared.Refusal.{Refusal}
 use Rattle.mask.specs.Masks.{byte}
 use Rattle.method.specs.Rules.{Answer, Call, absent, begin, commit, copied, delete, fail, fit, get, load, loaded, move}
 use Rattle.method.specs.Rules.{ok, place, placed, protected, refused, retired, rollback, settle, start, state, stops}
@@ -10,12 +12,10 @@ use Rattle.cabinet_rules.specs.Images.{Image, answer, next}
 use Rattle.cabinet_rules.specs.Places.{by_mask}
 use Rattle.promise.specs.declared.Call.{Call as CallValue}
 use Rattle.promise.specs.declared.Answer.{Answer as AnswerValue}
-use Rattle.promise.specs.declared.Filled.{Filled as FilledValue}
-use Rattle.promise.specs.declared.Filled.TheVariants.{Bytes as Filled-as-Bytes, Refused as Filled-as-Refused}
 use Rattle.promise.specs.declared.Call.TheVariants.{Start, Begin, Get, Store, Delete, Commit, Rollback, Fit}
 use Rattle.promise.specs.declared.Call.TheVariants.{Withdraw, Place, Fail, Move, Settle, State, Load}
-use Rattle.promise.specs.declared.Answer.TheVariants.{Ok, Value, Absent, Placed, Unplaced, Stopped, Copied}
-use Rattle.promise.specs.declared.Answer.TheVariants.{Retired, Protected, Unprotected, Loaded, Refused}
+use Rattle.promise.specs.declared.Answer.TheVariants.{Accepted, Value, Absent, Placed, Unplaced, Stopped, Copied}
+use Rattle.promise.specs.declared.Answer.TheVariants.{Retired, Protected, Unprotected, Loaded}
 
 -- The call of the rules that each case of the code's enum asks for.
 abbrev pub asked : CallValue → Call cabinet
@@ -36,26 +36,34 @@ asked State = state
 asked (Load c) = load c.0
 
 -- The answer of the rules for each case of the code's enum.
-abbrev pub shown : AnswerValue → Answer cabinet
-shown Ok = ok
-shown (Value n) = value n
-shown Absent = absent
-shown (Placed m) = placed (byte m)
-shown Unplaced = unplaced
-shown Stopped = stops
-shown (Copied n) = copied n
-shown (Retired n) = retired n
-shown Protected = protected
-shown Unprotected = unprotected
-shown (Loaded n) = loaded n
-shown (Refused n) = refused n
+abbrev pub said : AnswerValue → Answer cabinet
+said Accepted = ok
+said (Value n) = value n
+said Absent = absent
+said (Placed m) = placed (byte m)
+said Unplaced = unplaced
+said Stopped = stops
+said (Copied n) = copied n
+said (Retired n) = retired n
+said Protected = protected
+said Unprotected = unprotected
+said (Loaded n) = loaded n
 
--- The answer of the rules for each case of the enum of calls that fill lent bytes.
-abbrev pub shown_filled : FilledValue → Filling
-shown_filled (Filled-as-Bytes n) = written n
-shown_filled (Filled-as-Refused n) = unfilled n
+-- What a call answers: one of these, or its refusal.
+abbrev pub Answered : Type 0
+Answered = Result AnswerValue Refusal
+
+-- The answer of the rules for it.
+abbrev pub shown : Answered → Answer cabinet
+shown (Ok a) = said a
+shown (Err r) = refused (number r)
+
+-- The answer of the rules for what a call that fills lent bytes answers: how many were written, or a refusal.
+abbrev pub shown_filled : Result ℕ Refusal → Filling
+shown_filled (Ok n) = written n
+shown_filled (Err r) = unfilled (number r)
 
 -- A call on an image answered a and left the image behind.
-pub record Done (c : Call cabinet) (before : Image) (a : AnswerValue) (behind : Image) : Type 0 where
+pub record Done (c : Call cabinet) (before : Image) (a : Answered) (behind : Image) : Type 0 where
   pub answers : shown a ≡ answer c before
   pub leaves : behind ≡ next c before

@@ -25,17 +25,10 @@ pub enum Call {
     Load(Card),
 }
 
-// The answers of calls that fill lent bytes: how many were written, or a refusal's number.
-#[derive(Clone, Copy)]
-pub enum Filled {
-    Bytes(u16),
-    Refused(u8),
-}
-
-// The answers. A refusal is its number in the table (RULES, "Refusals").
+// The answers of a call that is not refused.
 #[derive(Clone, Copy)]
 pub enum Answer {
-    Ok,
+    Accepted,
     Value(u16),
     Absent,
     Placed(u8),
@@ -46,5 +39,4 @@ pub enum Answer {
     Protected,
     Unprotected,
     Loaded(u16),
-    Refused(u8),
 }

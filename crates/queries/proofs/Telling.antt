@@ -25,29 +25,35 @@ use Rattle.cabinet_rules.specs.Cabinet.{tran_ok}
 use Rattle.trail.specs.Trail.{Lists}
 use Rattle.trail.specs.declared.Holders.{Holders}
 use Rattle.trail.proofs.Listed.{none-listed, some-listed}
-use Rattle.queries.specs.declared.Told.{Told}
-use Rattle.queries.specs.declared.Told.TheVariants.{None, Number, Refused}
-use Rattle.queries.specs.Queries.{cards_in, first_told, free_from, free_in, if_in_range, mask_of_nth, told_home, told_of, unless_row}
+use Rattle.std.specs.Prelude.{Option, Result}
+use Rattle.refusals.specs.Refusals.{number}
+use Rattle.refusals.specs.declared.Refusal.{Refusal}
+use Rattle.refusals.proofs.HandedOn.{HandsOn, handed-on}
+use Rattle.refusals.proofs.Numbers.{not-none}
+use Rattle.queries.specs.Queries.{Told, tells, tells_none, not_told, shown_told, cards_in, first_told, free_from, free_in, if_in_range, mask_of_nth, told_home, told_of, unless_row}
 use Rattle.queries.specs.declared.Query.{Query}
 use Rattle.queries.specs.declared.Query.TheVariants.{Failed, FreeTransaction, Home, Placement as Query-as-Placement, PlacementCount}
 use Rattle.queries.specs.declared.Query.TheVariants.{Stopped, Working}
 
 -- ---- refused, or told
-pub refused-by : (n row : ℕ) (t : Told) → n ≡ row → n ≢ 0 → Refused n ≡ unless_row row t
-refused-by zero row t e d = absurd (d refl)
-refused-by (suc n) row t e d = rw (sym e)
+pub refused-by : (r : Refusal) (a : Result (Option ℕ) Refusal) (row : ℕ) (t : Told) → number r ≡ row → HandsOn r a → shown_told a ≡ unless_row row t
+refused-by r a row t e h = ap shown_told (handed-on a h) ∙ go (number r) e (not-none r)
+  where
+    go : (n : ℕ) → n ≡ row → n ≢ 0 → not_told n ≡ unless_row row t
+    go zero e d = absurd (d refl)
+    go (suc n) e d = rw (sym e)
 
-pub told-by : (n row : ℕ) (r t : Told) → n ≡ row → n ≡ 0 → r ≡ t → r ≡ unless_row row t
-told-by n row r t e z same = rw (sym e ∙ z) same
+pub told-by : (row : ℕ) (r t : Told) → 0 ≡ row → r ≡ t → r ≡ unless_row row t
+told-by row r t e same = rw (sym e) same
 
 -- ---- active placements
 -- number i of the first n that f gives
-nth-mask : (f : ℕ → Placement) (n i : ℕ) → i < n → mask_of_nth (placements_in f n) i ≡ Number (f i).mask.0
+nth-mask : (f : ℕ → Placement) (n i : ℕ) → i < n → mask_of_nth (placements_in f n) i ≡ tells (f i).mask.0
 nth-mask f zero i h = absurd (omega arith)
 nth-mask f (suc n) zero h = refl
 nth-mask f (suc n) (suc i) h = nth-mask (λ i. f (suc i)) n i (omega arith)
 
-past-masks : (f : ℕ → Placement) (n i : ℕ) → n ≤ i → mask_of_nth (placements_in f n) i ≡ None
+past-masks : (f : ℕ → Placement) (n i : ℕ) → n ≤ i → mask_of_nth (placements_in f n) i ≡ tells_none
 past-masks f zero i h = refl
 past-masks f (suc n) zero h = absurd (omega arith)
 past-masks f (suc n) (suc i) h = past-masks (λ i. f (suc i)) n i (omega arith)
@@ -61,21 +67,21 @@ module _ (k : Control) (w : Counted k) where
   count-told = sym (ap length all-active ∙ length-placements (placement_in k) k.count)
 
   -- number i, of those that count
-  pub mask-told : (i : ℕ) → i < k.count → get_or k.masks i 0 < 256 → Number (get_or k.masks i 0) ≡ mask_of_nth (active (meaning k)) i
+  pub mask-told : (i : ℕ) → i < k.count → get_or k.masks i 0 < 256 → tells (get_or k.masks i 0) ≡ mask_of_nth (active (meaning k)) i
   mask-told i h small =
-      ap (λ (n : ℕ). Number n) (sym (mod-eq_of_lt small))
+      ap (λ (n : ℕ). tells n) (sym (mod-eq_of_lt small))
       ∙ sym (ap (λ (l : List Placement). mask_of_nth l i) all-active ∙ nth-mask (placement_in k) k.count i h)
 
-  pub none_told : (i : ℕ) → k.count ≤ i → None ≡ mask_of_nth (active (meaning k)) i
+  pub none_told : (i : ℕ) → k.count ≤ i → tells_none ≡ mask_of_nth (active (meaning k)) i
   none_told i h =
       sym (ap (λ (l : List Placement). mask_of_nth l i) all-active ∙ past-masks (placement_in k) k.count i h)
 
 -- ---- the home of a transaction, by its byte
 module _ (t n : ℕ) (known : tran_ok t ≡ true) where
-  pub home-told : open_bit ≤ n → Number (n / field % field_bound) ≡ if_in_range (tran_ok t) (told_home (home_of t n))
+  pub home-told : open_bit ≤ n → tells (n / field % field_bound) ≡ if_in_range (tran_ok t) (told_home (home_of t n))
   home-told h = rw (known, le-leb open_bit n h)
 
-  pub no-home-told : n < open_bit → None ≡ if_in_range (tran_ok t) (told_home (home_of t n))
+  pub no-home-told : n < open_bit → tells_none ≡ if_in_range (tran_ok t) (told_home (home_of t n))
   no-home-told h = rw (known, lt-leb open_bit n h)
 
 -- ---- the lowest free transaction
@@ -102,15 +108,15 @@ module _ (k : Part) where
 
 -- ---- the holders of a block
 module _ (h : Holders) {l : List ℕ} (lists : Lists h l) where
-  pub first-none : h.cards ≡ 0 → None ≡ first_told l
+  pub first-none : h.cards ≡ 0 → tells_none ≡ first_told l
   first-none z = ap first_told (sym (none-listed lists z))
 
-  pub first_some : h.cards < 256 → h.cards ≢ 0 → Number h.first.0 ≡ first_told l
+  pub first_some : h.cards < 256 → h.cards ≢ 0 → tells h.first.0 ≡ first_told l
   first_some small d = go l lists.first-is (some-listed lists small d)
     where
-      go : (l : List ℕ) → h.first.0 ≡ get_or l 0 0 → l ≢ [] → Number h.first.0 ≡ first_told l
+      go : (l : List ℕ) → h.first.0 ≡ get_or l 0 0 → l ≢ [] → tells h.first.0 ≡ first_told l
       go [] e d = absurd (d refl)
-      go (c ∷ l) e d = ap (λ (n : ℕ). Number n) e
+      go (c ∷ l) e d = ap (λ (n : ℕ). tells n) e
 
   pub cards-told : size (byte h.cards) ≡ cards_in l
   unfolding size
@@ -129,9 +135,9 @@ free-front k t (suc n) = ap (λ (x : ℕ). cond (is_open k t) x t) (free-front k
 pub told-front : (q : Query) (k : Part) → told_of q (front_part k) ≡ told_of q k
 unfolding told_of free_in
 told-front Stopped k = refl
-told-front PlacementCount k = ap (λ (n : ℕ). Number n) (ap length (sym (active-front k)) ∙ length-map (active k) pairless)
+told-front PlacementCount k = ap (λ (n : ℕ). tells n) (ap length (sym (active-front k)) ∙ length-map (active k) pairless)
 told-front (Query-as-Placement i) k = ap (if_in_range (ltb i most_active)) (ap (λ (l : List Placement). mask_of_nth l i) (sym (active-front k)) ∙ masks-front (active k) i)
 told-front Working k = refl
 told-front Failed k = refl
 told-front (Home t) k = refl
-told-front FreeTransaction k = ap (λ (n : ℕ). Number n) (free-front k 1 tran_count)
+told-front FreeTransaction k = ap (λ (n : ℕ). tells n) (free-front k 1 tran_count)

@@ -18,9 +18,14 @@ use Rattle.control_form.specs.ControlForm.{control_form, form_rows}
 use Rattle.cabinet_rules.specs.Cabinet.{cabinet, tran_ok}
 use Rattle.cabinet_rules.specs.Delivery.{storable}
 use Rattle.cabinet_rules.specs.Images.{Image, Writes, control_in, refusal_by, refusal_on, state_in}
-use Rattle.promise.specs.Promise.{Done, shown}
+use Rattle.promise.specs.Promise.{Done}
+use Rattle.promise.specs.Promise.{said}
 use Rattle.promise.specs.declared.Answer.{Answer as AnswerValue}
-use Rattle.promise.specs.declared.Answer.TheVariants.{Absent, Ok, Refused}
+use Rattle.promise.specs.declared.Answer.TheVariants.{Absent, Accepted}
+use Rattle.std.specs.Prelude.{Result, Ok}
+use Rattle.refusals.specs.Refusals.{number}
+use Rattle.refusals.specs.declared.Refusal.{Refusal}
+use Rattle.refusals.proofs.HandedOn.{HandsOn, handed-on}
 use Rattle.promise.proofs.Finish.{by_blocks, by-look, by_row, form-long}
 use Rattle.promise.specs.Laid.{laid}
 use Rattle.trail.specs.Trail.{holders_in}
@@ -33,15 +38,17 @@ use Rattle.records.proofs.Rows.{rec-lt, tran-lt}
 use Rattle.records.proofs.Values.{with-table}
 
 -- ---- refused
-module _ (g : Image) (t r : ℕ) (m : ℕ) (e : m ≡ refusal_on (get t r) g) (d : m ≢ 0) where
-  pub get_refused : Done (get t r) g (Refused m) g
-  get_refused = by_row (get t r) g m e d
+module _ (g : Image) (t r : ℕ) (x : Refusal) (e : number x ≡ refusal_on (get t r) g) (a : Result AnswerValue Refusal) (h : HandsOn x a) where
+  pub get_refused : Done (get t r) g a g
+  get_refused = rw (handed-on a h) (by_row (get t r) g x e)
 
-  pub delete-refused : Done (delete t r) g (Refused m) g
-  delete-refused = by_row (delete t r) g m (e ∙ unfold refusal_by in (ap (form_rows false (control_form g) g) (delete-rows (control_in g) (look cabinet (state_in g)) t r))) d
+  pub delete-refused : Done (delete t r) g a g
+  delete-refused = rw (handed-on a h)
+      (by_row (delete t r) g x (e ∙ unfold refusal_by in (ap (form_rows false (control_form g) g) (delete-rows (control_in g) (look cabinet (state_in g)) t r))))
 
-pub store-refused : (g : Image) (t r n m l : ℕ) → m ≡ with_value (storable n) l → l ≡ refusal_on (get t r) g → m ≢ 0 → Done (store t r n) g (Refused m) g
-store-refused g t r n m l e is d = by_row (store t r n) g m (e ∙ ap (with_value (storable n)) is ∙ with-table g t r n) d
+pub store-refused : (g : Image) (t r n : ℕ) (x : Refusal) (l : ℕ) → number x ≡ with_value (storable n) l → l ≡ refusal_on (get t r) g
+    → (a : Result AnswerValue Refusal) → HandsOn x a → Done (store t r n) g a g
+store-refused g t r n x l e is a h = rw (handed-on a h) (by_row (store t r n) g x (e ∙ ap (with_value (storable n)) is ∙ with-table g t r n))
 
 -- ---- accepted
 module _ (g : Image) (t r : ℕ) (a : Access) (ready : Prepared g t r a) where
@@ -59,23 +66,23 @@ module _ (g : Image) (t r : ℕ) (a : Access) (ready : Prepared g t r a) where
   rec-fits = rec-lt t r ranges
 
   -- get: what is read
-  pub get-done : (s : Entry) (x : AnswerValue) → state_of s ≡ read_by t (seen_in g r) → shown x ≡ reply cabinet (state_of s) → Done (get t r) g x g
+  pub get-done : (s : Entry) (x : AnswerValue) → state_of s ≡ read_by t (seen_in g r) → said x ≡ reply cabinet (state_of s) → Done (get t r) g (Ok x) g
   get-done s x e f = by-look (get t r) refl g ready.formed x ready.accepted
       (unfold act in (ap (λ (y : Answer cabinet). unwritten cabinet y (control_in g)) (sym (f ∙ ap (reply cabinet) e))))
 
   -- store: a new block, or the holders' slots
   store-done : (n : ℕ) → storable n ≡ true → (w : Writes) (behind : Image) → store_writes cabinet (control_in g) (look cabinet (state_in g)) t r n (holders_in g (r / slot_count)) ≡ w
-      → behind ≡ laid w g → Done (store t r n) g Ok behind
-  store-done n h w behind e l = by_blocks (store t r n) refl g ready.formed Ok w behind (ready.accepted ∙ store-rows (control_in g) (look cabinet (state_in g)) t r n h)
+      → behind ≡ laid w g → Done (store t r n) g (Ok Accepted) behind
+  store-done n h w behind e l = by_blocks (store t r n) refl g ready.formed Accepted w behind (ready.accepted ∙ store-rows (control_in g) (look cabinet (state_in g)) t r n h)
       (unfold act in (ap (writing cabinet ok (control_in g)) e)) l
 
   pub store-new : (n : ℕ) → storable n ≡ true → (behind : Image) → a.holders.cards ≡ 0
-      → behind ≡ laid (lay_block cabinet (control_in g) t r (some n)) g → Done (store t r n) g Ok behind
+      → behind ≡ laid (lay_block cabinet (control_in g) t r (some n)) g → Done (store t r n) g (Ok Accepted) behind
   store-new n h behind z l = store-done n h (lay_block cabinet (control_in g) t r (some n)) behind
       (ap (store_writes cabinet (control_in g) (look cabinet (state_in g)) t r n) (none-listed ready.holders-are z)) l
 
   pub store-held : (n : ℕ) → storable n ≡ true → (behind : Image) → a.holders.cards < 256 → a.holders.cards ≢ 0
-      → behind ≡ laid (lock_holders cabinet (control_in g) (look cabinet (state_in g)) t r (some n)) g → Done (store t r n) g Ok behind
+      → behind ≡ laid (lock_holders cabinet (control_in g) (look cabinet (state_in g)) t r (some n)) g → Done (store t r n) g (Ok Accepted) behind
   store-held n h behind small d l = store-done n h (lock_holders cabinet (control_in g) (look cabinet (state_in g)) t r (some n)) behind
       (go (holders_in g (r / slot_count)) (some-listed ready.holders-are small d)) l
     where
@@ -100,10 +107,10 @@ module _ (g : Image) (t r : ℕ) (a : Access) (ready : Prepared g t r a) where
       go true = refl
       go false = refl
 
-  pub delete-absent : (s : Entry) → state_of s ≡ read_by t (seen_in g r) → s.present ≡ false → Done (delete t r) g Absent g
+  pub delete-absent : (s : Entry) → state_of s ≡ read_by t (seen_in g r) → s.present ≡ false → Done (delete t r) g (Ok Absent) g
   delete-absent s e p = by-look (delete t r) refl g ready.formed Absent (ready.accepted ∙ delete-rows (control_in g) (look cabinet (state_in g)) t r) (delete-plan s false e p)
 
   pub delete-done : (s : Entry) (behind : Image) → state_of s ≡ read_by t (seen_in g r) → s.present ≡ true
-      → behind ≡ laid (lock_holders cabinet (control_in g) (look cabinet (state_in g)) t r none) g → Done (delete t r) g Ok behind
-  delete-done s behind e p l = by_blocks (delete t r) refl g ready.formed Ok (lock_holders cabinet (control_in g) (look cabinet (state_in g)) t r none) behind
+      → behind ≡ laid (lock_holders cabinet (control_in g) (look cabinet (state_in g)) t r none) g → Done (delete t r) g (Ok Accepted) behind
+  delete-done s behind e p l = by_blocks (delete t r) refl g ready.formed Accepted (lock_holders cabinet (control_in g) (look cabinet (state_in g)) t r none) behind
       (ready.accepted ∙ delete-rows (control_in g) (look cabinet (state_in g)) t r) (delete-plan s true e p) l

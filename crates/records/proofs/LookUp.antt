@@ -11,17 +11,20 @@ use Rattle.method.specs.Rules.{View, delete, get, refusal, row, store}
 use Rattle.method.proofs.Refusals.{row-3}
 use Rattle.control.specs.ControlBytes.{Part}
 use Rattle.control.specs.Meaning.{meaning}
-use Rattle.control_form.specs.Reading.{Reads}
-use Rattle.control_form.specs.declared.Found.{Found}
+use Rattle.control.specs.declared.Control.{Control as Struct}
+use Rattle.std.specs.Prelude.{Result, Ok, Err}
+use Rattle.refusals.specs.Refusals.{number}
+use Rattle.refusals.specs.declared.Refusal.{Refusal}
+use Rattle.refusals.proofs.HandedOn.{HandsOn, handed-on}
 use Rattle.cabinet_rules.specs.Cabinet.{cabinet, tran_ok}
 use Rattle.cabinet_rules.specs.Delivery.{storable}
 use Rattle.cabinet_rules.specs.Images.{Image, control_in, refusal_on}
 use Rattle.promise.specs.Given.{Given, rows_on}
-use Rattle.promise.proofs.Finish.{given, refusal-rules}
+use Rattle.promise.proofs.Finish.{refusal-rules}
 use Rattle.trail.specs.Trail.{Lists, holders_in}
 use Rattle.trail.specs.declared.Holders.{Holders}
 use Rattle.trail.proofs.Holding.{newest-last, usable_at}
-use Rattle.records.specs.Access.{IsNewest, LooksUp, early_rows}
+use Rattle.records.specs.Access.{IsNewest, LooksUp, Prepared, early_rows}
 use Rattle.records.specs.Slots.{locked_out_in}
 use Rattle.records.specs.declared.access.Access.{Access}
 use Rattle.records.proofs.Rows.{rec-lt}
@@ -49,18 +52,18 @@ rows-clear true false false below e = absurd (omega arith)
 rows-clear true false true below e = refl
 
 module _ (g : Image) (t r : ℕ) where
-  pub refused-up : (a : Access) (n : ℕ) → a.refusal ≡ n → n ≢ 0 → n ≡ refusal_on (get t r) g → LooksUp g t r a
-  refused-up a n e d is = record { refusal_is = e ∙ is; ready = λ z. absurd (d (sym e ∙ z)) }
+  pub refused-up : (x : Refusal) → number x ≡ refusal_on (get t r) g → LooksUp g t r (Err x)
+  refused-up x e = record { refusal_is = e; ready = tt }
 
-  module _ (f : Found) (reads : Reads g f) (z : f.refusal ≡ 0) (n : ℕ) (e : n ≡ early_rows (meaning f.control) t r) where
-    is-given : Given f.control g
-    is-given = given reads z
+  pub handed-up : (x : Refusal) (a : Result Access Refusal) → number x ≡ refusal_on (get t r) g → HandsOn x a → LooksUp g t r a
+  handed-up x a e h = rw (handed-on a h) (refused-up x e)
 
+  module _ {k : Struct} (is-given : Given k g) {n : ℕ} (e : n ≡ early_rows (meaning k) t r) where
     whole-table : rows_on (get t r) g ≡ refusal_on (get t r) g
     whole-table = sym (refusal-rules (get t r) refl g is-given.formed)
 
     early-is : n ≡ early_rows (control_in g) t r
-    early-is = e ∙ ap (λ (k : Part). early_rows k t r) is-given.is.means
+    early-is = e ∙ ap (λ (p : Part). early_rows p t r) is-given.is.means
 
     pub early-row : n ≢ 0 → n ≡ refusal_on (get t r) g
     early-row d =
@@ -82,24 +85,28 @@ module _ (g : Image) (t r : ℕ) where
       pub locked-row : locked_out_in g t r ≡ true → 7 ≡ refusal_on (get t r) g
       locked-row l = late-row true l ∙ whole-table
 
-      newest-shown : IsNewest g (f.control.count - 1)
+      newest-shown : IsNewest g (k.count - 1)
       newest-shown = record {
         there = omega (arith, is-given.is.counted.few, is-given.is.counted.some);
-        usable = usable_at f.control g is-given (f.control.count - 1) (omega (arith, is-given.is.counted.some));
-        is = newest-last f.control g is-given;
+        usable = usable_at k g is-given (k.count - 1) (omega (arith, is-given.is.counted.some));
+        is = newest-last k g is-given;
       }
 
-      pub ready_up : (a : Access) → locked_out_in g t r ≡ false → a.refusal ≡ 0 → a.newest ≡ f.control.count - 1
-          → Lists a.holders (holders_in g (r / slot_count)) → LooksUp g t r a
-      ready_up a l is new held = record {
-        refusal_is = is ∙ late-row false l ∙ whole-table;
-        ready = λ y. record {
+      pub ready_up : (a : Access) → locked_out_in g t r ≡ false → a.newest ≡ k.count - 1
+          → Lists a.holders (holders_in g (r / slot_count)) → LooksUp g t r (Ok a)
+      ready_up a l new held = record {
+        refusal_is = late-row false l ∙ whole-table;
+        ready = record {
           formed = is-given.formed;
           accepted = late-row false l;
           newest-is = subst (IsNewest g) (sym new) newest-shown;
           holders-are = held;
         };
       }
+
+-- what was looked up and is no refusal
+pub prepared : {g : Image} {t r : ℕ} {x : Result Access Refusal} {a : Access} → LooksUp g t r x → x ≡ Ok a → Prepared g t r a
+prepared {g} {t} {r} l e = (subst (LooksUp g t r) e l).ready
 
 -- the holders of a block that has another name
 pub lists_at : (g : Image) (h : Holders) {b d : ℕ} → b ≡ d → Lists h (holders_in g b) → Lists h (holders_in g d)

@@ -1,5 +1,7 @@
 -- What a call on a record finds before it reads or writes. Assumes nothing.
-use Rattle.std.specs.Prelude.{◌/◌, ◌<◌, ℕ, eqb, ltb, Bool, ◌&&◌, cond, not, ◌≡◌}
+use Rattle.std.specs.Prelude.{Result, IfOk, ◌/◌, ◌<◌, ℕ, eqb, ltb, Bool, ◌&&◌, cond, not, ◌≡◌}
+use Rattle.refusals.specs.Refusals.{row_of}
+use Rattle.refusals.specs.declared.Refusal.{Refusal}
 use Rattle.image.specs.Layout.{most_active, record_count, slot_count}
 use Rattle.mask.specs.Placements.{Usable}
 use Rattle.method.specs.ControlPart.{is_open}
@@ -33,9 +35,9 @@ pub record Prepared (g : Image) (t r : ℕ) (a : Access) : Type 0 where
   pub holders-are : Lists a.holders (holders_in g (r / slot_count))
 
 -- The row of the refusal table that applies to a get of the record, or else what it goes on with.
-pub record LooksUp (g : Image) (t r : ℕ) (a : Access) : Type 0 where
-  pub refusal_is : a.refusal ≡ refusal_on (get t r) g
-  pub ready : a.refusal ≡ 0 → Prepared g t r a
+pub record LooksUp (g : Image) (t r : ℕ) (a : Result Access Refusal) : Type 0 where
+  pub refusal_is : row_of a ≡ refusal_on (get t r) g
+  pub ready : IfOk a (Prepared g t r)
 
 -- The refusal of a store, from that of a get of the record: where the value is not in range 3 applies too, and the lowest
 -- number is returned.

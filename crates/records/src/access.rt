@@ -1,5 +1,6 @@
 // What every call on a record asks first: rows 1 to 5 and 7 of the refusal table, and the holders of its block.
-ghost use Rattle.std.specs.Prelude.{◌≡◌};
+ghost use Rattle.std.specs.Prelude.{◌≡◌, IfOk, Ok};
+ghost use Rattle.refusals.specs.Refusals.{row_of};
 ghost use Rattle.control.specs.Meaning.{meaning};
 ghost use Rattle.cabinet_rules.specs.Delivery.{storable};
 ghost use Rattle.promise.specs.Given.{Given};
@@ -7,6 +8,7 @@ ghost use Rattle.records.specs.Access.{LooksUp, early_rows, with_value};
 
 use control::Control;
 use image::{Rec, Tran};
+use refusals::Refusal;
 use trail::Holders;
 
 // Records 0 to 511.
@@ -15,76 +17,56 @@ const RECORD_COUNT: usize = image::BLOCK_COUNT * image::SLOT_COUNT;
 // New feeder drives read this value as a broken wire; store takes the values below it.
 const BROKEN_WIRE: u16 = 65535;
 
-// A row of the refusal table, or else 0 with the newest placement, by its number, and the holders of the record's block.
+// What a call on a record goes on with: the newest placement, by its number, and the holders of the record's block.
 #[derive(Clone, Copy)]
 pub struct Access {
-    pub refusal: u8,
     pub newest: usize,
     pub holders: Holders,
 }
 
-// Refused.
-fn refused(refusal: u8) -> Access
-    ensures { result.refusal ≡ refusal }
-{
-    Access {
-        refusal: refusal,
-        newest: 0,
-        holders: Holders {
-            first: image::Card(0),
-            cards: 0,
-        },
-    }
-}
-
 // Rows 3, 4 and 5.
-fn early_rows(image: &[u8], k: Control, tran: Tran, rec: Rec) -> u8
+fn check(image: &[u8], k: Control, tran: Tran, rec: Rec) -> Result<(), Refusal>
     requires { Given k image.now }
-    ensures { result ≡ early_rows (meaning k) tran.0 rec.0 }
+    ensures { row_of result ≡ early_rows (meaning k) tran.0 rec.0 }
 {
     if rec.0 as usize >= RECORD_COUNT {
-        return 3;
+        return Err(Refusal::Range);
     }
-    promise::rows::tran_refusal(image, k, tran)
+    promise::rows::check_tran(image, k, tran)
 }
 
 // The record's rows and holders.
-pub fn look_up(image: &[u8], tran: Tran, rec: Rec) -> Access
+pub fn look_up(image: &[u8], tran: Tran, rec: Rec) -> Result<Access, Refusal>
     ensures { LooksUp image.now tran.0 rec.0 result }
 {
-    let found = control_form::read(image);
-    if found.refusal != 0 {
-        return refused(found.refusal);
-    }
-    let k = found.control;
-    let early = early_rows(image, k, tran, rec);
-    if early != 0 {
-        return refused(early);
-    }
+    let k = control_form::read(image)?;
+    check(image, k, tran, rec)?;
     let holders = trail::find(image, k, crate::slots::block_of(rec));
     if crate::slots::locked_out(image, holders, tran, rec) {
-        return refused(7);
+        return Err(Refusal::Locked);
     }
-    Access {
-        refusal: 0,
+    Ok(Access {
         newest: (k.count - 1) as usize,
         holders: holders,
-    }
+    })
 }
 
-// The refusal of a store, from that of a get of the record: a value out of range is one row more, 3, and the lowest
+// What a store goes on with, from what a get of the record does: a value out of range is one row more, 3, and the lowest
 // number applies.
-pub fn with_value(refusal: u8, value: u16) -> u8
-    ensures { result ≡ with_value (storable value) refusal }
+pub fn with_value(found: Result<Access, Refusal>, value: u16) -> Result<Access, Refusal>
+    ensures row { row_of result ≡ with_value (storable value) (row_of found) }
+    ensures same { IfOk result (λ a. found ≡ Ok a) }
 {
     if value < BROKEN_WIRE {
-        return refusal;
+        return found;
     }
-    if refusal == 0 {
-        return 3;
+    match found {
+        Ok(_) => Err(Refusal::Range),
+        Err(refusal) => {
+            if refusal.number() < Refusal::Range.number() {
+                return found;
+            }
+            Err(Refusal::Range)
+        }
     }
-    if refusal < 3 {
-        return refusal;
-    }
-    3
 }

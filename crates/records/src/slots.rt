@@ -9,7 +9,7 @@ ghost use Rattle.method.specs.Rules.{lay_block, lock_holders, look, reply};
 ghost use Rattle.method.specs.Slots.{locked_by_other, read_by};
 ghost use Rattle.cabinet_rules.specs.Cabinet.{cabinet};
 ghost use Rattle.cabinet_rules.specs.Images.{block_in, control_in, state_in};
-ghost use Rattle.promise.specs.Promise.{shown};
+ghost use Rattle.promise.specs.Promise.{said};
 ghost use Rattle.promise.specs.Laid.{laid};
 ghost use Rattle.trail.specs.Trail.{Lists, holders_in};
 ghost use Rattle.records.specs.Slots.{locked_at, locked_out_in, rules_slot, seen_in};
@@ -102,7 +102,7 @@ pub fn read_first(image: &[u8], holders: Holders, tran: Tran, rec: Rec) -> Entry
 
 // A value, or absent.
 pub fn reply(state: Entry) -> Answer
-    ensures { shown result ≡ reply cabinet (state_of state) }
+    ensures { said result ≡ reply cabinet (state_of state) }
 {
     if state.present {
         return Answer::Value(state.value);

@@ -80,9 +80,9 @@ module _ (g : Image) (c b : ℕ) where
       )
 
 -- the same, from the code's tests of the block that it was lent: a part of the image
-module _ (k : Control) (g : Image) (is : Given k g) (c b : ℕ) (hb : b < block_count) (n : ℕ) (e : n ≡ card_rows (meaning k) c) (z : n ≡ 0) where
+module _ (k : Control) (g : Image) (is : Given k g) (c b : ℕ) (hb : b < block_count) (e : 0 ≡ card_rows (meaning k) c) where
   card-clear : 0 ≡ card_rows (control_in g) c
-  card-clear = sym z ∙ e ∙ card-given is c
+  card-clear = e ∙ card-given is c
 
   pub copy-card : c < card_count
   copy-card = (card-accepted (control_in g) c card-clear).0

@@ -21,6 +21,7 @@ use Rattle.control.specs.declared.Control.{Control}
 use Rattle.cabinet_rules.specs.Cabinet.{cabinet}
 use Rattle.cabinet_rules.specs.Images.{Image, Writes, block_in, control_in}
 use Rattle.promise.specs.Given.{Given, rows_on, view_of}
+use Rattle.std.specs.Prelude.{Ok}
 use Rattle.promise.specs.Promise.{Done}
 use Rattle.promise.specs.declared.Answer.TheVariants.{Copied}
 use Rattle.promise.proofs.Finish.{by_blocks, form-good, given-whole}
@@ -75,7 +76,7 @@ module _ (k : Control) (g : Image) (is : Given k g) (c b : ℕ) (ok : 0 ≡ rows
   pub move-done : (stays : Bool) (x : List ℕ) (n : ℕ) (out : Image) → stays ≡ has_card (byte m) c → x ≡ block_at g c b
       → n ≡ count_not (holds_at g (byte k.working) b) (members (byte m))
       → (let l = put_each b x (lacking (holds_at g (byte k.working) b) (members (byte m))) g in out ≡ cond stays l (put_block l c b (zeros block_size)))
-      → Done (move c b) g (Copied n) out
+      → Done (move c b) g (Ok (Copied n)) out
   unfolding act
   move-done stays x n out s e count o =
       by_blocks (move c b) refl g is.formed (Copied n) (move_writes cabinet (control_in g) (view_of g) c b) out ok

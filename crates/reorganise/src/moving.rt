@@ -1,8 +1,9 @@
 // What a move refuses and what it writes.
-ghost use Rattle.std.specs.Prelude.{◌≡◌, cond, not, ◌<◌, ◌≤◌};
+ghost use Rattle.std.specs.Prelude.{Ok, ◌≡◌, cond, not, ◌<◌, ◌≤◌};
 ghost use Rattle.lists.specs.Tests.{one_if};
 ghost use Rattle.image.specs.Layout.{block_count, card_count};
 ghost use Rattle.image.specs.Parts.{Whole, put_block};
+ghost use Rattle.refusals.specs.Refusals.{row_of};
 ghost use Rattle.method.specs.Rules.{move};
 ghost use Rattle.promise.specs.Given.{Given, rows_on};
 ghost use Rattle.promise.specs.Promise.{Done};
@@ -11,28 +12,26 @@ ghost use Rattle.promise.specs.declared.Answer.{Answer};
 use crate::looking;
 use control::Control;
 use image::{BLOCK_COUNT, Block, Card};
+use refusals::Refusal;
 
 // Rows 3, 4, 8, 11 and 12.
-pub fn refusal(image: &[u8], k: Control, card: Card, block: Block) -> u8
+pub fn check(image: &[u8], k: Control, card: Card, block: Block) -> Result<(), Refusal>
     requires { Given k image.now }
-    ensures { result ≡ rows_on (move card.0 block.0) image.now }
+    ensures { row_of result ≡ rows_on (move card.0 block.0) image.now }
 {
     if block.0 as usize >= BLOCK_COUNT {
-        return 3;
+        return Err(Refusal::Range);
     }
-    let on_card = promise::rows::card_refusal(k, card);
-    if on_card != 0 {
-        return on_card;
-    }
+    promise::rows::check_card(k, card)?;
     let start = image::block_address(card, block);
     let end = start + image::BLOCK_SIZE;
     if !slot::block::is_held(&image[start..end]) {
-        return 11;
+        return Err(Refusal::NotHeld);
     }
     if slot::block::any_locked(&image[start..end]) {
-        return 12;
+        return Err(Refusal::CopyLocked);
     }
-    0
+    Ok(())
 }
 
 // A card that lacks the block gets these bytes, by the block writer, and counts as one; one that has it keeps its own.
@@ -53,7 +52,7 @@ fn fill(image: &mut [u8], has: bool, card: Card, block: Block, bytes: [u8; image
 pub fn spread(image: &mut [u8], k: Control, card: Card, block: Block) -> u8
     requires given { Given k image.old }
     requires value { 0 ≡ rows_on (move card.0 block.0) image.old }
-    ensures { Done (move card.0 block.0) image.old (Answer.Copied result) image.new }
+    ensures { Done (move card.0 block.0) image.old (Ok (Answer.Copied result)) image.new }
 {
     let sites = looking::newest_sites(image, k, block);
     let working = k.working;

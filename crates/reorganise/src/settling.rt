@@ -2,6 +2,7 @@
 ghost use Rattle.std.specs.Prelude.{◌≡◌, length};
 ghost use Rattle.image.specs.Layout.{block_count};
 ghost use Rattle.mask.specs.SiteMasks.{SitesIn};
+ghost use Rattle.refusals.specs.Refusals.{row_of};
 ghost use Rattle.method.specs.ControlPart.{only_newest};
 ghost use Rattle.method.specs.Rules.{settle, settled};
 ghost use Rattle.control.specs.ControlBytes.{tail_byte};
@@ -15,6 +16,7 @@ use control::Control;
 use control::codec::RAIL_WEIGHT;
 use image::{BLOCK_COUNT, Block};
 use mask::site_masks::next_place;
+use refusals::Refusal;
 
 // Whether every block lies where the newest placement has it: one pass over the working cards' tables, two blocks at a
 // time, beside the masks of the newest sites.
@@ -51,17 +53,17 @@ fn settled(image: &[u8], k: Control) -> bool
 }
 
 // Rows 4 and 13.
-pub fn refusal(image: &[u8], k: Control) -> u8
+pub fn check(image: &[u8], k: Control) -> Result<(), Refusal>
     requires { Given k image.now }
-    ensures { result ≡ rows_on settle image.now }
+    ensures { row_of result ≡ rows_on settle image.now }
 {
     if k.stopped {
-        return 4;
+        return Err(Refusal::Stopped);
     }
     if !settled(image, k) {
-        return 13;
+        return Err(Refusal::Unsettled);
     }
-    0
+    Ok(())
 }
 
 // The bytes behind the tables become those of the newest placement alone. Where no placement is by table they are zero

@@ -2,6 +2,7 @@
 #![tactic(auto)]
 
 ghost use Rattle.std.specs.Prelude.{◌≡◌, ◌<◌};
+ghost use Rattle.refusals.specs.Refusals.{row_of};
 ghost use Rattle.image.specs.Layout.{card_count};
 ghost use Rattle.method.specs.Returning.{can_run};
 ghost use Rattle.control.specs.Meaning.{Counted, meaning};
@@ -14,32 +15,33 @@ use control::{Control, codec, stamps};
 use image::Card;
 use mask::Placement;
 use promise::Answer;
+use refusals::Refusal;
 
 // The set of all locks, 1 to 15.
 const EVERY_LOCK: u16 = 0xfffe;
 
 // Rows 3, 8 and 19. A card is stale if its stamp is not the newest placement's, or if this does not name it.
-fn refusal(image: &[u8], k: Control, card: Card) -> u8
+fn check(image: &[u8], k: Control, card: Card) -> Result<(), Refusal>
     requires { Given k image.now }
-    ensures { result ≡ return_rows_on card.0 image.now }
+    ensures { row_of result ≡ return_rows_on card.0 image.now }
 {
     if card.0 >= Placement::MOST_CARDS {
-        return 3;
+        return Err(Refusal::Range);
     }
     if !k.stopped {
-        return 8;
+        return Err(Refusal::Card);
     }
     let newest = k.newest_mask();
     if !mask::has(k.failed, card) {
-        return 8;
+        return Err(Refusal::Card);
     }
     if !stamps::is_current(image, card, k.serial, newest) {
-        return 19;
+        return Err(Refusal::Stale);
     }
     if !mask::has(newest, card) {
-        return 19;
+        return Err(Refusal::Stale);
     }
-    0
+    Ok(())
 }
 
 // Whether a store with this control part can run: all members of the newest placement work, and no active placement is
@@ -67,18 +69,11 @@ fn rejoin(image: &mut [u8], k: Control, card: Card)
 }
 
 // The card works again. A return that is taken answers ok, whether or not the store then runs.
-pub fn return_card(image: &mut [u8], card: Card) -> Answer
+pub fn return_card(image: &mut [u8], card: Card) -> Result<Answer, Refusal>
     ensures { ReturnDone card.0 image.old result image.new }
 {
-    let found = control_form::read(image);
-    if found.refusal != 0 {
-        return Answer::Refused(found.refusal);
-    }
-    let k = found.control;
-    let refused = refusal(image, k, card);
-    if refused != 0 {
-        return Answer::Refused(refused);
-    }
+    let k = control_form::read(image)?;
+    check(image, k, card)?;
     rejoin(image, k, card);
-    Answer::Ok
+    Ok(Answer::Accepted)
 }

@@ -1,5 +1,6 @@
 -- What a list of moves is worth to a caller: the calls answer as the rules do on images, so its moves let settle succeed and no fewer do. Assumes
 -- nothing.
+use Rattle.std.specs.Prelude.{Ok, Some}
 use Prim.Native.Nat.{ℕ}
 use lib.ListN.{drop, length, length-map, take}
 use lib.Seq.{take-append_seam}
@@ -18,10 +19,8 @@ use Rattle.cabinet_rules.proofs.MoveLists.{list-settles, listed-clear, no-shorte
 use Rattle.cabinet_rules.proofs.Running.{running-image, running-shows}
 use Rattle.move_list.specs.Plans.{move_for}
 use Rattle.move_list.specs.Promise.{ListDone, filled_by, list_after}
-use Rattle.move_list.specs.declared.Listed.TheVariants.{Moves}
 use Rattle.move_list.specs.declared.Move.{Move}
-use Rattle.promise.specs.Promise.{shown}
-use Rattle.promise.specs.declared.Answer.{Answer as AnswerValue}
+use Rattle.promise.specs.Promise.{Answered, shown}
 use Rattle.promise.specs.declared.Answer.TheVariants.{Retired}
 use Rattle.store.specs.MoveList.{ListedMovesSettle, MovesThenSettle, NoShorterMoves}
 use Rattle.store.specs.MoveList.{move_of}
@@ -42,7 +41,7 @@ moves-back : (l : List Entry) → map move_of (map move_for l) ≡ map (as_move 
 moves-back [] = refl
 moves-back (e ∷ l) = ap (λ (t : List (Call cabinet)). as_move cabinet e ∷ t) (moves-back l)
 
-module _ (g : Image) (clear : list_refusal g ≡ 0) (entries : List Move) (said : AnswerValue) (t : MovesThenSettle g entries said) where
+module _ (g : Image) (clear : list_refusal g ≡ 0) (entries : List Move) (said : Answered) (t : MovesThenSettle g entries said) where
   pub given-moves : AreMoves (given (run_calls t.moves)) (map rule_entry entries)
   given-moves = calls-given (run_calls t.moves) ∙ t.are-moves ∙ entries-move entries
 
@@ -53,7 +52,7 @@ module _ (g : Image) (clear : list_refusal g ≡ 0) (entries : List Move) (said 
       t.settles.answers ∙ settle-same (control_in g) t.noise (memory_after t.moves g) (image_after (given (run_calls t.moves)) g) h.0 h.1 h.2
 
 -- The first entries of the list as filled are the moves.
-filled-moves : (g : Image) (lent filled : List Move) (n : ℕ) → ListDone g lent (Moves n) filled → map move_of (take n filled) ≡ map (as_move cabinet) (moves_on g)
+filled-moves : (g : Image) (lent filled : List Move) (n : ℕ) → ListDone g lent (Ok (Some n)) filled → map move_of (take n filled) ≡ map (as_move cabinet) (moves_on g)
 unfolding list_after
 filled-moves g lent filled n d =
     let long : n ≡ length (map move_for (moves_on g)) = (listed-clear g (length lent) n (sym d.answers)).1 ∙ sym (length-map (moves_on g) move_for) in
@@ -71,6 +70,6 @@ pub no-shorter-moves : NoShorterMoves
 unfolding NoShorterMoves NoShorterList
 no-shorter-moves g lent filled n d entries m t =
     let clear = (listed-clear g (length lent) n (sym d.answers)).0 in
-    let least = no-shorter-list g (length lent) n (sym d.answers) (given (run_calls t.moves)) (map rule_entry entries) (given-moves g clear entries (Retired m) t) t.noise m
-    (sym (settle-given g clear entries (Retired m) t)) in
+    let least = no-shorter-list g (length lent) n (sym d.answers) (given (run_calls t.moves)) (map rule_entry entries) (given-moves g clear entries (Ok (Retired m)) t) t.noise m
+    (sym (settle-given g clear entries (Ok (Retired m)) t)) in
     omega (arith, least, length-map entries rule_entry)

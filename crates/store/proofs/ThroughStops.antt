@@ -1,5 +1,6 @@
 -- Demand 3 through stops, of the calls: a call that kept its promise did what its step means to the rules, on an image that goes beside them and the plain record
 -- list; so a run shows what the list shows, and leaves an image that goes on so. Assumes nothing.
+use Rattle.std.specs.Prelude.{Ok, Err}
 use Prim.Native.Nat.{suc, zero, ℕ}
 use mathlib.Core.Bool.{false, true}
 use mathlib.Core.List.{List, [], ◌++◌, ◌∷◌}
@@ -23,9 +24,8 @@ use Rattle.cabinet_rules.specs.ThroughStops.{AsRecordedBy, after_step_by, observ
 use Rattle.cabinet_rules.proofs.Earlier.{tables-sound}
 use Rattle.cabinet_rules.proofs.GoesThrough.{Continues, start-continues, tables-continue}
 use Rattle.cabinet_rules.proofs.StepsOn.{GoesOn, counts-on, noise-continues, passes_on, recorded-still, step-continues}
-use Rattle.promise.specs.Promise.{Done, asked, shown}
-use Rattle.promise.specs.declared.Answer.{Answer as AnswerValue}
-use Rattle.promise.specs.declared.Answer.TheVariants.{Absent, Copied, Loaded, Ok, Placed, Protected, Refused, Retired}
+use Rattle.promise.specs.Promise.{Answered, Done, asked, shown}
+use Rattle.promise.specs.declared.Answer.TheVariants.{Absent, Copied, Loaded, Accepted, Placed, Protected, Retired}
 use Rattle.promise.specs.declared.Answer.TheVariants.{Stopped, Unplaced, Unprotected, Value}
 use Rattle.returns.specs.Promise.{ReturnDone}
 use Rattle.store.specs.Runs.{Converted, IsRun, Kept, Made, RunCall, list_call, memory_after, memory_left, return_call, store_call, table_call, taken}
@@ -35,33 +35,33 @@ use Rattle.store.proofs.OneRecordList.{converted-is}
 
 -- ---- the answer of a return
 -- ok is shown by one answer, and a refusal is no step
-pub ok-shown : (a : AnswerValue) → shown a ≡ ok → a ≡ Ok
-ok-shown Ok e = refl
-ok-shown (Value n) e = let z : ◌≡◌ {A = ℕ} 0 1 = cc in absurd (omega arith)
-ok-shown Absent e = let z : ◌≡◌ {A = ℕ} 0 1 = cc in absurd (omega arith)
-ok-shown (Placed m) e = let z : ◌≡◌ {A = ℕ} 0 1 = cc in absurd (omega arith)
-ok-shown Unplaced e = let z : ◌≡◌ {A = ℕ} 0 1 = cc in absurd (omega arith)
-ok-shown Stopped e = let z : ◌≡◌ {A = ℕ} 0 1 = cc in absurd (omega arith)
-ok-shown (Copied n) e = let z : ◌≡◌ {A = ℕ} 0 1 = cc in absurd (omega arith)
-ok-shown (Retired n) e = let z : ◌≡◌ {A = ℕ} 0 1 = cc in absurd (omega arith)
-ok-shown Protected e = let z : ◌≡◌ {A = ℕ} 0 1 = cc in absurd (omega arith)
-ok-shown Unprotected e = let z : ◌≡◌ {A = ℕ} 0 1 = cc in absurd (omega arith)
-ok-shown (Loaded n) e = let z : ◌≡◌ {A = ℕ} 0 1 = cc in absurd (omega arith)
-ok-shown (Refused n) e = let z : ◌≡◌ {A = ℕ} 0 1 = cc in absurd (omega arith)
+pub ok-shown : (a : Answered) → shown a ≡ ok → a ≡ Ok Accepted
+ok-shown (Ok Accepted) e = refl
+ok-shown (Ok (Value n)) e = let z : ◌≡◌ {A = ℕ} 0 1 = cc in absurd (omega arith)
+ok-shown (Ok Absent) e = let z : ◌≡◌ {A = ℕ} 0 1 = cc in absurd (omega arith)
+ok-shown (Ok (Placed m)) e = let z : ◌≡◌ {A = ℕ} 0 1 = cc in absurd (omega arith)
+ok-shown (Ok Unplaced) e = let z : ◌≡◌ {A = ℕ} 0 1 = cc in absurd (omega arith)
+ok-shown (Ok Stopped) e = let z : ◌≡◌ {A = ℕ} 0 1 = cc in absurd (omega arith)
+ok-shown (Ok (Copied n)) e = let z : ◌≡◌ {A = ℕ} 0 1 = cc in absurd (omega arith)
+ok-shown (Ok (Retired n)) e = let z : ◌≡◌ {A = ℕ} 0 1 = cc in absurd (omega arith)
+ok-shown (Ok Protected) e = let z : ◌≡◌ {A = ℕ} 0 1 = cc in absurd (omega arith)
+ok-shown (Ok Unprotected) e = let z : ◌≡◌ {A = ℕ} 0 1 = cc in absurd (omega arith)
+ok-shown (Ok (Loaded n)) e = let z : ◌≡◌ {A = ℕ} 0 1 = cc in absurd (omega arith)
+ok-shown (Err r) e = let z : ◌≡◌ {A = ℕ} 0 1 = cc in absurd (omega arith)
 
-no_step : (c n : ℕ) (a : AnswerValue) → shown a ≡ refused n → return_steps c a ≡ []
-no_step c n Ok e = let z : ◌≡◌ {A = ℕ} 0 1 = cc in absurd (omega arith)
-no_step c n (Value m) e = refl
-no_step c n Absent e = refl
-no_step c n (Placed m) e = refl
-no_step c n Unplaced e = refl
-no_step c n Stopped e = refl
-no_step c n (Copied m) e = refl
-no_step c n (Retired m) e = refl
-no_step c n Protected e = refl
-no_step c n Unprotected e = refl
-no_step c n (Loaded m) e = refl
-no_step c n (Refused m) e = refl
+no_step : (c n : ℕ) (a : Answered) → shown a ≡ refused n → return_steps c a ≡ []
+no_step c n (Ok Accepted) e = let z : ◌≡◌ {A = ℕ} 0 1 = cc in absurd (omega arith)
+no_step c n (Ok (Value m)) e = refl
+no_step c n (Ok Absent) e = refl
+no_step c n (Ok (Placed m)) e = refl
+no_step c n (Ok Unplaced) e = refl
+no_step c n (Ok Stopped) e = refl
+no_step c n (Ok (Copied m)) e = refl
+no_step c n (Ok (Retired m)) e = refl
+no_step c n (Ok Protected) e = refl
+no_step c n (Ok Unprotected) e = refl
+no_step c n (Ok (Loaded m)) e = refl
+no_step c n (Err r) e = refl
 
 -- ---- one call
 -- What it shows, and where the rules, the plain list and the memory go on, whatever is behind it.
@@ -78,7 +78,7 @@ module _ (g : Image) (z : State cabinet) (q : PlainList cabinet) (t : ℕ → �
   left_is left h y p e = subst (λ (x : Image). Continues x y p (recorded_byte current g x t)) (sym e)
 
   -- a call of the rules
-  called : (x : Call cabinet) (a : AnswerValue) (left : Image) → Done x g a left → GoesOn g z q t (call x)
+  called : (x : Call cabinet) (a : Answered) (left : Image) → Done x g a left → GoesOn g z q t (call x)
       → (m : Made) → memory_left m g ≡ left → observed_of m ≡ observe cabinet x (shown a) ∷ [] → meant_steps m ≡ call x ∷ [] → Made-on m g z q t
   unfolding observed_by after_step_by run_plain_through
   called x a left d (counts-on n o h) m e om sm = record {
@@ -91,7 +91,7 @@ module _ (g : Image) (z : State cabinet) (q : PlainList cabinet) (t : ℕ → �
   called x a left d (passes_on n o h) m e om sm = tf true refl n
 
   -- a return: taken or refused, as its answer says
-  returned : (card : ℕ) (a : AnswerValue) (left : Image) → ReturnDone card g a left → CameBackWhole (return_call card a left) g t → Made-on (return_call card a left) g z q t
+  returned : (card : ℕ) (a : Answered) (left : Image) → ReturnDone card g a left → CameBackWhole (return_call card a left) g t → Made-on (return_call card a left) g z q t
   unfolding CameBackWhole return_answer_by AsRecordedBy takes_by after_step_by run_plain_through plain_observed
   returned card a left d w = go (return_refusal_on card g) refl (step-continues g z q t c (return card) (λ i. w (ok-shown a (d.answers ∙ taken-ok (return_refusal_on card g) i))))
     where
@@ -143,7 +143,7 @@ run-made (r ∷ l) g z q t c e i =
     (x.shows (run_steps_through l) (observed_through l) h.0, h.1)
 
 -- ---- where it begins
-pub begun : (m : ℕ) (before behind : Image) → Done (start (byte m)) before Ok behind → (t : ℕ → ℕ)
+pub begun : (m : ℕ) (before behind : Image) → Done (start (byte m)) before (Ok Accepted) behind → (t : ℕ → ℕ)
     → Continues behind (zeroed cabinet (byte m)) (plain_start cabinet (byte m)) t
 begun m before behind d t = rw d.leaves (start-continues (byte m) before (sym d.answers) t)
 

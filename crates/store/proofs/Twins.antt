@@ -1,5 +1,6 @@
 -- Twins agree, of the calls: an image that goes beside the rules and the plain record list shows them alike; where an earlier store had stopped, a call that keeps its
 -- promise did what it means to the rules, which keep twins alike. Assumes nothing.
+use Rattle.std.specs.Prelude.{Ok}
 use Prim.Native.Nat.{suc, zero, ℕ}
 use mathlib.Core.List.{List, [], ◌∷◌}
 use mathlib.Core.Logic.{◌≢◌}
@@ -18,9 +19,8 @@ use Rattle.cabinet_rules.proofs.ComesBack.{continues-twins}
 use Rattle.cabinet_rules.proofs.Earlier.{tables-legible}
 use Rattle.cabinet_rules.proofs.Form.{current_laws}
 use Rattle.cabinet_rules.proofs.Twins.{AgreedImage, earlier-agreed, next-agreed, noise-agreed, twins-on}
-use Rattle.promise.specs.Promise.{shown}
-use Rattle.promise.specs.declared.Answer.{Answer as AnswerValue}
-use Rattle.promise.specs.declared.Answer.TheVariants.{Ok}
+use Rattle.promise.specs.Promise.{Answered, shown}
+use Rattle.promise.specs.declared.Answer.TheVariants.{Accepted}
 use Rattle.returns.specs.Promise.{ReturnDone}
 use Rattle.store.specs.Runs.{IsRun, Kept, Made, RunCall, list_call, meant_calls, memory_after, memory_left, return_call, store_call, table_call, taken}
 use Rattle.store.specs.Twins.{NoneCameBack, StaysAway, TwinsAgreeOfCalls, TwinsGoOnOfCalls, TwinsStayOfCalls}
@@ -43,7 +43,7 @@ twins-go-on-of-calls s b left c t l e i = continued-twins (memory_after l left) 
 
 -- ---- where no card came back
 -- a return that did not say ok changed nothing
-away : (c : ℕ) (a : AnswerValue) (g left : Image) → ReturnDone c g a left → a ≢ Ok → left ≡ g
+away : (c : ℕ) (a : Answered) (g left : Image) → ReturnDone c g a left → a ≢ Ok Accepted → left ≡ g
 unfolding return_answer_by after_return_by
 away c a g left d n = d.leaves ∙ go (return_refusal_on c g) d.answers
   where

@@ -1,5 +1,5 @@
 -- Demand 3 of the calls themselves: a run of the store as its caller sees it, and the statement. Assumes nothing.
-use Rattle.std.specs.Prelude.{ℕ, cond, List, [], ◌++◌, ◌∷◌, map, ◌≢◌, ◌≡◌, length}
+use Rattle.std.specs.Prelude.{Result, Ok, ℕ, cond, List, [], ◌++◌, ◌∷◌, map, ◌≢◌, ◌≡◌, length}
 use Rattle.image.specs.Layout.{image_size}
 use Rattle.mask.specs.Masks.{byte}
 use Rattle.method.specs.OneRecordList.{Observation, is_last, observe, run_plain, zeroed}
@@ -13,24 +13,22 @@ use Rattle.cabinet_rules.specs.Images.{Image}
 use Rattle.cabinet_rules.specs.Places.{by_lines}
 use Rattle.cabinet_rules.specs.Retired.{by_tables}
 use Rattle.converter.specs.Promise.{StampsDone}
-use Rattle.move_list.specs.Promise.{ListDone}
-use Rattle.move_list.specs.declared.Listed.{Listed}
+use Rattle.move_list.specs.Promise.{Listed, ListDone}
 use Rattle.move_list.specs.declared.Move.{Move}
-use Rattle.promise.specs.Promise.{Done, asked, shown}
+use Rattle.promise.specs.Promise.{Answered, Done, asked, shown}
 use Rattle.promise.specs.declared.Call.{Call as CallValue}
-use Rattle.promise.specs.declared.Answer.{Answer as AnswerValue}
-use Rattle.promise.specs.declared.Filled.{Filled as FilledValue}
-use Rattle.promise.specs.declared.Answer.TheVariants.{Ok}
+use Rattle.refusals.specs.declared.Refusal.{Refusal}
+use Rattle.promise.specs.declared.Answer.TheVariants.{Accepted}
 use Rattle.returns.specs.Promise.{ReturnDone}
 
 -- A call that was made on the memory.
 pub data Made : Type 0 where
   -- one of the fifteen: what was asked, what it answered, and the memory that it left
-  store_call : CallValue → AnswerValue → Image → Made
+  store_call : CallValue → Answered → Image → Made
   -- one that places by table (request A.6): the lines that were lent, what it answered, and the memory that it left
-  table_call : List ℕ → AnswerValue → Image → Made
+  table_call : List ℕ → Answered → Image → Made
   -- one that returns a card (request A.7): the card, what it answered, and the memory that it left
-  return_call : ℕ → AnswerValue → Image → Made
+  return_call : ℕ → Answered → Image → Made
   -- one that lists moves (request A.3): the list that was lent, what was said, and the list as filled
   list_call : List Move → Listed → List Move → Made
 
@@ -103,14 +101,14 @@ taken = taken_over by_tables resuming from_tables
 -- DEMAND 3 of the calls. After a start that said ok, on memory of any contents, the calls answer what the plain record
 -- list answers to the same calls, until the store stops; and it stops exactly when the stop rule says.
 unfoldable pub OneRecordListOfCalls : Type 0
-OneRecordListOfCalls = (m : ℕ) (before behind : Image) → Done (start (byte m)) before Ok behind
+OneRecordListOfCalls = (m : ℕ) (before behind : Image) → Done (start (byte m)) before (Ok Accepted) behind
     → (l : List RunCall) → IsRun l behind
     → observed l ≡ run_plain cabinet (run_calls l) (zeroed cabinet (byte m)) (plain_start cabinet (byte m))
 
 -- The converter was given an older image and lent a buffer of the length of today, and left it so.
 pub record Converted (older left : Image) : Type 0 where
   pub lent : Image
-  pub said : FilledValue
+  pub said : Result ℕ Refusal
   pub room : length lent ≡ image_size
   pub done : StampsDone older lent said left
 

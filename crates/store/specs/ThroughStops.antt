@@ -1,5 +1,5 @@
 -- Demand 3 of the calls themselves, through stops and returns of cards (request A.7): the statements. Assumes nothing.
-use Rattle.std.specs.Prelude.{◌+◌, ◌<◌, ℕ, get_or, List, [], ◌++◌, ◌∷◌, ◌≡◌}
+use Rattle.std.specs.Prelude.{Ok, Err, ◌+◌, ◌<◌, ℕ, get_or, List, [], ◌++◌, ◌∷◌, ◌≡◌}
 use Rattle.image.specs.Layout.{table_size, table_start}
 use Rattle.mask.specs.Masks.{byte}
 use Rattle.method.specs.OneRecordList.{Observation, observe, zeroed}
@@ -14,28 +14,27 @@ use Rattle.cabinet_rules.specs.Images.{Image}
 use Rattle.cabinet_rules.specs.Places.{by_lines}
 use Rattle.cabinet_rules.specs.Retired.{by_tables}
 use Rattle.cabinet_rules.specs.ThroughStops.{recorded_byte}
-use Rattle.promise.specs.Promise.{Done, asked, shown}
-use Rattle.promise.specs.declared.Answer.{Answer as AnswerValue}
-use Rattle.promise.specs.declared.Answer.TheVariants.{Absent, Copied, Loaded, Ok, Placed, Protected, Refused, Retired}
+use Rattle.promise.specs.Promise.{Answered, Done, asked, shown}
+use Rattle.promise.specs.declared.Answer.TheVariants.{Absent, Copied, Loaded, Accepted, Placed, Protected, Retired}
 use Rattle.promise.specs.declared.Answer.TheVariants.{Stopped, Unplaced, Unprotected, Value}
 use Rattle.store.specs.Runs.{Converted, IsRun, Made, RunCall, list_call, memory_left, return_call, store_call}
 use Rattle.store.specs.Runs.{table_call, taken}
 
 -- ---- what the plain record list is given
 -- A return that said ok is a step of it; one that was refused is none.
-abbrev pub return_steps : ℕ → AnswerValue → List (Step cabinet)
-return_steps c Ok = return c ∷ []
-return_steps c (Value n) = []
-return_steps c Absent = []
-return_steps c (Placed m) = []
-return_steps c Unplaced = []
-return_steps c Stopped = []
-return_steps c (Copied n) = []
-return_steps c (Retired n) = []
-return_steps c Protected = []
-return_steps c Unprotected = []
-return_steps c (Loaded n) = []
-return_steps c (Refused n) = []
+abbrev pub return_steps : ℕ → Answered → List (Step cabinet)
+return_steps c (Ok Accepted) = return c ∷ []
+return_steps c (Ok (Value n)) = []
+return_steps c (Ok Absent) = []
+return_steps c (Ok (Placed m)) = []
+return_steps c (Ok Unplaced) = []
+return_steps c (Ok Stopped) = []
+return_steps c (Ok (Copied n)) = []
+return_steps c (Ok (Retired n)) = []
+return_steps c (Ok Protected) = []
+return_steps c (Ok Unprotected) = []
+return_steps c (Ok (Loaded n)) = []
+return_steps c (Err r) = []
 
 abbrev pub meant_steps : Made → List (Step cabinet)
 meant_steps (store_call c a left) = call (asked c) ∷ []
@@ -67,7 +66,7 @@ SameTable c g t = (j : ℕ) → j < table_size → get_or g (table_start c + j) 
 unfoldable pub CameBackWhole : Made → Image → (ℕ → ℕ) → Type 0
 CameBackWhole (store_call c a left) g t = Unit {0}
 CameBackWhole (table_call lines a left) g t = Unit {0}
-CameBackWhole (return_call c a left) g t = a ≡ Ok → SameTable c g t
+CameBackWhole (return_call c a left) g t = a ≡ Ok Accepted → SameTable c g t
 CameBackWhole (list_call lent a filled) g t = Unit {0}
 
 -- So it is at every call of the run; the tables of cards that fail are recorded as the call leaves them.
@@ -82,7 +81,7 @@ CardsIntact (r ∷ l) g t =
 -- card that comes back has the bytes of its failing: the calls answer what the plain record list answers to the same calls
 -- and returns, through every stop.
 unfoldable pub OneRecordListThroughStopsOfCalls : Type 0
-OneRecordListThroughStopsOfCalls = (m : ℕ) (before behind : Image) → Done (start (byte m)) before Ok behind
+OneRecordListThroughStopsOfCalls = (m : ℕ) (before behind : Image) → Done (start (byte m)) before (Ok Accepted) behind
     → (t : ℕ → ℕ) (l : List RunCall) → IsRun l behind → CardsIntact l behind t
     → observed_through l ≡ run_plain_through cabinet (run_steps_through l) (zeroed cabinet (byte m)) (plain_start cabinet (byte m))
 

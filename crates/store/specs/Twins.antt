@@ -1,6 +1,6 @@
 -- Twins agree, of the calls themselves: all working cards that hold a block show the same slots of it. The statements.
 -- Assumes nothing.
-use Rattle.std.specs.Prelude.{ℕ, List, [], ◌∷◌, ◌≢◌}
+use Rattle.std.specs.Prelude.{Ok, ℕ, List, [], ◌∷◌, ◌≢◌}
 use Rattle.mask.specs.Masks.{byte}
 use Rattle.method.specs.Rules.{start}
 use Rattle.cabinet_rules.specs.GoesOn.{EarlierImage, LeftByTables, StoreBy}
@@ -8,7 +8,7 @@ use Rattle.cabinet_rules.specs.Images.{Image}
 use Rattle.cabinet_rules.specs.Retired.{by_tables}
 use Rattle.cabinet_rules.specs.Twins.{TwinsOn}
 use Rattle.promise.specs.Promise.{Done}
-use Rattle.promise.specs.declared.Answer.TheVariants.{Ok}
+use Rattle.promise.specs.declared.Answer.TheVariants.{Accepted}
 use Rattle.store.specs.Runs.{Converted, IsRun, Made, RunCall, list_call, memory_after, return_call, store_call, table_call}
 use Rattle.store.specs.ThroughStops.{CardsIntact}
 
@@ -16,7 +16,7 @@ use Rattle.store.specs.ThroughStops.{CardsIntact}
 -- the bytes of its failing, whether the store runs then or has stopped, any two working cards that hold a block show the
 -- same eight slots of it.
 unfoldable pub TwinsAgreeOfCalls : Type 0
-TwinsAgreeOfCalls = (m : ℕ) (before behind : Image) → Done (start (byte m)) before Ok behind
+TwinsAgreeOfCalls = (m : ℕ) (before behind : Image) → Done (start (byte m)) before (Ok Accepted) behind
     → (t : ℕ → ℕ) (l : List RunCall) → IsRun l behind → CardsIntact l behind t → TwinsOn (memory_after l behind)
 
 -- The same on the memory of a running store that earlier deliveries left and the converter of today made longer.
@@ -28,7 +28,7 @@ TwinsGoOnOfCalls = (s : StoreBy by_tables) → LeftByTables s → (left : Image)
 abbrev pub StaysAway : Made → Type 0
 StaysAway (store_call c a left) = Unit {0}
 StaysAway (table_call lines a left) = Unit {0}
-StaysAway (return_call c a left) = a ≢ Ok
+StaysAway (return_call c a left) = a ≢ Ok Accepted
 StaysAway (list_call lent a filled) = Unit {0}
 
 abbrev pub NoneCameBack : List RunCall → Type 0

@@ -3,30 +3,33 @@ ghost use Rattle.std.specs.Prelude.{◌++◌, ◌≡◌, ◌≤◌, drop, length
 ghost use Rattle.move_list.specs.Plans.{first_moves, moves_in};
 ghost use Rattle.move_list.specs.Promise.{ListDone, blank_list};
 
-use move_list::{AllMoves, Listed, Move, Plan};
+use move_list::{AllMoves, Move, Plan};
+use refusals::Refusal;
 
 // The first n moves are put into the list.
 fn fill(plan: Plan, list: &mut [Move], n: usize)
     requires { n ≤ length list.old }
     ensures { list.new ≡ first_moves (moves_in plan.origins) n ++ drop n list.old }
 {
-    let mut i = 0;
-    while i < n {
+    for i in 0..n {
         list[i] = plan.nth(i);
-        i += 1;
     }
 }
 
 // The fewest moves after which settle succeeds, in the order of blocks and then of cards, in the first entries of the
-// list; those beyond their number stay as lent. The list stays as lent where the answer is 'none' or a refusal.
-pub fn list(image: &[u8], list: &mut [Move]) -> Listed
+// list; those beyond their number stay as lent. The list stays as lent where there is none, or on a refusal.
+pub fn list(image: &[u8], list: &mut [Move]) -> Result<Option<u16>, Refusal>
     ensures { ListDone image.now list.old result list.new }
 {
-    let room = list.len();
-    let plan = move_list::find_moves(image);
-    let n = plan.stored(room);
-    fill(plan, list, n);
-    plan.answer(room)
+    let found = move_list::find_moves(image)?;
+    match found {
+        Some(plan) => {
+            let n = plan.stored(list.len())?;
+            fill(plan, list, n);
+            Ok(Some(plan.count))
+        }
+        None => Ok(None),
+    }
 }
 
 // The same with plain parameters, in a list that has room for every list of moves: its callers hold no reference to an

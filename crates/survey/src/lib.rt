@@ -9,38 +9,27 @@ mod protection;
 
 use image::Card;
 use promise::Answer;
+use refusals::Refusal;
 
 // Protected: there is no working card whose failure would stop the store.
-pub fn state(image: &[u8]) -> Answer
+pub fn state(image: &[u8]) -> Result<Answer, Refusal>
     ensures { Done (asked Call.State) image.now result image.now }
 {
-    let found = control_form::read(image);
-    if found.refusal != 0 {
-        return Answer::Refused(found.refusal);
-    }
-    let k = found.control;
+    let k = control_form::read(image)?;
     if k.stopped {
-        return Answer::Refused(4);
+        return Err(Refusal::Stopped);
     }
-    let withstood = protection::all_withstand(k);
-    if withstood {
-        return Answer::Protected;
+    if protection::all_withstand(k) {
+        return Ok(Answer::Protected);
     }
-    Answer::Unprotected
+    Ok(Answer::Unprotected)
 }
 
 // How many records are committed present in the card's held blocks.
-pub fn load(image: &[u8], card: Card) -> Answer
+pub fn load(image: &[u8], card: Card) -> Result<Answer, Refusal>
     ensures { Done (asked (Call.Load card)) image.now result image.now }
 {
-    let found = control_form::read(image);
-    if found.refusal != 0 {
-        return Answer::Refused(found.refusal);
-    }
-    let k = found.control;
-    let refusal = promise::rows::card_refusal(k, card);
-    if refusal != 0 {
-        return Answer::Refused(refusal);
-    }
-    Answer::Loaded(loading::load_table(image, card))
+    let k = control_form::read(image)?;
+    promise::rows::check_card(k, card)?;
+    Ok(Answer::Loaded(loading::load_table(image, card)))
 }

@@ -30,10 +30,8 @@ pub fn load_table(image: &[u8], card: Card) -> u16
     ensures { result ≡ load_below image.now card.0 block_count }
 {
     let mut n: u16 = 0;
-    let mut b = 0;
-    while b < BLOCK_COUNT {
+    for b in 0..BLOCK_COUNT {
         n = load_block(image, card, Block(b as u8), n);
-        b += 1;
     }
     n
 }

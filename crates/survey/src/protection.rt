@@ -24,13 +24,10 @@ pub fn all_withstand(k: Control) -> bool
     requires { Counted k }
     ensures { result ≡ all_withstand cabinet (meaning k) }
 {
-    let mut i: u8 = 0;
-    while i < k.count {
-        let at = i as usize;
-        if !withstands(k.working, k.failed, k.masks[at]) {
+    for i in 0..k.count as usize {
+        if !withstands(k.working, k.failed, k.masks[i]) {
             return false;
         }
-        i += 1;
     }
     true
 }

@@ -4,6 +4,7 @@
 ghost use Rattle.std.specs.Prelude.{◌≡◌, ◌<◌, eqb};
 ghost use Rattle.image.specs.Layout.{tran_bound};
 ghost use Rattle.image.specs.Parts.{Whole};
+ghost use Rattle.refusals.specs.Refusals.{row_of};
 ghost use Rattle.slot.specs.Blocks.{in_set};
 ghost use Rattle.method.specs.ControlPart.{closed};
 ghost use Rattle.control.specs.Meaning.{Counted, meaning, put_control};
@@ -16,45 +17,39 @@ ghost use Rattle.transactions.specs.Transactions.{begin_rows, end_call};
 use control::Control;
 use image::{CARD_COUNT, Card, Tran};
 use promise::{Answer, rows};
+use refusals::Refusal;
 
-// Why a begin is refused, from row 3 on; 0 if it is not.
-fn begin_refusal(k: Control, tran: Tran, home: Card) -> u8
+// The rows of begin from 3 on.
+fn check_begin(k: Control, tran: Tran, home: Card) -> Result<(), Refusal>
     requires { Counted k }
-    ensures { result ≡ begin_rows (meaning k) tran.0 home.0 }
+    ensures { row_of result ≡ begin_rows (meaning k) tran.0 home.0 }
 {
     if !rows::is_tran(tran) {
-        return 3;
+        return Err(Refusal::Range);
     }
     if home.0 as usize >= CARD_COUNT {
-        return 3;
+        return Err(Refusal::Range);
     }
     if k.stopped {
-        return 4;
+        return Err(Refusal::Stopped);
     }
     if k.is_open(tran) {
-        return 6;
+        return Err(Refusal::AlreadyOpen);
     }
     if !mask::has(k.newest_mask(), home) {
-        return 8;
+        return Err(Refusal::Card);
     }
-    0
+    Ok(())
 }
 
 // Opens the transaction with its home, a card of the newest placement.
-pub fn begin(image: &mut [u8], tran: Tran, home: Card) -> Answer
+pub fn begin(image: &mut [u8], tran: Tran, home: Card) -> Result<Answer, Refusal>
     ensures { Done (asked (Call.Begin tran home)) image.old result image.new }
 {
-    let found = control_form::read(image);
-    if found.refusal != 0 {
-        return Answer::Refused(found.refusal);
-    }
-    let k = found.control;
-    let refusal = begin_refusal(k, tran, home);
-    if refusal != 0 {
-        return Answer::Refused(refusal);
-    }
+    let k = control_form::read(image)?;
+    check_begin(k, tran, home)?;
     control::codec::write(image, k.begin(tran, home));
-    Answer::Ok
+    Ok(Answer::Accepted)
 }
 
 // The transaction ends in the held blocks of the working cards, and then closes.
@@ -73,31 +68,24 @@ fn end_open(image: &mut [u8], k: Control, tran: Tran, take: bool)
 }
 
 // Ends the transaction: its pending states are taken or dropped.
-fn end(image: &mut [u8], tran: Tran, take: bool) -> Answer
+fn end(image: &mut [u8], tran: Tran, take: bool) -> Result<Answer, Refusal>
     ensures { Done (end_call take tran.0) image.old result image.new }
 {
-    let found = control_form::read(image);
-    if found.refusal != 0 {
-        return Answer::Refused(found.refusal);
-    }
-    let k = found.control;
-    let refusal = rows::tran_refusal(image, k, tran);
-    if refusal != 0 {
-        return Answer::Refused(refusal);
-    }
+    let k = control_form::read(image)?;
+    rows::check_tran(image, k, tran)?;
     end_open(image, k, tran, take);
-    Answer::Ok
+    Ok(Answer::Accepted)
 }
 
 // What the transaction stored and deleted becomes the committed state, and the transaction closes.
-pub fn commit(image: &mut [u8], tran: Tran) -> Answer
+pub fn commit(image: &mut [u8], tran: Tran) -> Result<Answer, Refusal>
     ensures { Done (asked (Call.Commit tran)) image.old result image.new }
 {
     end(image, tran, true)
 }
 
 // What the transaction stored and deleted is dropped, and the transaction closes.
-pub fn rollback(image: &mut [u8], tran: Tran) -> Answer
+pub fn rollback(image: &mut [u8], tran: Tran) -> Result<Answer, Refusal>
     ensures { Done (asked (Call.Rollback tran)) image.old result image.new }
 {
     end(image, tran, false)

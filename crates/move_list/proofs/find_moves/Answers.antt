@@ -1,26 +1,16 @@
--- Refused by the form or as stopped; else the plan that was found is the rules'. Assumes nothing.
-use mathlib.Core.Path.{subst, sym}
+-- Refused by the form or as stopped; else what was found is the rules'. Assumes nothing.
 use Rattle.promise.proofs.Finish.{given}
-use Rattle.move_list.specs.Plans.{Plans}
-use Rattle.move_list.specs.declared.Plan.{Plan}
 use Rattle.move_list.proofs.MovePlans.{plan-by-form, plan-found, plan-stopped}
 use Rattle.move_list.proofs.find_moves.Goals as goal
 
-pub returns-then-found-ne0 : goal.returns-then-found-ne0
-returns-then-found-ne0 c =
-    let g = c.args.image.now in
-    subst (λ (p : Plan). Plans p g) (sym c.refused.ensures) (plan-by-form g c.read-found.result.refusal c.read-found.ensures.refusal_is c.if-found-ne0.true)
+pub returns-in_err-k : goal.returns-in_err-k
+returns-in_err-k c = plan-by-form c.args.image.now _ _ c.in_err-k.ensures.refusal_is c.from_residual.ensures
 
 pub returns-then-k : goal.returns-then-k
-returns-then-k c =
-    let g = c.args.image.now in
-    subst (λ (p : Plan). Plans p g) (sym c.refused-then-k.ensures) (plan-stopped c.read-found.result.control g (given c.read-found.ensures c.if-found-ne0.false) c.if-k.true)
+returns-then-k c = plan-stopped c.in_ok-k.k c.args.image.now (given c.in_ok-k.ensures) c.if-k.true
 
 pub find-requires : goal.find-requires
-find-requires c =
-    given c.read-found.ensures c.if-found-ne0.false
+find-requires c = given c.in_ok-k.ensures
 
 pub returns : goal.returns
-returns c =
-    let g = c.args.image.now in
-    plan-found c.read-found.result.control g (given c.read-found.ensures c.if-found-ne0.false) c.if-k.false c.find.result c.find.ensures
+returns c = plan-found c.in_ok-k.k c.args.image.now (given c.in_ok-k.ensures) c.if-k.false c.find.result c.find.ensures

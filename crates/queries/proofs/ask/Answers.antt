@@ -7,17 +7,16 @@ use Rattle.queries.specs.Queries.{told_of, told_on}
 use Rattle.queries.proofs.Telling.{refused-by, told-by, told-front}
 use Rattle.queries.proofs.ask.Goals as goal
 
-pub returns-then-found-ne0 : goal.returns-then-found-ne0
+pub returns-in_err-read : goal.returns-in_err-read
 unfolding told_on
-returns-then-found-ne0 c = refused-by _ _ _ c.read-found.ensures.refusal_is c.if-found-ne0.true
+returns-in_err-read c = refused-by _ _ _ _ c.in_err-read.ensures.refusal_is c.from_residual.ensures
 
 pub tell-requires : goal.tell-requires
-tell-requires c = (given c.read-found.ensures c.if-found-ne0.false).is.counted
+tell-requires c = (given c.in_ok-read.ensures).is.counted
 
 pub returns : goal.returns
 unfolding told_on
 returns c =
-    let r = c.read-found in
+    let e = c.in_ok-read.ensures in
     let q = c.args.query in
-    told-by _ _ _ _ r.ensures.refusal_is c.if-found-ne0.false
-    (c.tell.ensures ∙ ap (λ (k : Part). told_of q k) (given r.ensures c.if-found-ne0.false).is.means ∙ told-front q (control_in c.args.image.now))
+    told-by _ _ _ e.refusal_is (c.tell.ensures ∙ ap (λ (k : Part). told_of q k) (given e).is.means ∙ told-front q (control_in c.args.image.now))

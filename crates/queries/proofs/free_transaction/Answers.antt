@@ -2,32 +2,28 @@
 use Prim.Native.Nat.{◌-◌, ◌<◌}
 use borrow.Author.Rules.{rules}
 use borrow.Author.Tests.{not-false, not-true}
-use mathlib.Core.Path.{◌∙◌, ◌≡◌, sym}
+use mathlib.Core.Bool.{not}
+use mathlib.Core.Path.{◌∙◌, ◌≡◌, ap, sym}
 use native.Mathlib.Omega.{arith}
 use Rattle.image.specs.Layout.{tran_bound}
 use Rattle.control.specs.Meaning.{meaning}
 use Rattle.queries.proofs.Telling.{free-first, free-found, free-none, free-passed}
-use mathlib.Core.Bool.{not}
-use mathlib.Core.Path.{ap}
 use Rattle.queries.proofs.free_transaction.Goals as goal
 
 pub loop-t-init : goal.loop-t-init
-loop-t-init c = (omega arith, omega arith, free-first _)
+loop-t-init c = free-first _
 
 pub returns-then-not-is_open : goal.returns-then-not-is_open
 returns-then-not-is_open c =
     let h : c.loop-t.t < tran_bound = search rules in
-    free-found (meaning c.args.k) c.loop-t.t h (sym c.is_open.ensures ∙ not-true _ (ap not c.if-not-is_open.true)) c.loop-t.invariant.2
+    free-found (meaning c.args.k) c.loop-t.t h (sym c.is_open.ensures ∙ not-true _ (ap not c.if-not-is_open.true)) c.loop-t.invariant
 
 pub loop-t-preserved : goal.loop-t-preserved
 loop-t-preserved c =
-    let h : c.loop-t.t < tran_bound = search rules in (
-      omega arith,
-      omega (arith, h),
-      free-passed (meaning c.args.k) c.loop-t.t h (sym c.is_open.ensures ∙ not-false _ (ap not c.if-not-is_open.false)) c.loop-t.invariant.2,
-    )
+    let h : c.loop-t.t < tran_bound = search rules in
+    free-passed (meaning c.args.k) c.loop-t.t h (sym c.is_open.ensures ∙ not-false _ (ap not c.if-not-is_open.false)) c.loop-t.invariant
 
 pub returns : goal.returns
 returns c =
     let e : c.loop-t.t ≡ tran_bound = omega arith in
-    free-none (meaning c.args.k) c.loop-t.t e c.loop-t.invariant.2
+    free-none (meaning c.args.k) c.loop-t.t e c.loop-t.invariant

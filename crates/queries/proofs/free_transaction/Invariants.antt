@@ -1,5 +1,5 @@
 -- The transactions below t are open. Assumes nothing.
-use Prim.Native.Nat.{◌-◌, ◌≤◌}
+use Prim.Native.Nat.{◌-◌}
 use mathlib.Core.Path.{◌≡◌}
 use Rattle.image.specs.Layout.{tran_bound}
 use Rattle.control.specs.Meaning.{meaning}
@@ -7,7 +7,4 @@ use Rattle.queries.specs.Queries.{free_from, free_in}
 use Rattle.queries.proofs.free_transaction.Given as goal
 
 abbrev pub invariant-loop-t : goal.invariant-loop-t
-invariant-loop-t l = (1 ≤ l.t) × (l.t ≤ tran_bound) × (free_in (meaning l.k) ≡ free_from (meaning l.k) l.t (tran_bound - l.t))
-
-abbrev pub decreases-loop-t : goal.decreases-loop-t
-decreases-loop-t l = tran_bound - l.t
+invariant-loop-t l = free_in (meaning l.k) ≡ free_from (meaning l.k) l.t (tran_bound - l.t)

@@ -2,13 +2,12 @@
 -- Assumes nothing.
 use mathlib.Core.Path.{◌≡◌, sym, subst}
 use Rattle.cabinet_rules.specs.Images.{Image}
-use Rattle.promise.specs.Promise.{Done, asked}
+use Rattle.promise.specs.Promise.{Answered, Done, asked}
 use Rattle.promise.specs.declared.Call.{Call}
-use Rattle.promise.specs.declared.Answer.{Answer}
 use Rattle.store.proofs.perform.Goals as goal
 
 -- What is promised of the call at hand is promised of the call that was asked.
-told : {k call : Call} {m n : Image} {r : Answer} → call ≡ k → Done (asked k) m r n → Done (asked call) m r n
+told : {k call : Call} {m n : Image} {r : Answered} → call ≡ k → Done (asked k) m r n → Done (asked call) m r n
 told {k} {call} {m} {n} {r} e done = subst (λ (a : Call). Done (asked a) m r n) (sym e) done
 
 pub returns-in-Start : goal.returns-in-Start

@@ -1,32 +1,26 @@
 -- Refused by the form or by a row; else the transaction has ended in the blocks and is closed. Assumes nothing.
-use mathlib.Core.Path.{◌∙◌, sym}
 use Rattle.control.specs.Meaning.{meaning}
-use Rattle.promise.proofs.Finish.{by_form, given}
+use Rattle.promise.proofs.Finish.{by_form, given, given-whole}
 use Rattle.promise.proofs.SharedRows.{tran-accepted}
 use Rattle.transactions.specs.Transactions.{end_call}
-use Rattle.transactions.proofs.Calls.{end-done, end_refused, whole-read}
+use Rattle.transactions.proofs.Calls.{end-done, end_refused}
 use Rattle.transactions.proofs.Rows.{end-late}
 use Rattle.transactions.proofs.end.Goals as goal
 
-pub returns-then-found-ne0 : goal.returns-then-found-ne0
-returns-then-found-ne0 c =
-    let a = c.args in
-    by_form (end_call a.take a.tran.0) (end-late a.take a.tran.0) a.image.now c.read-found.result.refusal c.read-found.ensures.refusal_is c.if-found-ne0.true
+pub returns-in_err-k : goal.returns-in_err-k
+returns-in_err-k c = let a = c.args in by_form (end_call a.take a.tran.0) (end-late a.take a.tran.0) a.image.now _ _ c.in_err-k.ensures c.from_residual.ensures
 
-pub tran_refusal-refusal-requires : goal.tran_refusal-refusal-requires
-tran_refusal-refusal-requires c =
-    given c.read-found.ensures c.if-found-ne0.false
+pub check_tran-requires : goal.check_tran-requires
+check_tran-requires c = given c.in_ok-k.ensures
 
-pub returns-then-refusal-ne0 : goal.returns-then-refusal-ne0
-returns-then-refusal-ne0 c =
-    let a = c.args in
-    end_refused a.image.now c.read-found.result c.read-found.ensures c.if-found-ne0.false a.take a.tran.0 c.tran_refusal-refusal.result c.tran_refusal-refusal.ensures c.if-refusal-ne0.true
+pub returns-in_err-check_tran : goal.returns-in_err-check_tran
+returns-in_err-check_tran c =
+    let a = c.args in end_refused (given c.in_ok-k.ensures) a.take a.tran.0 _ _ c.in_err-check_tran.ensures c.from_residual-in_err-check_tran.ensures
 
 pub end_open-requires : goal.end_open-requires
 end_open-requires c =
-    let a = c.args in record { whole = whole-read a.image.now c.read-found.result c.read-found.ensures c.if-found-ne0.false; counted = (c.read-found.ensures.good c.if-found-ne0.false).counted; tran_nonzero = tran-accepted (meaning c.read-found.result.control) a.tran.0 (sym c.if-refusal-ne0.false ∙ c.tran_refusal-refusal.ensures) }
+    let e = given c.in_ok-k.ensures in
+    record { whole = given-whole e; counted = e.is.counted; tran_nonzero = tran-accepted (meaning c.in_ok-k.k) c.args.tran.0 c.in_ok-check_tran.ensures }
 
 pub returns : goal.returns
-returns c =
-    let a = c.args in
-    end-done a.image.now c.read-found.result c.read-found.ensures c.if-found-ne0.false a.take a.tran.0 _ (sym c.if-refusal-ne0.false ∙ c.tran_refusal-refusal.ensures) c.end_open.ensures
+returns c = let a = c.args in end-done (given c.in_ok-k.ensures) a.take a.tran.0 _ c.in_ok-check_tran.ensures c.end_open.ensures

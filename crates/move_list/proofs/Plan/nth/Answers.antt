@@ -11,7 +11,7 @@ use Rattle.move_list.proofs.MovePlans.{below_next, move-beyond, move-here, none_
 use Rattle.move_list.proofs.Plan.nth.Goals as goal
 
 pub loop-b-init : goal.loop-b-init
-loop-b-init c = (omega arith, none_below c.args.self.origins c.args.n)
+loop-b-init c = none_below c.args.self.origins c.args.n
 
 pub overflow_cast-left : goal.overflow_cast-left
 overflow_cast-left c =
@@ -27,7 +27,7 @@ pub returns-then-left-here : goal.returns-then-left-here
 returns-then-left-here c =
     let a = c.args in
     ap (λ (x : ℕ). move-of x c.loop-b.b) c.nth_member.ensures
-    ∙ move-here a.self.origins a.n c.loop-b.b c.loop-b.left (omega arith) c.loop-b.invariant.1 (omega (arith, c.members-here.ensures, c.if-left-here.true))
+    ∙ move-here a.self.origins a.n c.loop-b.b c.loop-b.left (omega arith) c.loop-b.invariant (omega (arith, c.members-here.ensures, c.if-left-here.true))
   where
     move-of : ℕ → ℕ → Move
     move-of x b = record { 0 = record { 0 = x }; 1 = record { 0 = b } }
@@ -35,9 +35,9 @@ returns-then-left-here c =
 pub loop-b-preserved : goal.loop-b-preserved
 loop-b-preserved c =
     let a = c.args in
-    (omega arith, below_next a.self.origins a.n c.loop-b.b c.loop-b.left c.members-here.result c.loop-b.invariant.1 c.members-here.ensures c.if-left-here.false)
+    below_next a.self.origins a.n c.loop-b.b c.loop-b.left c.members-here.result c.loop-b.invariant c.members-here.ensures c.if-left-here.false
 
 pub returns : goal.returns
 returns c =
     let a = c.args in
-    move-beyond a.self.origins a.n c.loop-b.b c.loop-b.left (omega arith) c.loop-b.invariant.1
+    move-beyond a.self.origins a.n c.loop-b.b c.loop-b.left (omega arith) c.loop-b.invariant

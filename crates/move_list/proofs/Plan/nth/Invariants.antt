@@ -6,7 +6,4 @@ use Rattle.move_list.proofs.MovePlans.{moves_below}
 use Rattle.move_list.proofs.Plan.nth.Given as goal
 
 abbrev pub invariant-loop-b : goal.invariant-loop-b
-invariant-loop-b l = (l.b ≤ block_count) × (l.n ≡ moves_below l.origins l.b + l.left)
-
-abbrev pub decreases-loop-b : goal.decreases-loop-b
-decreases-loop-b l = block_count - l.b
+invariant-loop-b l = l.n ≡ moves_below l.self.origins l.b + l.left

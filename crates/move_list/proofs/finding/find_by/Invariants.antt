@@ -10,8 +10,5 @@ use Rattle.move_list.proofs.FoundMoves.{locked_block, moves_below, origin}
 use Rattle.move_list.proofs.finding.find_by.Given as goal
 
 abbrev pub invariant-loop-b : goal.invariant-loop-b
-invariant-loop-b l = (l.b ≤ block_count) × (length l.origins ≡ block_count) × (l.count ≤ card_count * l.b)
+invariant-loop-b l = (length l.origins ≡ block_count) × (l.count ≤ card_count * l.b)
     × (l.count ≡ length (moves_below l.image l.b)) × MasksBelow (origin l.image) l.origins l.b × (any_below l.b (locked_block l.image) ≡ false) × (l.place ≡ l.b % l.round)
-
-abbrev pub decreases-loop-b : goal.decreases-loop-b
-decreases-loop-b l = block_count - l.b

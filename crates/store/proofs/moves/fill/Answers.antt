@@ -14,9 +14,8 @@ loop-i-preserved c =
     let l = c.loop-i in
     let a = c.args in
     let within : l.i < length a.list.now = omega arith in (
-      omega arith,
-      length-set l.list l.i c.nth.result ∙ l.invariant.1,
+      length-set l.list l.i c.nth.result ∙ l.invariant.0,
       ap (set l.list l.i) c.nth.ensures
-          ∙ ap (λ (x : List Move). set x l.i (move_at (moves_in a.plan.origins) l.i)) l.invariant.2
+          ∙ ap (λ (x : List Move). set x l.i (move_at (moves_in a.plan.origins) l.i)) l.invariant.1
           ∙ set_next (moves_in a.plan.origins) l.i a.list.now within,
     )

@@ -5,7 +5,4 @@ use Rattle.store.proofs.moves.fill.Given as goal
 
 abbrev pub invariant-loop-i : goal.invariant-loop-i
 invariant-loop-i l =
-    (l.i ≤ l.n) × (length l.list ≡ length l.initial.list) × (l.list ≡ first_moves (moves_in l.plan.origins) l.i ++ drop l.i l.initial.list)
-
-abbrev pub decreases-loop-i : goal.decreases-loop-i
-decreases-loop-i l = l.n - l.i
+    (length l.list ≡ length l.initial.list) × (l.list ≡ first_moves (moves_in l.plan.origins) l.i ++ drop l.i l.initial.list)

@@ -1,24 +1,30 @@
--- The plan's moves are put as far as they fit, and what is answered is what was found (`list_done`).
-use Prim.Native.Nat.{◌≤◌, ℕ}
-use lib.ListN.{drop, length}
-use mathlib.Core.List.{List, ◌++◌}
-use mathlib.Core.Path.{◌∙◌, ap, subst, sym}
-use Rattle.move_list.specs.Plans.{first_moves, moves_in, plan_answer}
-use Rattle.move_list.specs.Promise.{ListDone}
-use Rattle.move_list.specs.declared.Listed.{Listed}
-use Rattle.move_list.specs.declared.Move.{Move}
-use Rattle.move_list.proofs.MovePlans.{list_done, stored-le}
+-- Refused, none or too short: the list is as lent; else the moves that were found are put. Assumes nothing.
+use Rattle.std.specs.Prelude.{None, Option, Some}
+use mathlib.Core.Path.{subst}
+use Rattle.move_list.specs.Plans.{Finds}
+use Rattle.move_list.specs.declared.Plan.{Plan}
+use Rattle.move_list.proofs.MovePlans.{filled-done, locked-done, refused-done, short-done, stored-le}
 use Rattle.store.proofs.moves.list.Goals as goal
 
-pub fill-requires : goal.fill-requires
-fill-requires c =
-    subst (λ (k : ℕ). k ≤ length c.args.list.now) (sym c.stored-n.ensures) (stored-le c.find_moves-plan.result (length c.args.list.now))
+pub returns-in_err-found : goal.returns-in_err-found
+returns-in_err-found c = let a = c.args in refused-done a.image.now a.list.now _ _ c.in_err-found.ensures.refusal_is c.from_residual.ensures
 
-pub returns : goal.returns
-returns c =
-    let p = c.find_moves-plan.result in
-    let lent = c.args.list.now in
-    let g = c.args.image.now in
-    let put = c.fill.ensures ∙ ap (λ (k : ℕ). first_moves (moves_in p.origins) k ++ drop k lent) c.stored-n.ensures in
-    subst (λ (x : Listed). ListDone g lent x c.fill.new.list) (sym c.answer.ensures)
-    (subst (λ (l : List Move). ListDone g lent (plan_answer p (length lent)) l) (sym put) (list_done p g c.find_moves-plan.ensures lent))
+pub returns-in_err-n-in-Some : goal.returns-in_err-n-in-Some
+returns-in_err-n-in-Some c =
+    let a = c.args in
+    let f : Finds a.image.now (Some c.in-Some.plan) = subst (Finds a.image.now) c.in-Some.is c.in_ok-found.ensures.finds in
+    short-done a.image.now a.list.now c.in_ok-found.ensures.refusal_is c.in-Some.plan f _ _ c.in_err-n-in-Some.ensures c.from_residual-in_err-n-in-Some.ensures
+
+pub fill-requires : goal.fill-requires
+fill-requires c = stored-le c.in-Some.plan _ _ c.in_ok-n-in-Some.ensures
+
+pub returns-in_ok-n-in-Some : goal.returns-in_ok-n-in-Some
+returns-in_ok-n-in-Some c =
+    let a = c.args in
+    let f : Finds a.image.now (Some c.in-Some.plan) = subst (Finds a.image.now) c.in-Some.is c.in_ok-found.ensures.finds in
+    filled-done a.image.now a.list.now c.in_ok-found.ensures.refusal_is c.in-Some.plan f _ c.in_ok-n-in-Some.ensures _ c.fill.ensures
+
+pub returns-in-None : goal.returns-in-None
+returns-in-None c =
+    let a = c.args in
+    locked-done a.image.now a.list.now c.in_ok-found.ensures.refusal_is (subst (Finds a.image.now) c.in-None.is c.in_ok-found.ensures.finds)

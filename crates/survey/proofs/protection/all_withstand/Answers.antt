@@ -1,39 +1,28 @@
 -- The placements before i withstand one more failure: a search that stops at the first that does not. Assumes nothing.
-use Prim.Native.Nat.{◌-◌}
 use borrow.Author.Rules.{rules}
-use mathlib.Core.Bool.{true}
-use mathlib.Core.Path.{refl}
+use mathlib.Core.Bool.{not}
+use mathlib.Core.Path.{ap}
 use native.Mathlib.Omega.{arith}
 use Rattle.method.specs.Protection.{withstands}
 use Rattle.control.specs.Meaning.{meaning}
 use Rattle.control.proofs.Active.{every-passed, one-fails, one_passes}
 use Rattle.control_form.proofs.Checks.{failed-is, passed_is}
 use Rattle.cabinet_rules.specs.Cabinet.{cabinet}
-use mathlib.Core.Bool.{not}
-use mathlib.Core.Path.{ap}
 use Rattle.survey.proofs.protection.all_withstand.Goals as goal
-
-pub loop-i-init : goal.loop-i-init
-loop-i-init c = (search rules, refl)
 
 pub returns-then-not-withstands : goal.returns-then-not-withstands
 returns-then-not-withstands c =
-    let l = c.loop-i in
     let k = c.args.k in
-    one-fails (withstands cabinet tt (meaning k).working (meaning k).failed) k c.requires l.i (search rules)
+    one-fails (withstands cabinet tt (meaning k).working (meaning k).failed) k c.requires c.loop-i.i (search rules)
     (unfold meaning in (failed-is c.withstands.ensures (ap not c.if-not-withstands.true)))
 
 pub loop-i-preserved : goal.loop-i-preserved
 loop-i-preserved c =
-    let l = c.loop-i in
-    let k = c.args.k in (
-      search rules,
-      one_passes (withstands cabinet tt (meaning k).working (meaning k).failed) k c.requires l.i
-          (unfold meaning in (passed_is c.withstands.ensures (ap not c.if-not-withstands.false))) l.invariant.1,
-    )
+    let k = c.args.k in
+    one_passes (withstands cabinet tt (meaning k).working (meaning k).failed) k c.requires c.loop-i.i
+    (unfold meaning in (passed_is c.withstands.ensures (ap not c.if-not-withstands.false))) c.loop-i.invariant
 
 pub returns : goal.returns
 returns c =
-    let l = c.loop-i in
     let k = c.args.k in
-    every-passed (withstands cabinet tt (meaning k).working (meaning k).failed) k c.requires l.i (omega arith) l.invariant.1
+    every-passed (withstands cabinet tt (meaning k).working (meaning k).failed) k c.requires c.loop-i.i (omega arith) c.loop-i.invariant

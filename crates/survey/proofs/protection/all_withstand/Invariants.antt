@@ -1,5 +1,4 @@
 -- The placements before i withstand one more failure: a search that stops at the first that does not. Assumes nothing.
-use Prim.Native.Nat.{◌-◌, ◌≤◌}
 use mathlib.Core.Bool.{true}
 use mathlib.Core.Path.{◌≡◌}
 use Rattle.lists.specs.Tests.{all_below}
@@ -10,7 +9,4 @@ use Rattle.cabinet_rules.specs.Cabinet.{cabinet}
 use Rattle.survey.proofs.protection.all_withstand.Given as goal
 
 abbrev pub invariant-loop-i : goal.invariant-loop-i
-invariant-loop-i l = (l.i ≤ l.k.count) × (all_below l.i (mask_passes (withstands cabinet tt (meaning l.k).working (meaning l.k).failed) l.k) ≡ true)
-
-abbrev pub decreases-loop-i : goal.decreases-loop-i
-decreases-loop-i l = l.k.count - l.i
+invariant-loop-i l = all_below l.i (mask_passes (withstands cabinet tt (meaning l.k).working (meaning l.k).failed) l.k) ≡ true

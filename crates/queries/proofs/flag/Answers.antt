@@ -1,9 +1,0 @@
--- By the test. Assumes nothing.
-
-use Rattle.queries.proofs.flag.Goals as goal
-
-pub returns-then-yes : goal.returns-then-yes
-returns-then-yes c = rw c.if-yes.true
-
-pub returns : goal.returns
-returns c = rw c.if-yes.false
