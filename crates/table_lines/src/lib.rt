@@ -1,8 +1,9 @@
 // The lines of a table by which a plant chooses the cards of blocks: lent bytes, four a line.
 #![tactic(auto)]
 
-ghost use Rattle.std.specs.Prelude.{◌≡◌, true, cond, ◌||◌, ◌+◌, ◌*◌, ◌<◌, eqb, ltb};
-ghost use Rattle.lists.specs.Tests.{all_below, one_if};
+ghost use Rattle.std.specs.Prelude.{◌≡◌, true, false, ◌||◌, ◌<◌, eqb, ltb};
+ghost use Rattle.std.specs.Option.{MatchOption};
+ghost use Rattle.lists.specs.Tests.{all_below};
 ghost use Rattle.image.specs.Layout.{card_count};
 ghost use Rattle.mask.specs.Masks.{byte, with_card};
 ghost use Rattle.mask.specs.Pairs.{pair_bound, pairs_from};
@@ -17,7 +18,6 @@ ghost use Rattle.table_lines.specs.Lines.{
   line_works,
   lines_with,
   lines_work,
-  most_lines,
   named_by,
   pair_by,
 };
@@ -80,7 +80,7 @@ fn all_in_range(lines: &[u8]) -> bool
 
 // The bytes are whole lines, not too many, and each line is in its ranges.
 #[tactic(auto, unfolding(crate::specs::Lines::are_lines))]
-pub fn in_range(lines: &[u8]) -> bool
+fn in_range(lines: &[u8]) -> bool
     ensures { result ≡ are_lines lines.now }
 {
     lines.len() % LINE_SIZE == 0 && line_count(lines) <= MOST_LINES && all_in_range(lines)
@@ -94,13 +94,6 @@ fn line_works(working: u8, line: Line) -> bool
     line.one != line.two && mask::has(working, Card(line.one)) && mask::has(working, Card(line.two))
 }
 
-// So are those of every line.
-pub fn work(lines: &[u8], working: u8) -> bool
-    ensures { result ≡ lines_work (byte working) lines.now }
-{
-    (0..line_count(lines)).all(|i| line_works(working, line_at(lines, i)))
-}
-
 // The line has the block.
 #[tactic(auto, unfolding(crate::specs::Lines::has_block))]
 fn has_block(line: Line, block: Block) -> bool
@@ -109,17 +102,12 @@ fn has_block(line: Line, block: Block) -> bool
     line.first <= block.0 && block.0 <= line.last
 }
 
-// How many lines have the block.
-fn lines_with(lines: &[u8], block: Block) -> usize
-    ensures { result ≡ lines_with lines.now block.0 }
+// The mask with the cards of the line.
+fn with_line(mask: u8, line: Line) -> u8
+    requires { (line.one < card_count) × (line.two < card_count) }
+    ensures { byte result ≡ with_card (with_card (byte mask) line.one) line.two }
 {
-    let mut n: usize = 0;
-    for i in 0..line_count(lines) {
-        if has_block(line_at(lines, i), block) {
-            n += 1;
-        }
-    }
-    n
+    mask::with_card(mask::with_card(mask, Card(line.one)), Card(line.two))
 }
 
 // Whether some block is in no line, and whether some block is in two.
@@ -141,63 +129,108 @@ impl Covered {
     }
 }
 
-// The same of all blocks: each is looked up in the lines once.
-pub fn coverage(lines: &[u8]) -> Covered
-    ensures { (result.gap ≡ has_gap lines.now) × (result.overlap ≡ has_overlap lines.now) }
-{
-    let mut found = Covered {
-        gap: false,
-        overlap: false,
-    };
-    for b in 0..BLOCK_COUNT as u8 {
-        found = found.with_block(lines_with(lines, Block(b)));
-    }
-    found
+// The lines of a table: bytes that are whole lines, not too many, and each line in its ranges.
+#[derive(Clone, Copy)]
+pub struct Lines<'a> {
+    pub bytes: &'a [u8],
+    ghost are_lines: { are_lines bytes.now ≡ true },
 }
 
-// The mask with the cards of the line.
-fn with_line(mask: u8, line: Line) -> u8
-    requires { (line.one < card_count) × (line.two < card_count) }
-    ensures { byte result ≡ with_card (with_card (byte mask) line.one) line.two }
-{
-    mask::with_card(mask::with_card(mask, Card(line.one)), Card(line.two))
-}
-
-// The cards that the lines name.
-pub fn named(lines: &[u8]) -> u8
-    requires { are_lines lines.now ≡ true }
-    ensures { byte result ≡ named_by lines.now (line_count lines.now) }
-{
-    let mut mask: u8 = 0;
-    for i in 0..line_count(lines) {
-        mask = with_line(mask, line_at(lines, i));
-    }
-    mask
-}
-
-// The pair of a block: that of the last line that has it.
-fn pair_for(lines: &[u8], block: Block) -> u8
-    requires { are_lines lines.now ≡ true }
-    ensures { (result ≡ pair_by lines.now block.0 (line_count lines.now)) × (result < pair_bound) }
-{
-    let mut pair: u8 = 0;
-    for i in 0..line_count(lines) {
-        let line = line_at(lines, i);
-        if has_block(line, block) {
-            pair = line.one * CARD_COUNT as u8 + line.two;
+impl<'a> Lines<'a> {
+    // The lines that the bytes are, if they are lines.
+    pub fn new(bytes: &'a [u8]) -> Option<Lines<'a>>
+        ensures { MatchOption result (are_lines bytes.now ≡ false) (λ lines. lines.bytes.now ≡ bytes.now) }
+    {
+        if in_range(bytes) {
+            Some(Lines { bytes })
+        } else {
+            None
         }
     }
-    pair
-}
 
-// The pairs of all blocks, as bytes keep them.
-pub fn pairs(lines: &[u8]) -> [u8; image::PAIRS_SIZE]
-    requires { are_lines lines.now ≡ true }
-    ensures { result ≡ (pairs_from (λ b. pair_by lines.now b (line_count lines.now))).0 }
-{
-    let mut each = [0u8; BLOCK_COUNT];
-    for b in 0..BLOCK_COUNT {
-        each[b] = pair_for(lines, Block(b as u8));
+    // How many there are.
+    fn count(self) -> usize
+        ensures { result ≡ line_count self.entry.bytes.now }
+    {
+        line_count(self.bytes)
     }
-    mask::pairs::pack(each)
+
+    // Line i.
+    fn line(self, i: usize) -> Line
+        requires { i < line_count self.bytes.now }
+        ensures is { meant result ≡ line_at self.entry.bytes.now i }
+        ensures cards { (result.one < card_count) × (result.two < card_count) }
+    {
+        line_at(self.bytes, i)
+    }
+
+    // Whether the cards of every line are different and work.
+    pub fn work(self, working: u8) -> bool
+        ensures { result ≡ lines_work (byte working) self.entry.bytes.now }
+    {
+        (0..self.count()).all(|i| line_works(working, self.line(i)))
+    }
+
+    // How many lines have the block.
+    fn with_block(self, block: Block) -> usize
+        ensures { result ≡ lines_with self.entry.bytes.now block.0 }
+    {
+        let mut n: usize = 0;
+        for i in 0..self.count() {
+            if has_block(self.line(i), block) {
+                n += 1;
+            }
+        }
+        n
+    }
+
+    // What is found of all blocks: each is looked up in the lines once.
+    pub fn coverage(self) -> Covered
+        ensures { (result.gap ≡ has_gap self.entry.bytes.now) × (result.overlap ≡ has_overlap self.entry.bytes.now) }
+    {
+        let mut found = Covered {
+            gap: false,
+            overlap: false,
+        };
+        for b in 0..BLOCK_COUNT as u8 {
+            found = found.with_block(self.with_block(Block(b)));
+        }
+        found
+    }
+
+    // The cards that the lines name.
+    pub fn named(self) -> u8
+        ensures { byte result ≡ named_by self.entry.bytes.now (line_count self.entry.bytes.now) }
+    {
+        let mut mask: u8 = 0;
+        for i in 0..self.count() {
+            mask = with_line(mask, self.line(i));
+        }
+        mask
+    }
+
+    // The pair of a block: that of the last line that has it.
+    fn pair_for(self, block: Block) -> u8
+        ensures { (result ≡ pair_by self.entry.bytes.now block.0 (line_count self.entry.bytes.now)) × (result < pair_bound) }
+    {
+        let mut pair: u8 = 0;
+        for i in 0..self.count() {
+            let line = self.line(i);
+            if has_block(line, block) {
+                pair = line.one * CARD_COUNT as u8 + line.two;
+            }
+        }
+        pair
+    }
+
+    // The pairs of all blocks, as bytes keep them.
+    pub fn pairs(self) -> [u8; image::PAIRS_SIZE]
+        ensures { result ≡ (pairs_from (λ b. pair_by self.entry.bytes.now b (line_count self.entry.bytes.now))).0 }
+    {
+        let mut each = [0u8; BLOCK_COUNT];
+        for b in 0..BLOCK_COUNT {
+            each[b] = self.pair_for(Block(b as u8));
+        }
+        mask::pairs::pack(each)
+    }
 }
