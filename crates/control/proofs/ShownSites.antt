@@ -10,13 +10,13 @@ use lib.ListN.{get_or}
 use borrow.Rule.Slice.PartMut.{mid_of}
 use Rattle.lists.specs.Tests.{elem}
 use Rattle.lists.proofs.Segments.{get_or-segment}
-use Rattle.image.specs.Layout.{block_count, copy_count, pairs_size, tail_start}
+use Rattle.image.specs.Layout.{block_count, pairs_size, tail_start}
+use Rattle.image.specs.declared.Card.{Card}
 use Rattle.image.proofs.Parts.{part-is}
 use Rattle.mask.specs.Masks.{AreMembers, byte}
 use Rattle.mask.specs.Pairs.{Pairs, first_card, pair_at, pairs_byte, second_card, table_sites}
 use Rattle.mask.specs.Placements.{AreSites, Choice, Enough, Masked, Placement, Usable, by_table, choice_of, is_site, placed, site_list, sites_of}
 use Rattle.mask.specs.SiteMasks.{MasksBelow, SitesIn}
-use Rattle.mask.specs.declared.Sites.{Sites}
 use Rattle.mask.proofs.PairLaws.{is_card_of, pair_same}
 use Rattle.mask.proofs.SiteLaws.{are-sites}
 use Rattle.control.specs.ControlBytes.{chosen_by, mark_in, marks_at, masks_at, pairs_in, placement_at, table_mark_in, tail_at}
@@ -66,9 +66,9 @@ module _ (g t : ℕ → ℕ) (i : ℕ) where
   unfolding sites_of table_sites
   table-listed e b = ap (λ (p : Placement). sites_of p b) (shown-table e)
 
-  pub table-sites-are : (s : Sites) (b pair : ℕ) → Usable shown → b < block_count → table_mark_in (g marks_at) i ≡ true → pair ≡ pair_of b
-      → s.count ≡ copy_count → site_list s ≡ first_card pair ∷ second_card pair ∷ [] → AreSites s shown b
-  table-sites-are s b pair u h e q n l = are-sites s shown b u h n (table-listed e b ∙ ap (λ (x : ℕ). first_card x ∷ second_card x ∷ []) (sym q) ∙ sym l)
+  pub table-sites-are : (s : List Card) (b pair : ℕ) → Usable shown → b < block_count → table_mark_in (g marks_at) i ≡ true → pair ≡ pair_of b
+      → site_list s ≡ first_card pair ∷ second_card pair ∷ [] → AreSites s shown b
+  table-sites-are s b pair u h e q l = are-sites s shown b u h (table-listed e b ∙ ap (λ (x : ℕ). first_card x ∷ second_card x ∷ []) (sym q) ∙ sym l)
 
   pub table-mask-is : (r b pair : ℕ) → table_mark_in (g marks_at) i ≡ true → pair ≡ pair_of b → AreMembers r (is_card_of pair) → AreMembers r (is_site shown b)
   table-mask-is r b pair e q are c = are c ∙ ap (elem c) (ap (λ (x : ℕ). first_card x ∷ second_card x ∷ []) q ∙ sym (table-listed e b))

@@ -1,6 +1,6 @@
 // The pairs of placements by table, behind the tables of an image: written, and moved with their placement.
-ghost use Rattle.std.specs.Prelude.{◌≡◌, ◌*◌, ◌+◌, ◌-◌, ◌<◌, ◌≤◌, length};
-ghost use Rattle.lists.specs.Segments.{segment, splice};
+ghost use Rattle.std.specs.Prelude.{◌≡◌, ◌*◌, ◌+◌, ◌-◌, ◌<◌, ◌≤◌};
+ghost use Rattle.lists.specs.Segments.{splice};
 ghost use Rattle.image.specs.Layout.{most_active, pairs_size, tail_start};
 ghost use Rattle.image.specs.Parts.{Whole};
 ghost use Rattle.control.specs.ControlBytes.{tail_at};
@@ -22,24 +22,13 @@ pub fn put(image: &mut [u8], i: usize, pairs: [u8; image::PAIRS_SIZE])
     image::write_at(image, start(i), &pairs);
 }
 
-// The bytes of image from index at that are the pairs of a placement.
-fn read_at(image: &[u8], at: usize) -> [u8; image::PAIRS_SIZE]
-    requires { at + pairs_size ≤ length image.now }
-    ensures { result ≡ segment image.now at pairs_size }
-{
-    let mut bytes = [0u8; image::PAIRS_SIZE];
-    let end = at + image::PAIRS_SIZE;
-    image::write_at(&mut bytes, 0, &image[at..end]);
-    bytes
-}
-
 // Of so many placements only the newest remains: its pairs move to the front of the bytes behind the tables, and the
 // others become zero. Where no placement is by table those bytes are zero already, and callers skip it.
 pub fn retire(image: &mut [u8], count: u8)
     requires { Whole image.old × (1 ≤ count) × (count ≤ most_active) }
     ensures { image.new ≡ put_tail image.old (only_pairs (tail_at image.old) (count - 1)) }
 {
-    let pairs = read_at(image, start((count - 1) as usize));
+    let pairs = image::read_at(image, start((count - 1) as usize));
     put(image, 0, pairs);
     let rest = image::TAIL_START + image::PAIRS_SIZE;
     let end = image::IMAGE_SIZE;

@@ -29,19 +29,12 @@ pub fn next(serial: u32) -> u32
     serial + 1
 }
 
-// A byte as a number of 32 bits.
-fn wide(b: u8) -> u32
-    ensures { (result ≡ b) × (result < 256) }
-{
-    b as u32
-}
-
 // The serial in the three bytes from index at.
 pub fn read(s: &[u8], at: usize) -> u32
     requires { at + serial_size ≤ length s.now }
     ensures { (result ≡ serial_in (λ j. get_or s.now (at + j) 0)) × (result < serial_bound) }
 {
-    wide(s[at]) * FIRST_WEIGHT + wide(s[at + 1]) * SECOND_WEIGHT + wide(s[at + 2])
+    u32::from(s[at]) * FIRST_WEIGHT + u32::from(s[at + 1]) * SECOND_WEIGHT + u32::from(s[at + 2])
 }
 
 // Its bytes.

@@ -19,8 +19,8 @@ ghost use Rattle.control.specs.ControlBytes.{
 
 use crate::codec::{MARKS_AT, MASKS_AT};
 use crate::{FIRST_MARK, FIRST_TABLE_MARK, pairs};
-use image::Block;
-use mask::{Placement, Sites};
+use image::{Block, Card};
+use mask::Placement;
 
 // Whether it is by table.
 fn by_table(image: &[u8], i: usize) -> bool
@@ -54,8 +54,8 @@ fn pair(image: &[u8], i: usize, block: Block) -> u8
     mask::pairs::pair_at(&image[start..end], block)
 }
 
-// The sites of a block, as a list.
-pub fn at(image: &[u8], i: usize, block: Block) -> Sites
+// The sites of a block, in the order of the rules.
+pub fn at(image: &[u8], i: usize, block: Block) -> [Card; image::COPY_COUNT]
     requires whole { Whole image.now × (i < most_active) × (block.0 < block_count) }
     requires usable { Usable (placement_at (λ n. get_or image.now n 0) (tail_at image.now) i) }
     ensures { AreSites result (placement_at (λ n. get_or image.now n 0) (tail_at image.now) i) block.0 }

@@ -8,7 +8,7 @@ ghost use Rattle.control.specs.ControlBytes.{home_in};
 ghost use Rattle.control_form.specs.Reading.{all_from, half_size, is_home_at, word_size};
 
 use control::codec::{FIELD, FIELD_BOUND, OPEN};
-use image::{Card, wide};
+use image::Card;
 
 // Bytes of a word, and half of them.
 pub const WORD_SIZE: usize = 8;
@@ -36,10 +36,10 @@ pub fn half(s: &[u8], at: usize) -> u64
     requires { at + half_size ≤ length s.now }
     ensures { (result ≡ of_bytes (λ i. get_or s.now (at + i) 0) half_size) × (result < 2 ^ 32) }
 {
-    wide(s[at])
-        + wide(s[at + 1]) * 0x100
-        + wide(s[at + 2]) * 0x1_0000
-        + wide(s[at + 3]) * 0x100_0000
+    u64::from(s[at])
+        + u64::from(s[at + 1]) * 0x100
+        + u64::from(s[at + 2]) * 0x1_0000
+        + u64::from(s[at + 3]) * 0x100_0000
 }
 
 // The eight bytes from an index on.
@@ -69,6 +69,6 @@ pub fn lack_home(s: &[u8], at: usize, home: Card) -> bool
     ensures { result ≡ all_from at (at + word_size) (λ n. not (is_card (home_in (get_or s.now n 0)) home.0)) }
 {
     let w = word(s, at);
-    let differ = (w / FIELD as u64) ^ (wide(FIELD_BOUND + home.0) * ONES);
+    let differ = (w / FIELD as u64) ^ (u64::from(FIELD_BOUND + home.0) * ONES);
     ((differ + NIBBLES) & CARRIES) == CARRIES
 }

@@ -29,11 +29,9 @@ pub const COPY_COUNT: usize = 2;
 
 pub const TRAN_COUNT: usize = 15;
 
-// Limits: the least members of a placement; the most copies of a block; the most active placements that a place leaves,
-// and that there ever are; the cards on a supply rail.
+// Limits: the least members of a placement; the most active placements that a place leaves, and that there ever are; the
+// cards on a supply rail.
 pub const LEAST_MEMBERS: u32 = COPY_COUNT as u32;
-
-pub const MOST_COPIES: usize = COPY_COUNT;
 
 pub const MOST_PLACED: u8 = 3;
 
@@ -65,51 +63,38 @@ pub const TAIL_START: usize = CONTROL_SIZE + CARD_COUNT * TABLE_SIZE;
 pub const IMAGE_SIZE: usize = TAIL_START + TAIL_SIZE;
 
 // A card, 0 to 7.
-#[derive(Clone, Copy)]
+#[derive(Clone, Copy, PartialEq, Eq, Debug)]
 pub struct Card(pub u8);
 
 // A block of a card's table, 0 to 63.
-#[derive(Clone, Copy)]
+#[derive(Clone, Copy, PartialEq, Eq, Debug)]
 pub struct Block(pub u8);
 
 // A record, 0 to 511.
-#[derive(Clone, Copy)]
+#[derive(Clone, Copy, PartialEq, Eq, Debug)]
 pub struct Rec(pub u16);
 
 // A transaction, 1 to 15.
-#[derive(Clone, Copy)]
+#[derive(Clone, Copy, PartialEq, Eq, Debug)]
 pub struct Tran(pub u8);
-
-// A byte as a number of 64 bits.
-pub fn wide(b: u8) -> u64
-    ensures { (result ≡ b) × (result < 256) }
-{
-    b as u64
-}
 
 // Writes bytes into s from index at.
 pub fn write_at(s: &mut [u8], at: usize, bytes: &[u8])
     requires { at + length bytes.now ≤ length s.old }
     ensures { s.new ≡ splice s.old at bytes.now }
 {
-    let mut i = 0;
-    while i < bytes.len() {
-        s[at + i] = bytes[i];
-        i += 1;
-    }
+    let end = at + bytes.len();
+    s[at..end].copy_from_slice(bytes);
 }
 
-// The 41 bytes of s from index at.
-pub fn read_at(s: &[u8], at: usize) -> [u8; BLOCK_SIZE]
-    requires { at + block_size ≤ length s.now }
-    ensures { result ≡ segment s.now at block_size }
+// The N bytes of s from index at.
+pub fn read_at<const N: usize>(s: &[u8], at: usize) -> [u8; N]
+    requires { at + N ≤ length s.now }
+    ensures { result ≡ segment s.now at N }
 {
-    let mut bytes = [0u8; BLOCK_SIZE];
-    let mut i = 0;
-    while i < BLOCK_SIZE {
-        bytes[i] = s[at + i];
-        i += 1;
-    }
+    let mut bytes = [0u8; N];
+    let end = at + N;
+    bytes.copy_from_slice(&s[at..end]);
     bytes
 }
 
@@ -168,11 +153,7 @@ pub fn get_block(image: &[u8], card: Card, block: Block) -> [u8; BLOCK_SIZE]
 pub fn clear(s: &mut [u8])
     ensures { s.new ≡ zeros (length s.old) }
 {
-    let mut i = 0;
-    while i < s.len() {
-        s[i] = 0;
-        i += 1;
-    }
+    s.fill(0);
 }
 
 // Writes zeros over a card's table, its stamp too.
@@ -190,10 +171,8 @@ pub fn all_zero(bytes: &[u8]) -> bool
     ensures { result ≡ all_below (length bytes.now) (λ n. eqb (get_or bytes.now n 0) 0) }
 {
     let mut any: u8 = 0;
-    let mut i = 0;
-    while i < bytes.len() {
-        any = any | bytes[i];
-        i += 1;
+    for b in bytes {
+        any |= *b;
     }
     any == 0
 }

@@ -3,13 +3,13 @@ use mathlib.Core.Path.{◌≡◌, ◌∙◌, ap, refl}
 use mathlib.Core.Bool.{Bool, true, not, ◌||◌}
 use mathlib.Core.List.{List}
 use mathlib.Core.Logic.{◌⊎◌, inl, inr}
-use Prim.Native.Nat.{ℕ, suc, ◌-◌, ◌<◌, ◌≤◌}
+use Prim.Native.Nat.{ℕ, ◌-◌, ◌<◌, ◌≤◌}
 use native.Mathlib.Omega.{arith}
 use lib.Bits.{bit_and}
 use lib.Count.{count_leading_zeros}
 use lib.Dec.{ltb, eqb}
 use lib.ListN.{length, get_or, take}
-use lib.Seq.{get_or-take, length-take-le, take-take}
+use lib.Seq.{get_or-take, length-take-le}
 use borrow.Author.Tests.{eqb-true, lt-ltb}
 use Rattle.lists.specs.Tests.{all_below}
 use Rattle.lists.proofs.Bools.{imp-out}
@@ -52,20 +52,12 @@ module _ (n : ℕ) (some : 0 < length (members (byte n))) where
       go (inl h) = h
       go (inr h) = let none : length (members (byte n)) ≡ 0 = ap length (no-members n (omega arith)) in omega arith
 
--- ---- the members up to number k are left
-module _ (mask left k : ℕ) (long : k < length (members (byte mask))) (are : members (byte left) ≡ take (suc k) (members (byte mask))) where
-  pub left-length : length (members (byte left)) ≡ suc k
-  left-length = ap length are ∙ length-take-le (suc k) (members (byte mask)) long
+-- ---- the first n members are left
+module _ (mask left n : ℕ) (few : n ≤ length (members (byte mask))) (are : members (byte left) ≡ take n (members (byte mask))) where
+  pub left-length : length (members (byte left)) ≡ n
+  left-length = ap length are ∙ length-take-le n (members (byte mask)) few
 
-  last : length (members (byte left)) - 1 ≡ k
-  last = omega (arith, left-length)
-
-  -- the last of them is member number k
-  pub left-last : get_or (members (byte left)) (length (members (byte left)) - 1) 0 ≡ get_or (members (byte mask)) k 0
-  left-last = ap (λ (i : ℕ). get_or (members (byte left)) i 0) last ∙ ap (λ (l : List ℕ). get_or l k 0) are
-      ∙ get_or-take (suc k) (members (byte mask)) k 0 (omega arith)
-
-  -- without it, those up to the one before it are left
-  pub left_less : take (length (members (byte left)) - 1) (members (byte left)) ≡ take k (members (byte mask))
-  left_less = ap (λ (i : ℕ). take i (members (byte left))) last ∙ ap (take k) are
-      ∙ take-take k (suc k) (members (byte mask)) (omega arith)
+  -- the last of them is the member before number n
+  pub left-last : 0 < n → get_or (members (byte left)) (length (members (byte left)) - 1) 0 ≡ get_or (members (byte mask)) (n - 1) 0
+  left-last some = ap (λ (i : ℕ). get_or (members (byte left)) (i - 1) 0) left-length ∙ ap (λ (l : List ℕ). get_or l (n - 1) 0) are
+      ∙ get_or-take n (members (byte mask)) (n - 1) 0 (omega arith)

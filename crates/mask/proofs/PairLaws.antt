@@ -129,22 +129,6 @@ unfolding pairs_from
 are-packed f l e h = ext_get_or 0 l (tabulate pairs_size (packed_byte f)) (e ∙ sym (length-tabulate pairs_size (packed_byte f)))
     (λ j k. h j (omega arith) ∙ sym (at-tabulate pairs_size (packed_byte f) j (omega arith)))
 
--- One group more of them.
-pub pack-turn : (f : ℕ → ℕ) (l : List ℕ) (q n : ℕ) → q * group_size < pairs_size → length l ≡ pairs_size → n ≡ group_of f q
-    → Holds (λ j v. v ≡ packed_byte f j) l (q * group_size)
-    → Holds (λ j v. v ≡ packed_byte f j)
-    (set (set (set l (q * group_size) (n / 65536 % 256)) (q * group_size + 1) (n / 256 % 256)) (q * group_size + 2) (n % 256)) ((q + 1) * group_size)
-pack-turn f l q n h e g old k i =
-    set-three (λ j v. v ≡ packed_byte f j) l (q * group_size) (n / 65536 % 256) (n / 256 % 256) (n % 256) (omega arith) old
-    (at 0 (q * group_size) (omega arith) (omega arith)) (at 1 (q * group_size + 1) refl (omega arith))
-    (one n ∙ at 2 (q * group_size + 2) refl (omega arith)) k (omega arith)
-  where
-    at : (r j : ℕ) → j ≡ q * group_size + r → r < group_size → byte_in_group n r ≡ packed_byte f j
-    at r j e d = ap (λ (m : ℕ). byte_in_group m r) g ∙ sym (byte_of f q r j e d)
-
-    one : (n : ℕ) → n % 256 ≡ n / 1 % 256
-    one n = omega arith
-
 module _ (f : ℕ → ℕ) (small : (b : ℕ) → b < block_count → f b < pair_bound) where
   -- Three bytes make the number again.
   group-back : (q : ℕ) → q * blocks_in_group + 3 < block_count → group_at (pairs_byte (pairs_from f)) q ≡ group_of f q

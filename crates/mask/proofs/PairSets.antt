@@ -6,8 +6,8 @@ use Prim.Native.Nat.{ℕ, suc, zero, ◌+◌, ◌-◌, ◌*◌, ◌/◌, ◌%◌
 use native.Mathlib.Nat.{add-zero}
 use native.Mathlib.Omega.{arith}
 use lib.Bits.{and_shr, bit_and}
-use lib.Dec.{eqb, leb, ltb}
-use borrow.Author.Tests.{leb-true, ltb-true}
+use lib.Dec.{eqb, leb}
+use borrow.Author.Tests.{leb-true}
 use Rattle.lists.specs.Tests.{all_below, one_if}
 use Rattle.lists.proofs.Bools.{same_bool}
 use Rattle.lists.proofs.Counts.{at_pair, below_all}
@@ -33,13 +33,7 @@ rows_of m = bit_and ((own_of m + 0x7F7F7F7F7F7F7F7F) / 0x80) ones
 abbrev pub good_of : ℕ → ℕ
 good_of m = rows_of m * m - own_of m
 
--- The product fits 64 bits, and is no less than what is taken from it.
-test_fits : all_below 256 (λ m. ltb (rows_of m * m) (2 ^ 64)) ≡ true
-test_fits = refl
-
-pub good-fits : (m : ℕ) → m < 256 → rows_of m * m < 2 ^ 64
-good-fits m h = ltb-true (rows_of m * m) (2 ^ 64) (below_all 256 (λ m. ltb (rows_of m * m) (2 ^ 64)) m test_fits h)
-
+-- The product is no less than what is taken from it.
 test-own : all_below 256 (λ m. leb (own_of m) (rows_of m * m)) ≡ true
 test-own = refl
 

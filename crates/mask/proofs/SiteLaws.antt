@@ -7,8 +7,7 @@ use mathlib.Core.List.{List, [], ◌∷◌}
 use Prim.Native.Nat.{ℕ, suc, zero, ◌<◌}
 use native.Mathlib.Omega.{arith}
 use lib.Dec.{eqb}
-use lib.ListN.{get_or-map, length, get_or, take}
-use lib.Seq.{get_or-take}
+use lib.ListN.{get_or, get_or-map, length}
 use borrow.Author.Tests.{eqb-true}
 use Rattle.lists.specs.Tests.{elem, distinct}
 use Rattle.lists.specs.Tabulate.{tabulate}
@@ -18,7 +17,6 @@ use Rattle.image.specs.Layout.{block_count, card_count, copy_count}
 use Rattle.image.specs.declared.Card.{Card}
 use Rattle.mask.specs.Masks.{Byte, byte, has_card, members}
 use Rattle.mask.specs.Pairs.{Pairs, are_pairs_of, first_card, is_pair_of, pair_at, pairs_byte, second_card, table_sites}
-use Rattle.mask.specs.declared.Sites.{Sites}
 use Rattle.mask.specs.Placements.{AreSites, Choice, Enough, Masked, Placement, Usable, across_rails, by_rails, by_table, chained, chained_sites}
 use Rattle.mask.specs.Placements.{choice_of, from_mask, is_by_rails, mask_sites, member_at, members_after, older_from_mask, on_both_rails, on_one_rail}
 use Rattle.mask.specs.Placements.{on_two_rails, pairs_ok, placed, rail_sites, site_list, sites_of}
@@ -130,10 +128,9 @@ pub site-distinct : (p : Placement) (b : ℕ) → Usable p → b < block_count �
 site-distinct p b u h = let two = two-sites p b u h in rw (two.listed, two.differ)
 
 -- ---- what is relied on: the list is all that must be shown
-pub are-sites : (s : Sites) (p : Placement) (b : ℕ) → Usable p → b < block_count → s.count ≡ copy_count → sites_of p b ≡ site_list s → AreSites s p b
-are-sites s p b u h n is = record {
+pub are-sites : (s : List Card) (p : Placement) (b : ℕ) → Usable p → b < block_count → sites_of p b ≡ site_list s → AreSites s p b
+are-sites s p b u h is = record {
   listed = sym is;
-  counted = n ∙ sym (site-count p b);
   are-members = λ c e. site-member p b c u h (ap (elem c) is ∙ e);
   differ = ap distinct (sym is) ∙ site-distinct p b u h;
   two-rails = λ rails both. ap on_two_rails (sym is ∙ two.listed) ∙ crossing two.first two.second (two.two-rails rails both);
@@ -150,13 +147,15 @@ pub site-card : (p : Placement) (b c : ℕ) → Usable p → b < block_count →
 site-card p b c u h e = has-card p.mask c (site-member p b c u h e)
 
 -- the cards of the list, one by one
-module _ {s : Sites} {p : Placement} {b : ℕ} (at : AreSites s p b) (i : ℕ) (h : i < s.count) where
-  pub listed_at : (d : Card) → (get_or s.cards i d).0 ≡ get_or (sites_of p b) i d.0
-  listed_at d = ap (λ (c : Card). c.0) (sym (get_or-take s.count s.cards i d h)) ∙ sym (get_or-map (λ (c : Card). c.0) (take s.count s.cards) i d)
-      ∙ ap (λ (l : List ℕ). get_or l i d.0) at.listed
+module _ {s : List Card} {p : Placement} {b : ℕ} (at : AreSites s p b) where
+  pub listed-long : length (site_list s) ≡ copy_count
+  listed-long = ap length at.listed ∙ site-count p b
 
-  pub listed-card : (d : Card) → (get_or s.cards i d).0 < card_count
-  listed-card d = has-card p.mask _ (at.are-members _ (ap (elem (get_or s.cards i d).0) at.listed ∙ rw (listed_at d) (elem_at (sites_of p b) i d.0 (omega (arith, h, at.counted)))))
+  pub listed_at : (i : ℕ) (d : Card) → (get_or s i d).0 ≡ get_or (site_list s) i d.0
+  listed_at i d = sym (get_or-map (λ (c : Card). c.0) s i d)
+
+  pub listed-card : (i : ℕ) (d : Card) → i < copy_count → (get_or s i d).0 < card_count
+  listed-card i d h = has-card p.mask _ (at.are-members _ (rw (listed_at i d) (elem_at (site_list s) i d.0 (omega (arith, h, listed-long)))))
     where
       elem_at : (l : List ℕ) (i d : ℕ) → i < length l → elem (get_or l i d) l ≡ true
       elem_at [] i d h = absurd (omega arith)

@@ -1,10 +1,10 @@
 -- Placements and the sites of a block: RULES, "Sites, trail, holders". Assumes nothing.
-use Rattle.std.specs.Prelude.{◌≡◌, Bool, true, false, not, ◌&&◌, cond, List, [], ◌∷◌, map, ℕ, ◌+◌, ◌-◌, ◌/◌, ◌%◌, ◌≤◌, eqb, ltb, length, get_or, take}
+use Rattle.std.specs.Prelude.{◌≡◌, Bool, true, false, not, ◌&&◌, cond, List, [], ◌∷◌, map, ℕ, ◌+◌, ◌-◌, ◌/◌, ◌%◌, ◌≤◌, eqb, ltb, length, get_or}
 use Rattle.lists.specs.Tests.{any_in, any_below, distinct, elem, keep_if}
 use Rattle.lists.specs.Tabulate.{tabulate}
 use Rattle.image.specs.Layout.{card_count, least_members, rail_size}
+use Rattle.image.specs.declared.Card.{Card}
 use Rattle.mask.specs.declared.Placement.{Placement as Struct}
-use Rattle.mask.specs.declared.Sites.{Sites}
 use Rattle.mask.specs.Masks.{Byte, byte, has_card, members, size}
 use Rattle.mask.specs.Pairs.{Pairs, are_pairs_of, no_pairs, table_sites}
 
@@ -139,9 +139,9 @@ abbrev pub pairless : Placement → Placement
 pairless p = record { mask = p.mask; choice = pairless_choice p.choice }
 
 -- ---- what whoever asks for the sites of a block may rely on
--- The list that the struct stands for: its first `count` cards.
-abbrev pub site_list : Sites → List ℕ
-site_list s = map (λ c. c.0) (take s.count s.cards)
+-- The numbers of the code's cards.
+abbrev pub site_list : List Card → List ℕ
+site_list s = map (λ c. c.0) s
 
 -- Two of the cards are on different rails.
 abbrev pub on_two_rails : List ℕ → Bool
@@ -149,9 +149,8 @@ on_two_rails l = any_in (λ c. any_in (λ d. not (on_one_rail c d)) l) l
 
 -- The listed cards are the sites of the block, in the rules' order: different members, and for a placement by rails on
 -- two rails whenever both have members.
-pub record AreSites (s : Sites) (p : Placement) (b : ℕ) : Type 0 where
+pub record AreSites (s : List Card) (p : Placement) (b : ℕ) : Type 0 where
   pub listed : site_list s ≡ sites_of p b
-  pub counted : s.count ≡ length (sites_of p b)
   pub are-members : (c : ℕ) → elem c (site_list s) ≡ true → has_card p.mask c ≡ true
   pub differ : distinct (site_list s) ≡ true
   pub two-rails : is_by_rails p.choice ≡ true → on_both_rails p.mask ≡ true → on_two_rails (site_list s) ≡ true

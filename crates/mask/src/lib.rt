@@ -60,10 +60,7 @@ fn bit_of(card: Card) -> u8
 pub fn has(mask: u8, card: Card) -> bool
     ensures { result ≡ has_card (byte mask) card.0 }
 {
-    if card.0 < Placement::MOST_CARDS {
-        return (mask & bit_of(card)) != 0;
-    }
-    false
+    card.0 < Placement::MOST_CARDS && (mask & bit_of(card)) != 0
 }
 
 // How many members.
@@ -138,10 +135,7 @@ pub fn one_more(failed: u8, base: u8, mask: u8) -> bool
 {
     let first = u8::leading_zeros(mask & (ALL_BITS - base)) as u8;
     let extra = Card(first);
-    if has(failed, extra) {
-        return mask == with_card(base, extra);
-    }
-    false
+    has(failed, extra) && mask == with_card(base, extra)
 }
 
 // The first member.
@@ -194,23 +188,24 @@ pub fn nth_member(mask: u8, i: u8) -> u8
     requires { i < length (members (byte mask)) }
     ensures { result ≡ get_or (members (byte mask)) i 0 }
 {
+    let behind = members(mask) as u8 - 1 - i;
     let mut left = mask;
-    let mut k: u8 = u8::count_ones(mask) as u8 - 1;
-    while i < k {
+    for _ in 0..behind {
         left = without_last(left);
-        k -= 1;
     }
     last_member(left)
 }
 
 // The bits of the rail that the card is not on: cards 0 to 3 hang on one supply rail and 4 to 7 on the other.
+#[tactic(auto, unfolding(crate::specs::Placements::other_rail))]
 fn other_rail(card: Card) -> u8
     ensures { result ≡ other_rail card.0 }
 {
     if card.0 < image::RAIL_SIZE {
-        return SECOND_RAIL;
+        SECOND_RAIL
+    } else {
+        FIRST_RAIL
     }
-    FIRST_RAIL
 }
 
 // A placement whose sites its mask gives: which cards, and whether they are chosen by rails or as the base does. The
@@ -219,13 +214,6 @@ fn other_rail(card: Card) -> u8
 pub struct Placement {
     pub mask: u8,
     pub rails: bool,
-}
-
-// The sites of a block: the first `count` of the cards, in the order of the rules.
-#[derive(Clone, Copy)]
-pub struct Sites {
-    pub count: u8,
-    pub cards: [Card; image::MOST_COPIES],
 }
 
 impl Placement {
@@ -273,9 +261,10 @@ impl Placement {
         ensures { result ≡ cond self.rails (bit_and self.mask (other_rail card.0)) 0 }
     {
         if self.rails {
-            return self.mask & other_rail(card);
+            self.mask & other_rail(card)
+        } else {
+            0
         }
-        0
     }
 
     // The second site: the first of the members on the other rail than the first site. If there is none, or the sites
@@ -293,19 +282,16 @@ impl Placement {
         Card(u8::leading_zeros(across) as u8)
     }
 
-    // The sites of a block, as a list: different members, on two rails whenever both have members and the placement is
+    // The sites of a block, in the order of the rules: different members, on two rails whenever both have members and the placement is
     // by rails.
-    pub fn sites(self, block: Block) -> Sites
+    pub fn sites(self, block: Block) -> [Card; image::COPY_COUNT]
         requires enough { Enough (meant self).mask }
         requires block_lt_block_count { block.0 < block_count }
         ensures { AreSites result (placed (meant self)) block.0 }
     {
         let first = self.member_at(block.0);
         let second = self.second_site(block, first);
-        Sites {
-            count: image::COPY_COUNT as u8,
-            cards: [first, second],
-        }
+        [first, second]
     }
 
     // The same as a mask.
@@ -314,8 +300,7 @@ impl Placement {
         requires block_lt_block_count { block.0 < block_count }
         ensures { AreMembers result (is_site (placed (meant self)) block.0) }
     {
-        let first = self.member_at(block.0);
-        let second = self.second_site(block, first);
+        let [first, second] = self.sites(block);
         pair(first, second)
     }
 }

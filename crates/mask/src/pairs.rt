@@ -2,7 +2,7 @@
 // four blocks in three bytes.
 ghost use Rattle.std.specs.Prelude.{◌≡◌, ◌∷◌, [], ◌*◌, ◌<◌, ◌^◌, length, get_or};
 ghost use Rattle.lists.specs.Tests.{all_below, elem, one_if};
-ghost use Rattle.image.specs.Layout.{block_count, copy_count, pairs_size};
+ghost use Rattle.image.specs.Layout.{block_count, pairs_size};
 ghost use Rattle.mask.specs.Masks.{AreMembers, byte};
 ghost use Rattle.mask.specs.Pairs.{
   blocks_in_group,
@@ -21,8 +21,7 @@ ghost use Rattle.mask.specs.PairSets.{AreGoodPairs, has_pair, top_bit};
 ghost use Rattle.mask.specs.Placements.{site_list};
 ghost use Rattle.mask.specs.SiteMasks.{MasksBelow};
 
-use crate::Sites;
-use image::{Block, Card, wide};
+use image::{Block, Card};
 
 // The blocks of a group and their bytes.
 const BLOCKS_IN_GROUP: u8 = 4;
@@ -63,7 +62,7 @@ fn group(pairs: &[u8], q: usize) -> u64
     ensures { (result ≡ group_at (λ j. get_or pairs.now j 0) q) × (result < 256 ^ group_size) }
 {
     let at = q * GROUP_SIZE;
-    (wide(pairs[at]) * 0x100 + wide(pairs[at + 1])) * 0x100 + wide(pairs[at + 2])
+    (u64::from(pairs[at]) * 0x100 + u64::from(pairs[at + 1])) * 0x100 + u64::from(pairs[at + 2])
 }
 
 // The pair at a place of such bits.
@@ -71,7 +70,7 @@ fn pair_in(bits: u64, place: u8) -> u8
     requires { place < blocks_in_group }
     ensures { (result ≡ pair_in_group bits place) × (result < pair_bound) }
 {
-    let below = wide(BLOCKS_IN_GROUP - 1 - place);
+    let below = u64::from(BLOCKS_IN_GROUP - 1 - place);
     ((bits >> (PAIR_BITS * below)) % PAIR_COUNT) as u8
 }
 
@@ -85,16 +84,11 @@ pub fn pair_at(pairs: &[u8], block: Block) -> u8
 }
 
 // The two cards of a pair, as the sites of a block.
-pub fn sites(pair: u8) -> Sites
+pub fn sites(pair: u8) -> [Card; image::COPY_COUNT]
     requires { pair < pair_bound }
-    ensures { (result.count ≡ copy_count) × (site_list result ≡ first_card pair ∷ second_card pair ∷ []) }
+    ensures { site_list result ≡ first_card pair ∷ second_card pair ∷ [] }
 {
-    let first = Card(pair / CARD_COUNT);
-    let second = Card(pair % CARD_COUNT);
-    Sites {
-        count: image::COPY_COUNT as u8,
-        cards: [first, second],
-    }
+    [Card(pair / CARD_COUNT), Card(pair % CARD_COUNT)]
 }
 
 // The same as a mask.
@@ -102,7 +96,8 @@ pub fn site_mask(pair: u8) -> u8
     requires { pair < pair_bound }
     ensures { AreMembers result (λ c. elem c (first_card pair ∷ second_card pair ∷ [])) }
 {
-    crate::pair(Card(pair / CARD_COUNT), Card(pair % CARD_COUNT))
+    let [first, second] = sites(pair);
+    crate::pair(first, second)
 }
 
 // The same of the pair at a place of a group's bits.
@@ -120,15 +115,13 @@ pub fn fill(masks: &mut [u8], pairs: &[u8])
         × MasksBelow (λ b c. elem c (first_card (pair_at (λ j. get_or pairs.now j 0) b)
         ∷ second_card (pair_at (λ j. get_or pairs.now j 0) b) ∷ [])) masks.new block_count }
 {
-    let mut q: usize = 0;
-    while q < GROUP_COUNT {
+    for q in 0..GROUP_COUNT {
         let bits = group(pairs, q);
         let b = q * BLOCKS_IN_GROUP as usize;
         masks[b] = mask_in(bits, 0);
         masks[b + 1] = mask_in(bits, 1);
         masks[b + 2] = mask_in(bits, 2);
         masks[b + 3] = mask_in(bits, 3);
-        q += 1;
     }
 }
 
@@ -137,7 +130,7 @@ pub fn fill(masks: &mut [u8], pairs: &[u8])
 fn good_pairs(mask: u8) -> u64
     ensures { AreGoodPairs result (byte mask) }
 {
-    let m = wide(mask);
+    let m = u64::from(mask);
     let own = (m * ROWS) & OWN_BITS;
     let rows = ((own + LOW_BITS) / HIGH_BIT) & ROWS;
     rows * m - own
@@ -162,11 +155,9 @@ pub fn are_pairs_of(pairs: &[u8], mask: u8) -> bool
 {
     let good = good_pairs(mask);
     let mut all = TOP_BIT;
-    let mut i: usize = 0;
-    while i < GROUP_COUNT / 2 {
+    for i in 0..GROUP_COUNT / 2 {
         let q = i * 2;
         all = all & four_in(good, group(pairs, q)) & four_in(good, group(pairs, q + 1));
-        i += 1;
     }
     all / TOP_BIT == 1
 }
@@ -177,9 +168,10 @@ fn group_of(pairs: [u8; image::BLOCK_COUNT], q: usize) -> u64
     ensures { result ≡ group_of (λ b. get_or pairs b 0) q }
 {
     let b = q * BLOCKS_IN_GROUP as usize;
-    ((wide(pairs[b]) * PAIR_COUNT + wide(pairs[b + 1])) * PAIR_COUNT + wide(pairs[b + 2]))
+    ((u64::from(pairs[b]) * PAIR_COUNT + u64::from(pairs[b + 1])) * PAIR_COUNT
+        + u64::from(pairs[b + 2]))
         * PAIR_COUNT
-        + wide(pairs[b + 3])
+        + u64::from(pairs[b + 3])
 }
 
 // The bytes that keep the pairs of the blocks.
@@ -187,14 +179,12 @@ pub fn pack(pairs: [u8; image::BLOCK_COUNT]) -> [u8; image::PAIRS_SIZE]
     ensures { result ≡ (pairs_from (λ b. get_or pairs b 0)).0 }
 {
     let mut bytes = [0u8; image::PAIRS_SIZE];
-    let mut q: usize = 0;
-    while q < GROUP_COUNT {
+    for q in 0..GROUP_COUNT {
         let n = group_of(pairs, q);
         let at = q * GROUP_SIZE;
         bytes[at] = (n / 0x1_0000 % 0x100) as u8;
         bytes[at + 1] = (n / 0x100 % 0x100) as u8;
         bytes[at + 2] = (n % 0x100) as u8;
-        q += 1;
     }
     bytes
 }

@@ -29,12 +29,11 @@ pub fn fill(masks: &mut [u8], placement: Placement) -> usize
     requires enough { Enough (meant placement).mask }
     ensures { SitesIn masks.new result (placed (meant placement)) }
 {
-    let mut count: usize = 0;
+    let count = crate::members(placement.mask) as usize;
     let mut left = placement.mask;
-    while left != 0 {
-        masks[count] = sites_from(placement, left);
+    for i in 0..count {
+        masks[i] = sites_from(placement, left);
         left = crate::without_first(left);
-        count += 1;
     }
     count
 }
@@ -45,8 +44,5 @@ pub fn next_place(count: usize, place: usize) -> usize
     ensures { result ≡ (place + 1) % count }
 {
     let next = place + 1;
-    if next == count {
-        return 0;
-    }
-    next
+    if next == count { 0 } else { next }
 }

@@ -26,6 +26,10 @@ use Rattle.cabinet_rules.specs.Places.{by_lines, is_spent, placed_row, table_row
 abbrev pub rows_of : List ℕ → Part → ℕ
 rows_of l k = refusal cabinet (place (by_lines l)) k (no_blocks cabinet)
 
+-- the same bytes have the same row
+pub of-bytes : (k : Struct) {l m : List ℕ} {n : ℕ} → l ≡ m → n ≡ rows_of l (meaning k) → n ≡ rows_of m (meaning k)
+of-bytes k same e = e ∙ ap (λ (l : List ℕ). rows_of l (meaning k)) same
+
 module _ (k : Struct) (c : Counted k) (l : List ℕ) where
   abbrev pub works : Bool
   works = lines_work (byte k.working) l
@@ -75,9 +79,6 @@ module _ (k : Struct) (c : Counted k) (l : List ℕ) where
           says-0 eo h p = tests-at true false true false false false false ea es ew eg eo (lt-leb most_placed k.count h) (lt-leb serial_limit k.serial p)
 
   -- ---- what an accepted table has shown
-  pub lines-good : 0 ≡ rows_of l (meaning k) → are_lines l ≡ true
-  lines-good e = (row-3 (are_lines l) (by_tests ∙ sym e)).0
-
   pub room : 0 ≡ rows_of l (meaning k) → k.count < most_active
   room e =
       let r3 = row-3 (are_lines l) (by_tests ∙ sym e) in

@@ -2,7 +2,7 @@
 -- bit by bit show more: they are 0 where nothing is locked; and a lock that the set has also has the bits that all numbers
 -- of the set share, and so have the locks joined. Assumes nothing.
 use mathlib.Core.Path.{◌≡◌, ap, ap₂, refl, sym, ◌∙◌}
-use mathlib.Core.Logic.{◌⊎◌, inl, inr, ⊎_elim}
+use mathlib.Core.Logic.{◌⊎◌, ◌≢◌, inl, inr, ⊎_elim}
 use mathlib.Core.Bool.{Bool, true, false, not, ◌&&◌, ◌||◌, cond}
 use mathlib.Core.List.{List}
 use Prim.Native.Nat.{ℕ, zero, suc, ◌+◌, ◌*◌, ◌-◌, ◌/◌, ◌%◌, ◌^◌, ◌≤◌, ◌<◌, min}
@@ -241,6 +241,13 @@ shared-within set t ht h = bits-within t ht (no 1) (no 2) (no 4) (no 8)
     is : (bit : ℕ) → has bit ≡ true
     is bit = imp (no bit) (eqb (lacking bit / 2 ^ t % 2) 0)
         (λ e. eq-eqb (lacking bit / 2 ^ t % 2) 0 (apart set (lacking bit) t (eqb-true (bit_and set (lacking bit)) 0 e) h))
+
+-- A bit that no number of the set lacks, and one that some number lacks.
+pub shared-on : (set bit r : ℕ) → bit_and set (lacking bit) ≡ 0 → r ≡ bit → r ≡ shared_bit set bit
+shared-on set bit r e q = q ∙ sym (rw (eq-eqb (bit_and set (lacking bit)) 0 e))
+
+pub shared-off : (set bit r : ℕ) → bit_and set (lacking bit) ≢ 0 → r ≡ 0 → r ≡ shared_bit set bit
+shared-off set bit r d q = q ∙ sym (rw (ne_eqb (bit_and set (lacking bit)) 0 d))
 
 -- The four bits, found one by one.
 pub shared-sum : (set a b c d : ℕ) → a ≡ shared_bit set 1 → b ≡ shared_bit set 2 → c ≡ shared_bit set 4 → d ≡ shared_bit set 8 → a + b + c + d ≡ shared_bits set

@@ -94,7 +94,3 @@ freed-in-range true s h =
     record { value-fits = taken-lt s.pending h.pending-fits; lock-fits = omega arith; pending-fits = omega arith; spare-fits = h.spare-fits }
 freed-in-range false s h =
     record { value-fits = h.value-fits; lock-fits = omega arith; pending-fits = omega arith; spare-fits = h.spare-fits }
-
--- A present entry is the entry of its state.
-pub plain-some : (e : Entry) → e.present ≡ true → entry_of (state_of e) ≡ e
-plain-some e p = rw p

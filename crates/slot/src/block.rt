@@ -24,7 +24,7 @@ ghost use Rattle.slot.specs.Blocks.{
 };
 
 use crate::{Entry, HELD, Slot};
-use image::{SLOT_COUNT, SLOT_SIZE, wide};
+use image::{SLOT_COUNT, SLOT_SIZE};
 
 // The byte of a slot that has its lock, and the weight and the bound of the lock there.
 const LOCK_AT: usize = 3;
@@ -56,18 +56,18 @@ pub fn is_held(block: &[u8]) -> bool
     block[0] >= HELD
 }
 
-// The 40 bits of slot i.
+// The 40 bits of slot i. The library reads numbers of 8 bytes, for which the 5 would have to be copied behind 3 zeros.
 fn word_at(block: &[u8], i: usize) -> u64
     requires block_len { length block.now ≡ block_size }
     requires i_lt_slot_count { i < slot_count }
     ensures { (result ≡ word_at (of_list block.now) i) × (result < 2 ^ 40) }
 {
     let at = 1 + i * SLOT_SIZE;
-    let a = wide(block[at]);
-    let b = wide(block[at + 1]);
-    let c = wide(block[at + 2]);
-    let d = wide(block[at + 3]);
-    let e = wide(block[at + 4]);
+    let a = u64::from(block[at]);
+    let b = u64::from(block[at + 1]);
+    let c = u64::from(block[at + 2]);
+    let d = u64::from(block[at + 3]);
+    let e = u64::from(block[at + 4]);
     (((a * 256 + b) * 256 + c) * 256 + d) * 256 + e
 }
 
@@ -157,31 +157,19 @@ fn end_slots(block: &mut [u8], take: bool, set: u16)
     requires { length block.old ≡ block_size }
     ensures { block.new ≡ (end_slots take (in_set set) (of_list block.old)).0 }
 {
-    let mut i = 0;
-    while i < SLOT_COUNT {
+    for i in 0..SLOT_COUNT {
         end_slot(block, i, take, set);
-        i += 1;
     }
-}
-
-// The bit if it is on, else 0.
-fn bit_if(on: bool, bit: u8) -> u8
-    ensures { (result ≡ cond on bit 0) × (result ≤ bit) }
-{
-    if on {
-        return bit;
-    }
-    0
 }
 
 // The bits that every number of the set has: one that no number of the set lacks.
 fn shared_bits(set: u16) -> u8
     ensures { result ≡ shared_bits set }
 {
-    let a = bit_if((set & LACK_1) == 0, 1);
-    let b = bit_if((set & LACK_2) == 0, 2);
-    let c = bit_if((set & LACK_4) == 0, 4);
-    let d = bit_if((set & LACK_8) == 0, 8);
+    let a = if set & LACK_1 == 0 { 1 } else { 0 };
+    let b = if set & LACK_2 == 0 { 2 } else { 0 };
+    let c = if set & LACK_4 == 0 { 4 } else { 0 };
+    let d = if set & LACK_8 == 0 { 8 } else { 0 };
     a + b + c + d
 }
 
@@ -208,10 +196,8 @@ pub fn end_held(block: &mut [u8], take: bool, set: u16)
     requires { length block.old ≡ block_size }
     ensures { block.new ≡ ended_block take (in_set set) block.old }
 {
-    if is_held(block) {
-        if may_pick(block, set) {
-            end_slots(block, take, set);
-        }
+    if is_held(block) && may_pick(block, set) {
+        end_slots(block, take, set);
     }
 }
 
@@ -230,10 +216,8 @@ pub fn committed_count(block: &[u8]) -> u8
     ensures { result ≡ committed_count (of_list block.now) }
 {
     let mut n = 0;
-    let mut i = 0;
-    while i < SLOT_COUNT {
+    for i in 0..SLOT_COUNT {
         n += committed_at(block, i);
-        i += 1;
     }
     n
 }

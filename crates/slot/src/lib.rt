@@ -5,7 +5,6 @@ ghost use Rattle.std.specs.Prelude.{◌≡◌, true, false, ◌^◌, ◌<◌};
 ghost use Rattle.std.proofs.Math.Option.{none};
 ghost use Rattle.slot.specs.Words.{
   InRange,
-  bit_number,
   entry_of,
   freed_slot,
   locked_slot,
@@ -38,7 +37,8 @@ const PRESENT: u64 = VALUE * VALUES;
 // The bit of a block's first byte that says 'held'.
 pub const HELD: u8 = 128;
 
-// A present bit and a value.
+// A present bit and a value. It is no Option, since an absent state of a slot may have any value, which `slot_of` reads
+// and `word_of` writes again.
 #[derive(Clone, Copy)]
 pub struct Entry {
     pub present: bool,
@@ -52,13 +52,6 @@ pub struct Slot {
     pub lock: u8,
     pub pending: Entry,
     pub spare: u8,
-}
-
-// A bit as a number.
-fn bit(x: bool) -> u64
-    ensures { (result ≡ bit_number x) × (result < 2) }
-{
-    if x { 1 } else { 0 }
 }
 
 impl Entry {
@@ -76,10 +69,7 @@ impl Entry {
     pub fn plain(self) -> Entry
         ensures { result ≡ entry_of (state_of self) }
     {
-        if self.present {
-            return self;
-        }
-        Entry::absent()
+        if self.present { self } else { Entry::absent() }
     }
 }
 
@@ -110,12 +100,10 @@ impl Slot {
     {
         let committed = self.committed;
         let pending = self.pending;
-        let p = bit(committed.present);
-        let q = bit(pending.present);
-        p * PRESENT
+        u64::from(committed.present) * PRESENT
             + committed.value as u64 * VALUE
             + self.lock as u64 * LOCK
-            + q * PENDING_PRESENT
+            + u64::from(pending.present) * PENDING_PRESENT
             + pending.value as u64 * PENDING_VALUE
             + self.spare as u64
     }
@@ -149,14 +137,12 @@ impl Slot {
         self
     }
 
-    // The slot after its transaction has ended: its pending state is taken or dropped.
+    // The slot after its transaction has ended: its pending state is taken or dropped, as a command that is read at run
+    // time says. A closure in the place of the bool would test it just so, and `freed_slot` has it as a value.
     pub fn free(self, take: bool) -> Slot
         ensures { result ≡ freed_slot take self }
     {
-        if take {
-            return self.take();
-        }
-        self.drop()
+        if take { self.take() } else { self.drop() }
     }
 }
 

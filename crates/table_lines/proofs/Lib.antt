@@ -1,3 +1,4 @@
-pub mod Lines
+pub mod LineLaws
 pub mod Packed
 pub mod Accepted
+pub mod Ranges

@@ -1,8 +1,9 @@
 // The lines of a table by which a plant chooses the cards of blocks: lent bytes, four a line.
 #![tactic(auto)]
 
-ghost use Rattle.std.specs.Prelude.{◌≡◌, true, cond, ◌||◌, ◌+◌, ◌*◌, ◌<◌, eqb, ltb};
-ghost use Rattle.lists.specs.Tests.{all_below, one_if};
+ghost use Rattle.std.specs.Prelude.{◌≡◌, true, false, ◌||◌, ◌<◌, eqb, ltb};
+ghost use Rattle.std.specs.Option.{MatchOption};
+ghost use Rattle.lists.specs.Tests.{all_below};
 ghost use Rattle.image.specs.Layout.{card_count};
 ghost use Rattle.mask.specs.Masks.{byte, with_card};
 ghost use Rattle.mask.specs.Pairs.{pair_bound, pairs_from};
@@ -17,7 +18,6 @@ ghost use Rattle.table_lines.specs.Lines.{
   line_works,
   lines_with,
   lines_work,
-  most_lines,
   named_by,
   pair_by,
 };
@@ -61,111 +61,53 @@ fn line_at(lines: &[u8], i: usize) -> Line
 }
 
 // The line's numbers are in their ranges, and its first block is not above its last.
+#[tactic(auto, unfolding(crate::specs::Lines::line_in_range))]
 fn line_in_range(line: Line) -> bool
     ensures { result ≡ line_in_range (meant line) }
 {
-    if line.last >= BLOCK_COUNT as u8 {
-        return false;
-    }
-    if line.first > line.last {
-        return false;
-    }
-    if line.one >= CARD_COUNT as u8 {
-        return false;
-    }
-    line.two < CARD_COUNT as u8
+    line.last < BLOCK_COUNT as u8
+        && line.first <= line.last
+        && line.one < CARD_COUNT as u8
+        && line.two < CARD_COUNT as u8
 }
 
 // So are those of every line.
 fn all_in_range(lines: &[u8]) -> bool
     ensures { result ≡ all_below (line_count lines.now) (λ i. line_in_range (line_at lines.now i)) }
 {
-    let count = line_count(lines);
-    let mut i = 0;
-    while i < count {
-        if !line_in_range(line_at(lines, i)) {
-            return false;
-        }
-        i += 1;
-    }
-    true
+    (0..line_count(lines)).all(|i| line_in_range(line_at(lines, i)))
 }
 
 // The bytes are whole lines, not too many, and each line is in its ranges.
-pub fn in_range(lines: &[u8]) -> bool
+#[tactic(auto, unfolding(crate::specs::Lines::are_lines))]
+fn in_range(lines: &[u8]) -> bool
     ensures { result ≡ are_lines lines.now }
 {
-    if lines.len() % LINE_SIZE != 0 {
-        return false;
-    }
-    if line_count(lines) > MOST_LINES {
-        return false;
-    }
-    all_in_range(lines)
+    lines.len() % LINE_SIZE == 0 && line_count(lines) <= MOST_LINES && all_in_range(lines)
 }
 
 // The line's cards are different and work.
+#[tactic(auto, unfolding(crate::specs::Lines::line_works))]
 fn line_works(working: u8, line: Line) -> bool
     ensures { result ≡ line_works (byte working) (meant line) }
 {
-    if line.one == line.two {
-        return false;
-    }
-    if !mask::has(working, Card(line.one)) {
-        return false;
-    }
-    mask::has(working, Card(line.two))
-}
-
-// So are those of every line.
-pub fn work(lines: &[u8], working: u8) -> bool
-    ensures { result ≡ lines_work (byte working) lines.now }
-{
-    let count = line_count(lines);
-    let mut i = 0;
-    while i < count {
-        if !line_works(working, line_at(lines, i)) {
-            return false;
-        }
-        i += 1;
-    }
-    true
+    line.one != line.two && mask::has(working, Card(line.one)) && mask::has(working, Card(line.two))
 }
 
 // The line has the block.
+#[tactic(auto, unfolding(crate::specs::Lines::has_block))]
 fn has_block(line: Line, block: Block) -> bool
     ensures { result ≡ has_block (meant line) block.0 }
 {
-    if block.0 < line.first {
-        return false;
-    }
-    block.0 <= line.last
+    line.first <= block.0 && block.0 <= line.last
 }
 
-// The count n, and one more where the line has the block.
-fn count_line(line: Line, block: Block, n: usize) -> usize
-    requires { n < most_lines }
-    ensures { result ≡ one_if (has_block (meant line) block.0) + n }
+// The mask with the cards of the line.
+fn with_line(mask: u8, line: Line) -> u8
+    requires { (line.one < card_count) × (line.two < card_count) }
+    ensures { byte result ≡ with_card (with_card (byte mask) line.one) line.two }
 {
-    if has_block(line, block) {
-        return n + 1;
-    }
-    n
-}
-
-// How many lines have the block.
-fn lines_with(lines: &[u8], block: Block) -> usize
-    requires { are_lines lines.now ≡ true }
-    ensures { result ≡ lines_with lines.now block.0 }
-{
-    let count = line_count(lines);
-    let mut n: usize = 0;
-    let mut i = 0;
-    while i < count {
-        n = count_line(line_at(lines, i), block, n);
-        i += 1;
-    }
-    n
+    mask::with_card(mask::with_card(mask, Card(line.one)), Card(line.two))
 }
 
 // Whether some block is in no line, and whether some block is in two.
@@ -180,99 +122,115 @@ impl Covered {
     fn with_block(self, n: usize) -> Covered
         ensures { (result.gap ≡ (eqb n 0 || self.gap)) × (result.overlap ≡ (ltb 1 n || self.overlap)) }
     {
-        if n == 0 {
-            return Covered {
-                gap: true,
-                overlap: self.overlap,
-            };
-        }
-        if n == 1 {
-            return self;
-        }
         Covered {
-            gap: self.gap,
-            overlap: true,
+            gap: n == 0 || self.gap,
+            overlap: n > 1 || self.overlap,
         }
     }
 }
 
-// The same of all blocks: each is looked up in the lines once.
-pub fn coverage(lines: &[u8]) -> Covered
-    requires { are_lines lines.now ≡ true }
-    ensures { (result.gap ≡ has_gap lines.now) × (result.overlap ≡ has_overlap lines.now) }
-{
-    let mut found = Covered {
-        gap: false,
-        overlap: false,
-    };
-    let mut b: u8 = 0;
-    while b < BLOCK_COUNT as u8 {
-        let next = found.with_block(lines_with(lines, Block(b)));
-        found = next;
-        b += 1;
-    }
-    found
+// The lines of a table: bytes that are whole lines, not too many, and each line in its ranges.
+#[derive(Clone, Copy)]
+pub struct Lines<'a> {
+    pub bytes: &'a [u8],
+    ghost are_lines: { are_lines bytes.now ≡ true },
 }
 
-// The mask with the cards of the line.
-fn with_line(mask: u8, line: Line) -> u8
-    requires { (line.one < card_count) × (line.two < card_count) }
-    ensures { byte result ≡ with_card (with_card (byte mask) line.one) line.two }
-{
-    mask::with_card(mask::with_card(mask, Card(line.one)), Card(line.two))
-}
-
-// The cards that the lines name.
-pub fn named(lines: &[u8]) -> u8
-    requires { are_lines lines.now ≡ true }
-    ensures { byte result ≡ named_by lines.now (line_count lines.now) }
-{
-    let count = line_count(lines);
-    let mut mask: u8 = 0;
-    let mut i = 0;
-    while i < count {
-        mask = with_line(mask, line_at(lines, i));
-        i += 1;
+impl<'a> Lines<'a> {
+    // The lines that the bytes are, if they are lines.
+    pub fn new(bytes: &'a [u8]) -> Option<Lines<'a>>
+        ensures { MatchOption result (are_lines bytes.now ≡ false) (λ lines. lines.bytes.now ≡ bytes.now) }
+    {
+        if in_range(bytes) {
+            Some(Lines { bytes })
+        } else {
+            None
+        }
     }
-    mask
-}
 
-// The pair of the line where it has the block, else the one before.
-fn pair_with(line: Line, block: Block, pair: u8) -> u8
-    requires { (line.one < card_count) × (line.two < card_count) × (pair < pair_bound) }
-    ensures { (result ≡ cond (has_block (meant line) block.0) (line.one * card_count + line.two) pair) × (result < pair_bound) }
-{
-    if has_block(line, block) {
-        return line.one * CARD_COUNT as u8 + line.two;
+    // How many there are.
+    fn count(self) -> usize
+        ensures { result ≡ line_count self.entry.bytes.now }
+    {
+        line_count(self.bytes)
     }
-    pair
-}
 
-// The pair of a block: that of the last line that has it.
-fn pair_for(lines: &[u8], block: Block) -> u8
-    requires { are_lines lines.now ≡ true }
-    ensures { (result ≡ pair_by lines.now block.0 (line_count lines.now)) × (result < pair_bound) }
-{
-    let count = line_count(lines);
-    let mut pair: u8 = 0;
-    let mut i = 0;
-    while i < count {
-        pair = pair_with(line_at(lines, i), block, pair);
-        i += 1;
+    // Line i.
+    fn line(self, i: usize) -> Line
+        requires { i < line_count self.bytes.now }
+        ensures is { meant result ≡ line_at self.entry.bytes.now i }
+        ensures cards { (result.one < card_count) × (result.two < card_count) }
+    {
+        line_at(self.bytes, i)
     }
-    pair
-}
 
-// The pairs of all blocks, as bytes keep them.
-pub fn pairs(lines: &[u8]) -> [u8; image::PAIRS_SIZE]
-    requires { are_lines lines.now ≡ true }
-    ensures { result ≡ (pairs_from (λ b. pair_by lines.now b (line_count lines.now))).0 }
-{
-    let mut each = [0u8; BLOCK_COUNT];
-    let mut b = 0;
-    while b < BLOCK_COUNT {
-        each[b] = pair_for(lines, Block(b as u8));
-        b += 1;
+    // Whether the cards of every line are different and work.
+    pub fn work(self, working: u8) -> bool
+        ensures { result ≡ lines_work (byte working) self.entry.bytes.now }
+    {
+        (0..self.count()).all(|i| line_works(working, self.line(i)))
     }
-    mask::pairs::pack(each)
+
+    // How many lines have the block.
+    fn with_block(self, block: Block) -> usize
+        ensures { result ≡ lines_with self.entry.bytes.now block.0 }
+    {
+        let mut n: usize = 0;
+        for i in 0..self.count() {
+            if has_block(self.line(i), block) {
+                n += 1;
+            }
+        }
+        n
+    }
+
+    // What is found of all blocks: each is looked up in the lines once.
+    pub fn coverage(self) -> Covered
+        ensures { (result.gap ≡ has_gap self.entry.bytes.now) × (result.overlap ≡ has_overlap self.entry.bytes.now) }
+    {
+        let mut found = Covered {
+            gap: false,
+            overlap: false,
+        };
+        for b in 0..BLOCK_COUNT as u8 {
+            found = found.with_block(self.with_block(Block(b)));
+        }
+        found
+    }
+
+    // The cards that the lines name.
+    pub fn named(self) -> u8
+        ensures { byte result ≡ named_by self.entry.bytes.now (line_count self.entry.bytes.now) }
+    {
+        let mut mask: u8 = 0;
+        for i in 0..self.count() {
+            mask = with_line(mask, self.line(i));
+        }
+        mask
+    }
+
+    // The pair of a block: that of the last line that has it.
+    fn pair_for(self, block: Block) -> u8
+        ensures { (result ≡ pair_by self.entry.bytes.now block.0 (line_count self.entry.bytes.now)) × (result < pair_bound) }
+    {
+        let mut pair: u8 = 0;
+        for i in 0..self.count() {
+            let line = self.line(i);
+            if has_block(line, block) {
+                pair = line.one * CARD_COUNT as u8 + line.two;
+            }
+        }
+        pair
+    }
+
+    // The pairs of all blocks, as bytes keep them.
+    pub fn pairs(self) -> [u8; image::PAIRS_SIZE]
+        ensures { result ≡ (pairs_from (λ b. pair_by self.entry.bytes.now b (line_count self.entry.bytes.now))).0 }
+    {
+        let mut each = [0u8; BLOCK_COUNT];
+        for b in 0..BLOCK_COUNT {
+            each[b] = self.pair_for(Block(b as u8));
+        }
+        mask::pairs::pack(each)
+    }
 }

@@ -1,10 +1,10 @@
 -- What the code keeps of a list of holders, as cards are added at its end: the first stays the first, and the mask has
 -- one card more. Assumes nothing.
-use Prim.Native.Nat.{◌+◌, ◌<◌, ◌≤◌, ℕ}
+use Prim.Native.Nat.{◌+◌, ◌<◌, ℕ}
 use borrow.Author.Tests.{lt-ltb}
 use lib.Dec.{eqb}
 use lib.ListN.{get_or, length, take}
-use lib.Seq.{take_all, take-suc}
+use lib.Seq.{take-suc}
 use mathlib.Core.Bool.{Bool, ◌||◌, false, true}
 use mathlib.Core.List.{List, [], ◌++◌, ◌∷◌, append_assoc, append-nil}
 use mathlib.Core.Logic.{◌≢◌}
@@ -83,6 +83,3 @@ add-more f s i c long is h m r before one l lists = subst (Lists r)
   where
     taken : take i s ++ (c ∷ []) ≡ take (i + 1) s
     taken = ap (λ (x : ℕ). take i s ++ (x ∷ [])) is ∙ sym (take-suc s i 0 long) ∙ ap (λ (n : ℕ). take n s) (sym (add-one i))
-
-pub add-all : (f : ℕ → Bool) (s : List ℕ) (i : ℕ) → length s ≤ i → (h r : Holders) → Adds h f (take i s) r → Adds h f s r
-add-all f s i h found r adds = subst (λ (l : List ℕ). Adds found f l r) (take_all i s h) adds

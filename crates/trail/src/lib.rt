@@ -147,13 +147,10 @@ fn push_sites(image: &[u8], working: u8, block: Block, found: Holders, i: usize)
         (sites_of (shown_at image.now i) block.0) result }
 {
     let sites = control::sites::at(image, i, block);
-    let count = sites.count as usize;
     let mut all = found;
-    let mut n: usize = 0;
-    while n < count {
-        let more = push(image, working, block, all, sites.cards[n]);
+    for card in sites {
+        let more = push(image, working, block, all, card);
         all = more;
-        n += 1;
     }
     all
 }

@@ -1,27 +1,7 @@
--- The first i bytes are spliced in; each turn splices in one more. Assumes nothing.
-use mathlib.Core.Path.{refl, sym, ap, ◌∙◌}
+-- The part that the bytes fill comes back as a splice. Assumes nothing.
 use native.Mathlib.Omega.{arith}
-use lib.Seq.{take_all}
-use lib.ListN.{length-set}
-use borrow.Author.Rules.{rules}
-use Rattle.lists.specs.Segments.{splice}
-use Rattle.lists.proofs.Segments.{splice-none, splice-more}
+use Rattle.image.proofs.Parts.{part_left}
 use Rattle.image.proofs.write_at.Goals as goal
 
-pub loop-i-init : goal.loop-i-init
-loop-i-init c = (search rules, refl, sym (splice-none _ _ (omega arith)))
-
-pub bounds-s-at : goal.bounds-s-at
-bounds-s-at c = omega arith
-
-pub loop-i-preserved : goal.loop-i-preserved
-loop-i-preserved c =
-    let l = c.loop-i in
-    let a = c.args in
-    (omega arith, simp length-set l.invariant.1, rw l.invariant.2 (splice-more a.s.now a.at a.bytes.now l.i (omega arith) (omega arith)))
-
 pub returns : goal.returns
-returns c =
-    let l = c.loop-i in
-    let a = c.args in
-    l.invariant.2 ∙ ap (splice a.s.now a.at) (take_all l.i a.bytes.now c.loop-i-test.false)
+returns c = part_left c.args.at _ c.args.s.now c.args.bytes.now _ c.copy_from_slice.ensures.after (omega arith)

@@ -1,11 +1,7 @@
 -- The count of leading zeros is it, computed for every mask. Assumes nothing.
 use native.Mathlib.Omega.{arith}
-use lib.Count.{leading_le}
 use Rattle.mask.proofs.FirstMember.{first-card, first-is}
 use Rattle.mask.proofs.first_member.Goals as goal
-
-pub overflow_cast-result : goal.overflow_cast-result
-overflow_cast-result c = omega (arith, leading_le 8 c.args.mask)
 
 pub returns : goal.returns
 returns c = (first-is c.args.mask (omega arith) c.requires, first-card c.args.mask (omega arith) c.requires)

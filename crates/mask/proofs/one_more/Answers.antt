@@ -1,19 +1,14 @@
 -- The first card that the mask has more is the only one, if with it the two masks are equal. Assumes nothing.
 use mathlib.Core.Path.{sym, ap, ◌∙◌}
-use Prim.Native.Nat.{◌-◌, ◌<◌}
+use Prim.Native.Nat.{◌<◌}
 use native.Mathlib.Nat.{mod-eq_of_lt}
 use native.Mathlib.Omega.{arith}
-use lib.Bits.{bit_and}
-use lib.Count.{leading_le}
 use lib.Dec.{eqb}
 use Rattle.mask.specs.Masks.{Byte, byte}
 use Rattle.mask.proofs.Masks.{has-card}
 use Rattle.mask.proofs.Sets.{one-more-is, extra_of}
 use borrow.Author.Rules.{rules}
 use Rattle.mask.proofs.one_more.Goals as goal
-
-pub overflow_cast-first : goal.overflow_cast-first
-overflow_cast-first c = omega (arith, leading_le 8 (bit_and c.args.mask (255 - c.args.base)))
 
 pub with_card-requires : goal.with_card-requires
 with_card-requires c =
@@ -27,7 +22,7 @@ returns-then-has c =
     ap (eqb a.mask) (sym (mod-eq_of_lt h) ∙ ap (λ (x : Byte). x.0) c.with_card.ensures)
     ∙ rw (sym c.has.ensures ∙ c.if-has.true) at (one-more-is (byte a.failed) a.base a.mask (omega arith) (omega arith))
 
-pub returns : goal.returns
-returns c =
+pub returns-else-has : goal.returns-else-has
+returns-else-has c =
     let a = c.args in
-    rw (sym c.has.ensures ∙ c.if-has.false) at (one-more-is (byte a.failed) a.base a.mask (omega arith) (omega arith))
+    c.if-has.false ∙ rw (sym c.has.ensures ∙ c.if-has.false) at (one-more-is (byte a.failed) a.base a.mask (omega arith) (omega arith))

@@ -6,9 +6,6 @@ use lib.ListN.{get_or}
 use Rattle.mask.proofs.FirstMember.{rest-is}
 use Rattle.mask.proofs.without_first.Goals as goal
 
-pub without_card-requires : goal.without_card-requires
-without_card-requires c = c.first_member.ensures.1
-
 pub returns : goal.returns
 returns c =
     let m = c.args.mask in

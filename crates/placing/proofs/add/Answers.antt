@@ -15,14 +15,14 @@ add_table-added-requires c = record { counted = c.requires.given.is.counted; cou
 
 pub write-requires : goal.write-requires
 write-requires c =
-    record { control_size_in_bounds = long-between c.requires.given c.args.lines.now c.requires.count_lt_most_active _ _ c.pairs.ensures c.put.ensures; counted = c.add_table-added.ensures.counted }
+    record { control_size_in_bounds = long-between c.requires.given c.args.lines.bytes.now c.requires.count_lt_most_active _ _ c.pairs.ensures c.put.ensures; counted = c.add_table-added.ensures.counted }
 
 pub put_all-requires : goal.put_all-requires
 put_all-requires c =
-    whole-between c.requires.given c.args.lines.now c.requires.count_lt_most_active c.add_table-added.result _ _ _ c.pairs.ensures c.put.ensures c.write.ensures
+    whole-between c.requires.given c.args.lines.bytes.now c.requires.count_lt_most_active c.add_table-added.result _ _ _ c.pairs.ensures c.put.ensures c.write.ensures
 
 pub returns : goal.returns
 returns c =
     let small : c.named-mask.result < 256 = search rules in
-    table-written c.requires.given c.args.lines.now c.requires.count_lt_most_active _ small _ _ _ _ _ c.named-mask.ensures c.add_table-added.ensures
+    table-written c.requires.given c.args.lines.bytes.now c.requires.count_lt_most_active _ small _ _ _ _ _ c.named-mask.ensures c.add_table-added.ensures
     c.pairs.ensures c.put.ensures c.write.ensures c.put_all.ensures

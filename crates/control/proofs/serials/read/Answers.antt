@@ -6,6 +6,6 @@ use Rattle.control.proofs.serials.read.Goals as goal
 pub returns : goal.returns
 returns c =
     let a = c.args in (
-      three-bytes a.s.now a.at _ _ _ c.wide.ensures.0 c.wide-2.ensures.0 c.wide-3.ensures.0,
-      omega (arith, c.wide.ensures.1, c.wide-2.ensures.1, c.wide-3.ensures.1),
+      three-bytes a.s.now a.at _ _ _ c.from.ensures c.from-2.ensures c.from-3.ensures,
+      omega arith,
     )

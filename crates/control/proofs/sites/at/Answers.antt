@@ -10,7 +10,7 @@ pub returns-then-by_table : goal.returns-then-by_table
 returns-then-by_table c =
     let l = c.args.image.now in
     table-sites-are (λ n. get_or l n 0) (tail_at l) c.args.i c.sites.result c.args.block.0 c.pair.result c.requires.usable c.requires.whole.2
-    (sym c.by_table.ensures ∙ c.if-by_table.true) c.pair.ensures.0 c.sites.ensures.0 c.sites.ensures.1
+    (sym c.by_table.ensures ∙ c.if-by_table.true) c.pair.ensures.0 c.sites.ensures
 
 pub sites-requires-2 : goal.sites-requires-2
 sites-requires-2 c =

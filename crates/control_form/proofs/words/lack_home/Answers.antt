@@ -11,10 +11,10 @@ use Rattle.control_form.proofs.words.lack_home.Goals as goal
 pub overflow_add-result : goal.overflow_add-result
 overflow_add-result c =
     let w = c.word-w.result in
-    omega (arith, xor_lt 60 (w / field) (c.wide.result * ones) (omega arith) (omega (arith, c.wide.ensures.0)))
+    omega (arith, xor_lt 60 (w / field) (c.from.result * ones) (omega arith) (omega (arith, c.from.ensures)))
 
 pub returns : goal.returns
 returns c =
     let w = c.word-w.result in
-    ap (λ (n : ℕ). eqb (bit_and (bit_xor (w / field) (n * ones) + nibbles) carries) carries) c.wide.ensures.0
+    ap (λ (n : ℕ). eqb (bit_and (bit_xor (w / field) (n * ones) + nibbles) carries) carries) c.from.ensures
     ∙ lack-at c.args.s.now (λ n. (c.shared_slice_known-1.given n).fits) c.args.at w c.args.home.0 c.word-w.ensures c.requires.home_lt_card_count c.requires.s_value

@@ -3,7 +3,7 @@ use mathlib.Core.Path.{◌≡◌, sym, ap, ◌∙◌}
 use Prim.Native.Nat.{ℕ, ◌%◌, ◌<◌}
 use native.Mathlib.Nat.{mod-lt}
 use native.Mathlib.Omega.{arith}
-use lib.Count.{ones, ones-le}
+use lib.Count.{ones}
 use lib.ListN.{length, get_or}
 use borrow.Author.Rules.{rules}
 use Rattle.mask.specs.Masks.{byte, members, size}
@@ -12,11 +12,6 @@ use Rattle.mask.proofs.Masks.{has-card, size-members}
 use Rattle.mask.proofs.Sets.{size_is}
 use Rattle.mask.proofs.MaskSites.{member-at}
 use Rattle.mask.proofs.Placement.member_at.Goals as goal
-
-pub overflow_cast-self : goal.overflow_cast-self
-overflow_cast-self c =
-    let h : c.args.self.mask < 256 = search rules in
-    omega (arith, ones-le 8 c.args.self.mask h)
 
 pub nonzero_rem-i : goal.nonzero_rem-i
 nonzero_rem-i c =

@@ -2,8 +2,6 @@
 use mathlib.Core.Path.{◌∙◌, ap, sym}
 use mathlib.Core.List.{[], ◌∷◌}
 use Prim.Native.Nat.{ℕ}
-use native.Mathlib.Omega.{arith}
-use lib.Count.{leading_le}
 use borrow.Author.Rules.{rules}
 use borrow.Author.Tests.{eq-eqb, ne_eqb}
 use Rattle.mask.proofs.MaskSites.{sites-found}
@@ -16,9 +14,6 @@ returns-then-across-eq0 c =
     rw (eq-eqb c.across-across.result 0 c.if-across-eq0.true)
     at (sites-found p.mask p.rails at c.args.first.0 c.across-across.result (search rules) c.requires.copy_count_bound c.requires.first_value c.across-across.ensures)
     ∙ ap (λ (x : ℕ). c.args.first.0 ∷ x ∷ []) (sym c.next_member.ensures)
-
-pub overflow_cast-result : goal.overflow_cast-result
-overflow_cast-result c = omega (arith, leading_le 8 c.across-across.result)
 
 pub returns : goal.returns
 returns c =

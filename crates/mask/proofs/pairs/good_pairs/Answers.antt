@@ -1,21 +1,14 @@
 -- The set is computed for every mask (`good-is`). Assumes nothing.
 use mathlib.Core.Path.{◌∙◌, ap}
-use Prim.Native.Nat.{◌*◌, ℕ}
+use Prim.Native.Nat.{ℕ}
 use native.Mathlib.Omega.{arith}
-use lib.Bits.{and_le_r}
 use Rattle.mask.specs.Masks.{byte}
 use Rattle.mask.specs.Pairs.{is_pair_of}
-use Rattle.mask.proofs.PairSets.{good-fits, good-is, good-own, ones, own_bits}
+use Rattle.mask.proofs.PairSets.{good-is, good-own}
 use Rattle.mask.proofs.pairs.good_pairs.Goals as goal
 
-pub overflow_add-rows : goal.overflow_add-rows
-overflow_add-rows c = record { fits = omega (arith, and_le_r (c.wide-m.result * ones) own_bits) }
-
-pub overflow_mul-result : goal.overflow_mul-result
-overflow_mul-result c = record { fits = good-fits c.wide-m.result c.wide-m.ensures.1 }
-
 pub overflow_sub-result : goal.overflow_sub-result
-overflow_sub-result c = good-own c.wide-m.result c.wide-m.ensures.1
+overflow_sub-result c = good-own c.from-m.result (omega arith)
 
 pub returns : goal.returns
-returns c p h = good-is c.wide-m.result c.wide-m.ensures.1 p h ∙ ap (λ (m : ℕ). is_pair_of (byte m) p) c.wide-m.ensures.0
+returns c p h = good-is c.from-m.result (omega arith) p h ∙ ap (λ (m : ℕ). is_pair_of (byte m) p) c.from-m.ensures

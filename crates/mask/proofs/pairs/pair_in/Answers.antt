@@ -6,4 +6,4 @@ use Rattle.mask.proofs.pairs.pair_in.Goals as goal
 pub returns : goal.returns
 returns c =
     let a = c.args in
-    (shifted a.bits c.wide-below.result a.place c.requires c.wide-below.ensures.0, omega arith)
+    (shifted a.bits c.from-below.result a.place c.requires c.from-below.ensures, omega arith)

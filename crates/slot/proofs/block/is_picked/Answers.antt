@@ -5,16 +5,6 @@ use Rattle.image.specs.Layout.{slot_size}
 use Rattle.slot.proofs.Locks.{picked-of-list}
 use Rattle.slot.proofs.block.is_picked.Goals as goal
 
-pub overflow_cast-result-2 : goal.overflow_cast-result-2
-overflow_cast-result-2 c =
-    let i = c.args.i in
-    omega (arith, c.shared_slice_known-1.given (3 + i * slot_size))
-
-pub overflow_shr-result : goal.overflow_shr-result
-overflow_shr-result c =
-    let i = c.args.i in
-    omega (arith, c.shared_slice_known-1.given (3 + i * slot_size))
-
 pub returns : goal.returns
 returns c =
     let a = c.args in

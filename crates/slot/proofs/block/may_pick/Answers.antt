@@ -1,14 +1,9 @@
 -- Without a lock only transaction 0 is found in the slots, and a lock that the set has also has the bits that its numbers share. Assumes nothing.
-use mathlib.Core.Bool.{true}
-use mathlib.Core.Path.{refl, sym, ◌∙◌}
+use mathlib.Core.Path.{sym, ◌∙◌}
 use native.Mathlib.Omega.{arith}
-use Rattle.lists.proofs.Bools.{tf}
 use Rattle.slot.specs.Blocks.{of_list}
 use Rattle.slot.proofs.Locks.{bits-missing, no-lock, none-picked}
 use Rattle.slot.proofs.block.may_pick.Goals as goal
-
-pub returns-then-set-eq1 : goal.returns-then-set-eq1
-returns-then-set-eq1 c = λ e. tf true refl e
 
 pub returns-then-joined-eq0 : goal.returns-then-joined-eq0
 returns-then-joined-eq0 c = λ e.
