@@ -11,6 +11,7 @@ ghost use Rattle.control_form.specs.ControlForm.{all_safe, control_form, count_o
 ghost use Rattle.control.specs.Meaning.{meaning, Counted, Is};
 ghost use Rattle.control_form.specs.Reading.{
   Reads,
+  TestsPairs,
   all_from,
   chain_in,
   home_fits_at,
@@ -175,13 +176,10 @@ pub fn all_safe(k: Control) -> bool
     requires { Counted k }
     ensures { result ≡ all_safe (meaning k) }
 {
-    let mut i: u8 = 0;
-    while i < k.count {
-        let at = i as usize;
-        if !is_safe(k.working, k.failed, k.masks[at]) {
+    for i in 0..k.count as usize {
+        if !is_safe(k.working, k.failed, k.masks[i]) {
             return false;
         }
-        i += 1;
     }
     true
 }
@@ -210,12 +208,10 @@ fn placements_ok(s: &[u8]) -> bool
     let count = (s[0] / FIELD % FIELD_BOUND) as usize;
     let working = s[WORKING_AT];
     let failed = s[FAILED_AT];
-    let mut i = 0;
-    while i < count {
+    for i in 0..count {
         if !placement_ok(stopped, working, failed, s[MASKS_AT + i]) {
             return false;
         }
-        i += 1;
     }
     true
 }
@@ -318,31 +314,32 @@ pub fn front_ok(s: &[u8]) -> bool
 }
 
 // What the bytes behind the tables keep for placement i is zero where it has no mark for a table, and else pairs of
-// different members.
-fn kept_ok(front: &[u8], tail: &[u8], i: usize) -> bool
-    requires { (control_size ≤ length front.now) × (length tail.now ≡ tail_size) × (i < most_active) }
+// different members, which are_pairs tests.
+fn kept_ok<F: Fn(&[u8], u8) -> bool>(front: &[u8], tail: &[u8], are_pairs: &F, i: usize) -> bool
+    requires sizes { (control_size ≤ length front.now) × (length tail.now ≡ tail_size) × (i < most_active) }
+    requires tests { TestsPairs (F.pre are_pairs.now) (F.post are_pairs.now) }
     ensures { result ≡ kept_ok_at front.now (λ n. get_or tail.now n 0) i }
 {
     let start = i * image::PAIRS_SIZE;
     let end = start + image::PAIRS_SIZE;
     let mark = FIRST_TABLE_MARK >> i;
     if (front[MARKS_AT] & mark) != 0 {
-        return mask::pairs::are_pairs_of(&tail[start..end], front[MASKS_AT + i]);
+        return are_pairs(&tail[start..end], front[MASKS_AT + i]);
     }
     image::all_zero(&tail[start..end])
 }
 
-// What the control form asks of the bytes behind the tables: so it is for each placement.
-fn behind_ok(front: &[u8], tail: &[u8]) -> bool
-    requires { (control_size ≤ length front.now) × (length tail.now ≡ tail_size) }
+// What the control form asks of the bytes behind the tables: so it is for each placement. How pairs are tested is the
+// caller's, so that each caller's test is compiled into its own copy.
+pub fn behind_ok<F: Fn(&[u8], u8) -> bool>(front: &[u8], tail: &[u8], are_pairs: F) -> bool
+    requires sizes { (control_size ≤ length front.now) × (length tail.now ≡ tail_size) }
+    requires tests { TestsPairs (F.pre are_pairs) (F.post are_pairs) }
     ensures { result ≡ all_below most_active (kept_ok_at front.now (λ n. get_or tail.now n 0)) }
 {
-    let mut i = 0;
-    while i < MASK_COUNT {
-        if !kept_ok(front, tail, i) {
+    for i in 0..MASK_COUNT {
+        if !kept_ok(front, tail, &are_pairs, i) {
             return false;
         }
-        i += 1;
     }
     true
 }
@@ -358,7 +355,11 @@ fn form_ok(image: &[u8]) -> bool
     if image[MARKS_AT] % RAIL_WEIGHT == 0 {
         return image::all_zero(&image[image::TAIL_START..image::IMAGE_SIZE]);
     }
-    behind_ok(image, &image[image::TAIL_START..image::IMAGE_SIZE])
+    behind_ok(
+        image,
+        &image[image::TAIL_START..image::IMAGE_SIZE],
+        mask::pairs::are_pairs_of,
+    )
 }
 
 // No control part, and why.
