@@ -8,7 +8,8 @@ use native.Mathlib.Omega.{arith}
 use lib.Dec.{eqb, leb}
 use lib.ListN.{get_or}
 use Rattle.lists.specs.Tests.{all_in, all_below}
-use Rattle.lists.proofs.Bools.{same_test}
+use Rattle.lists.proofs.Bools.{same_test, split}
+use mathlib.Core.Logic.{◌⊎◌, inl, inr}
 use Rattle.lists.proofs.Counts.{all-below, below_all, below-ext}
 use Rattle.image.specs.Layout.{control_size, most_active, most_placed, tran_bound, tran_count}
 use Rattle.mask.specs.Masks.{Byte, are_apart, byte, is_within, size}
@@ -201,3 +202,13 @@ module _ (l : List ℕ) (t : ℕ → ℕ) (ok : count_ok (λ n. get_or l n 0) �
       (stopped_in (get_or l 0 0) || all_below (count_in (get_or l 0 0)) (mask_test is_safe l)) homes_open (serials_in l)
       ∙ ap₂ (λ (p h : Bool). other_zeros l && (are_apart (byte (get_or l working_at 0)) (byte (get_or l failed_at 0)) && (p && (chain_in l && (newest_in l && (h && serials_in l))))))
       placements-as homes-as
+
+pub front-is : (l : List ℕ) (t : ℕ → ℕ) → ((n : ℕ) → get_or l n 0 < 256)
+    → front_ok (control_of (λ n. get_or l n 0) t) (λ n. get_or l n 0) ≡ (count_ok (λ n. get_or l n 0) && clauses l)
+unfolding front_ok
+front-is l t bytes = go (split (count_ok (λ n. get_or l n 0)))
+  where
+    go : (count_ok (λ n. get_or l n 0) ≡ true) ⊎ (count_ok (λ n. get_or l n 0) ≡ false)
+        → front_ok (control_of (λ n. get_or l n 0) t) (λ n. get_or l n 0) ≡ (count_ok (λ n. get_or l n 0) && clauses l)
+    go (inl e) = form-by l t e bytes ∙ rw e
+    go (inr e) = rw e

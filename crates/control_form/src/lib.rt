@@ -289,28 +289,14 @@ pub fn front_ok(s: &[u8]) -> bool
     ensures { (t : ℕ → ℕ)
         → result ≡ front_ok (control_of (λ n. get_or s.now n 0) t) (λ n. get_or s.now n 0) }
 {
-    if !count_ok(s) {
-        return false;
-    }
-    if !zero_fields_ok(s) {
-        return false;
-    }
-    if !mask::apart(s[WORKING_AT], s[FAILED_AT]) {
-        return false;
-    }
-    if !placements_ok(s) {
-        return false;
-    }
-    if !fourth_ok(s) {
-        return false;
-    }
-    if !newest_works(s) {
-        return false;
-    }
-    if !homes_ok(s) {
-        return false;
-    }
-    serial_ok(s)
+    count_ok(s)
+        && zero_fields_ok(s)
+        && mask::apart(s[WORKING_AT], s[FAILED_AT])
+        && placements_ok(s)
+        && fourth_ok(s)
+        && newest_works(s)
+        && homes_ok(s)
+        && serial_ok(s)
 }
 
 // What the bytes behind the tables keep for placement i is zero where it has no mark for a table, and else pairs of
