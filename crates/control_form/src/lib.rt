@@ -68,15 +68,13 @@ const BEHIND_SERIAL: u64 = 0x1_0000;
 pub const COPIES: u32 = image::COPY_COUNT as u32;
 
 // Count is 1 to 4.
+#[tactic(auto, unfolding(crate::specs::ControlForm::count_ok))]
 fn count_ok(s: &[u8]) -> bool
     requires { control_size ≤ length s.now }
     ensures { result ≡ count_ok (λ n. get_or s.now n 0) }
 {
     let count = s[0] / FIELD % FIELD_BOUND;
-    if count < 1 {
-        return false;
-    }
-    count <= MOST_ACTIVE
+    1 <= count && count <= MOST_ACTIVE
 }
 
 // The masks from the count on are zero.
@@ -97,43 +95,32 @@ fn tail_ok(s: &[u8]) -> bool
 }
 
 // No placement that is not there has a mark, and none has both.
+#[tactic(auto, unfolding(crate::specs::Reading::marks_ok))]
 fn marks_ok(count: u8, marks: u8) -> bool
     requires { count ≤ most_active }
     ensures { result ≡ marks_ok count marks }
 {
-    if (marks & free_marks(count)) != 0 {
-        return false;
-    }
-    ((marks / RAIL_WEIGHT) & (marks % RAIL_WEIGHT)) == 0
+    (marks & free_marks(count)) == 0 && ((marks / RAIL_WEIGHT) & (marks % RAIL_WEIGHT)) == 0
 }
 
 // Zero fields are zero, but for the transactions' bytes. Masks that count, working and failed have none.
+#[tactic(auto, unfolding(crate::specs::Reading::other_zeros))]
 fn zero_fields_ok(s: &[u8]) -> bool
     requires control_size_in_bounds { control_size ≤ length s.now }
     requires n_value { count_ok (λ n. get_or s.now n 0) ≡ true }
     ensures { result ≡ other_zeros s.now }
 {
-    if s[0] % FIELD != 0 {
-        return false;
-    }
     let count = s[0] / FIELD % FIELD_BOUND;
-    if !masks_end(s, count) {
-        return false;
-    }
-    if !marks_ok(count, s[MARKS_AT]) {
-        return false;
-    }
-    tail_ok(s)
+    s[0] % FIELD == 0 && masks_end(s, count) && marks_ok(count, s[MARKS_AT]) && tail_ok(s)
 }
 
 // A placement with this mask has members enough, each working or failed.
+#[tactic(auto, unfolding(crate::specs::ControlForm::members_ok))]
 fn members_ok(working: u8, failed: u8, mask: u8) -> bool
     ensures { result ≡ members_ok (byte working) (byte failed) (byte mask) }
 {
-    if mask::members(mask) < mask::Placement::LEAST_MEMBERS {
-        return false;
-    }
-    mask::within_either(mask, working, failed)
+    mask::members(mask) >= mask::Placement::LEAST_MEMBERS
+        && mask::within_either(mask, working, failed)
 }
 
 // Of four placements the third has one failed card more than the fourth.
@@ -142,32 +129,26 @@ fn fourth_ok(s: &[u8]) -> bool
     requires n_value { count_ok (λ n. get_or s.now n 0) ≡ true }
     ensures { result ≡ chain_in s.now }
 {
-    if s[0] / FIELD % FIELD_BOUND == MOST_ACTIVE {
-        return mask::one_more(s[FAILED_AT], s[FOURTH_AT], s[THIRD_AT]);
-    }
-    true
+    s[0] / FIELD % FIELD_BOUND != MOST_ACTIVE
+        || mask::one_more(s[FAILED_AT], s[FOURTH_AT], s[THIRD_AT])
 }
 
 // In a running store all members of the newest placement work.
+#[tactic(auto, unfolding(crate::specs::Reading::newest_in))]
 fn newest_works(s: &[u8]) -> bool
     requires { control_size ≤ length s.now }
     ensures { result ≡ newest_in s.now }
 {
-    if s[0] >= STOPPED {
-        return true;
-    }
     let count = (s[0] / FIELD % FIELD_BOUND) as usize;
-    mask::within(s[MASKS_AT + count - 1], s[WORKING_AT])
+    s[0] >= STOPPED || mask::within(s[MASKS_AT + count - 1], s[WORKING_AT])
 }
 
 // A placement with this mask has fewer failed members than copies, and at least as many working ones as copies.
+#[tactic(auto, unfolding(crate::specs::ControlForm::is_safe))]
 fn is_safe(working: u8, failed: u8, mask: u8) -> bool
     ensures { result ≡ is_safe (byte working) (byte failed) (byte mask) }
 {
-    if mask::common(mask, failed) >= COPIES {
-        return false;
-    }
-    mask::common(mask, working) >= COPIES
+    mask::common(mask, failed) < COPIES && mask::common(mask, working) >= COPIES
 }
 
 // Every active placement has fewer failed members than copies, and at least as many working ones: where not, the store
@@ -186,16 +167,11 @@ pub fn all_safe(k: Control) -> bool
 
 // A placement with this mask has members enough, each working or failed; in a running store fewer than copies are
 // failed, and at least as many work.
+#[tactic(auto, unfolding(crate::specs::Reading::placement_ok))]
 fn placement_ok(stopped: bool, working: u8, failed: u8, mask: u8) -> bool
     ensures { result ≡ placement_ok stopped (byte working) (byte failed) (byte mask) }
 {
-    if !members_ok(working, failed, mask) {
-        return false;
-    }
-    if stopped {
-        return true;
-    }
-    is_safe(working, failed, mask)
+    members_ok(working, failed, mask) && (stopped || is_safe(working, failed, mask))
 }
 
 // Each active placement is so.
@@ -222,10 +198,7 @@ fn none_open(s: &[u8]) -> bool
     requires s_value { all_from homes_at homes_end (is_home_at s.now) ≡ true }
     ensures { result ≡ all_from homes_at homes_end (home_ok_at true s.now) }
 {
-    if words::word(s, HOMES_AT) != 0 {
-        return false;
-    }
-    words::word(s, SECOND_AT) == 0
+    words::word(s, HOMES_AT) == 0 && words::word(s, SECOND_AT) == 0
 }
 
 // Each open transaction's home works: none is a card that does not.
@@ -254,10 +227,7 @@ fn homes_ok(s: &[u8]) -> bool
     requires { control_size ≤ length s.now }
     ensures { result ≡ all_from homes_at homes_end (home_fits_at s.now) }
 {
-    if !words::are_homes(s, HOMES_AT) {
-        return false;
-    }
-    if !words::are_homes(s, SECOND_AT) {
+    if !(words::are_homes(s, HOMES_AT) && words::are_homes(s, SECOND_AT)) {
         return false;
     }
     if s[0] >= STOPPED {
