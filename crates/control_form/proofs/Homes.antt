@@ -13,7 +13,7 @@ use lib.ListN.{get_or}
 use borrow.Author.Tests.{eqb-true}
 use Rattle.lists.specs.Bytes.{of_bytes}
 use Rattle.lists.specs.Tests.{all_below}
-use Rattle.lists.proofs.Bools.{and_in, imp-out, same_bool}
+use Rattle.lists.proofs.Bools.{imp-out, same_bool}
 use Rattle.lists.proofs.Bytes.{AreBytes, bytes-add, bytes-and, bytes-ext, bytes-mul, bytes-test, bytes-xor}
 use Rattle.lists.proofs.Counts.{at_pair, below_all, below-ext}
 use Rattle.image.specs.Layout.{card_count}

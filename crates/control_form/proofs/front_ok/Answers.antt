@@ -1,6 +1,6 @@
 -- What is asked of the bytes before the tables is the clauses in the code's order; each clause that passes leaves those behind
 -- it, and one that fails decides. Assumes nothing.
-use Rattle.std.proofs.Common.{sym, ◌∙◌, arith}
+use Rattle.std.proofs.Common.{arith}
 use Rattle.control_form.proofs.Clauses.{front-is}
 use Rattle.control_form.proofs.front_ok.Goals as goal
 
