@@ -50,11 +50,7 @@ fn front_ok(older: &[u8]) -> bool
     requires { control_size ≤ length older.now }
     ensures { (t : ℕ → ℕ) → result ≡ older_front_ok (λ n. get_or older.now n 0) t }
 {
-    if !image::all_zero(&older[SERIAL_AT..SERIAL_END]) {
-        return false;
-    }
-    let front = numbered(older);
-    control_form::front_ok(&front)
+    image::all_zero(&older[SERIAL_AT..SERIAL_END]) && control_form::front_ok(&numbered(older))
 }
 
 // The control form of an image from before A.6: this, and no mark for a table.
@@ -62,26 +58,18 @@ fn form_21024(older: &[u8]) -> bool
     requires { length older.now ≡ older_size }
     ensures { result ≡ form_by below_wire older.now }
 {
-    if !front_ok(older) {
-        return false;
-    }
-    older[MARKS_AT] % RAIL_WEIGHT == 0
+    front_ok(older) && older[MARKS_AT] % RAIL_WEIGHT == 0
 }
 
 // Whether the pair is two different members of the mask.
+#[tactic(auto, unfolding(mask::specs::Pairs::is_pair_of))]
 fn pair_ok(pair: u8, mask: u8) -> bool
     requires { pair < pair_bound }
     ensures { result ≡ is_pair_of (byte mask) pair }
 {
     let first = pair / CARD_COUNT;
     let second = pair % CARD_COUNT;
-    if !mask::has(mask, Card(first)) {
-        return false;
-    }
-    if !mask::has(mask, Card(second)) {
-        return false;
-    }
-    first != second
+    mask::has(mask, Card(first)) && mask::has(mask, Card(second)) && first != second
 }
 
 // Whether those of all blocks are, a block at a time: the check that takes them all at once is the calls' own, and stays
@@ -103,10 +91,8 @@ fn form_21216(older: &[u8]) -> bool
     requires { length older.now ≡ pairs_image_size }
     ensures { result ≡ form_by by_tables older.now }
 {
-    if !front_ok(older) {
-        return false;
-    }
-    control_form::behind_ok(older, &older[OLDER_SIZE..PAIRS_IMAGE_SIZE], pairs_ok)
+    front_ok(older)
+        && control_form::behind_ok(older, &older[OLDER_SIZE..PAIRS_IMAGE_SIZE], pairs_ok)
 }
 
 // Fills the lent buffer with the image from before A.6 at the length of A.6, and answers how many bytes were written;
