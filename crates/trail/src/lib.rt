@@ -62,11 +62,9 @@ pub fn held_by(image: &[u8], working: u8, block: Block) -> u8
     ensures { AreMembers result (holds_at image.now (byte working) block.0) }
 {
     let mut held: u8 = 0;
-    let mut c: u8 = 0;
-    while c < Placement::MOST_CARDS {
+    for c in 0..Placement::MOST_CARDS {
         let on = holds(image, working, Card(c), block);
         held = with_if(held, on, Card(c));
-        c += 1;
     }
     held
 }
@@ -107,10 +105,8 @@ pub fn held_by_two(image: &[u8], working: u8, block: Block) -> HeldTwo
         first: 0,
         second: 0,
     };
-    let mut c: u8 = 0;
-    while c < Placement::MOST_CARDS {
+    for c in 0..Placement::MOST_CARDS {
         held = both_with_card(image, working, held, Card(c), block);
-        c += 1;
     }
     held
 }
@@ -147,13 +143,9 @@ fn push_sites(image: &[u8], working: u8, block: Block, found: Holders, i: usize)
         (sites_of (shown_at image.now i) block.0) result }
 {
     let sites = control::sites::at(image, i, block);
-    let count = sites.count as usize;
     let mut all = found;
-    let mut n: usize = 0;
-    while n < count {
-        let more = push(image, working, block, all, sites.cards[n]);
-        all = more;
-        n += 1;
+    for n in 0..sites.count as usize {
+        all = push(image, working, block, all, sites.cards[n]);
     }
     all
 }
@@ -165,17 +157,12 @@ pub fn find(image: &[u8], k: Control, block: Block) -> Holders
     requires block_lt_block_count { block.0 < block_count }
     ensures { Lists result (holders_in image.now block.0) }
 {
-    let count = k.count as usize;
-    let working = k.working;
     let mut found = Holders {
         first: Card(0),
         cards: 0,
     };
-    let mut i: usize = 0;
-    while i < count {
-        let more = push_sites(image, working, block, found, i);
-        found = more;
-        i += 1;
+    for i in 0..k.count as usize {
+        found = push_sites(image, k.working, block, found, i);
     }
     found
 }

@@ -2,7 +2,7 @@
 use mathlib.Core.Bool.{Bool}
 use mathlib.Core.List.{List}
 use mathlib.Core.Path.{◌∙◌, ◌≡◌, ap, subst, sym}
-use Prim.Native.Nat.{ℕ, ◌-◌}
+use Prim.Native.Nat.{ℕ}
 use native.Mathlib.Omega.{arith}
 use lib.ListN.{get_or, length}
 use Rattle.mask.specs.Masks.{byte}
@@ -13,14 +13,14 @@ use Rattle.trail.proofs.Listed.{add-all, add-more, add_none}
 use Rattle.trail.proofs.push_sites.Goals as goal
 
 pub loop-n-init : goal.loop-n-init
-loop-n-init c = let a = c.args in (omega arith, add_none (holds_at a.image.now (byte a.working) a.block.0) a.found)
+loop-n-init c = add_none (holds_at c.args.image.now (byte c.args.working) c.args.block.0) c.args.found
 
 pub bounds-sites-n : goal.bounds-sites-n
 bounds-sites-n c =
     omega (arith, c.loop-n-test.true, c.at-sites.ensures.counted, site-count (shown_at c.args.image.now c.args.i) c.args.block.0)
 
-pub push-more-requires : goal.push-more-requires
-push-more-requires c =
+pub push-all-requires : goal.push-all-requires
+push-all-requires c =
     (c.requires.whole.0, listed-card c.at-sites.ensures c.loop-n.n c.loop-n-test.true record { 0 = 0 }, c.requires.whole.2)
 
 pub loop-n-preserved : goal.loop-n-preserved
@@ -29,12 +29,10 @@ loop-n-preserved c =
     let a = c.args in
     let are = c.at-sites.ensures in
     let list : List ℕ = site_list c.at-sites.result in
-    let long : length list ≡ c.at-sites.result.count = ap length are.listed ∙ sym are.counted in (
-      omega (arith, c.loop-n-test.true),
-      add-more (holds_at a.image.now (byte a.working) a.block.0) list l.n _ (omega (arith, long, c.loop-n-test.true))
-          (listed_at are l.n c.loop-n-test.true record { 0 = 0 } ∙ ap (λ (z : List ℕ). get_or z l.n 0) (sym are.listed))
-          a.found l.all c.push-more.result l.invariant.1 c.push-more.ensures,
-    )
+    let long : length list ≡ c.at-sites.result.count = ap length are.listed ∙ sym are.counted in
+    add-more (holds_at a.image.now (byte a.working) a.block.0) list l.n _ (omega (arith, long, c.loop-n-test.true))
+    (listed_at are l.n c.loop-n-test.true record { 0 = 0 } ∙ ap (λ (z : List ℕ). get_or z l.n 0) (sym are.listed))
+    a.found l.all c.push-all.result l.invariant c.push-all.ensures
 
 pub returns : goal.returns
 returns c =
@@ -44,4 +42,4 @@ returns c =
     let f : ℕ → Bool = holds_at a.image.now (byte a.working) a.block.0 in
     let long : length (site_list c.at-sites.result) ≡ c.at-sites.result.count = ap length are.listed ∙ sym are.counted in
     subst (λ (z : List ℕ). Adds a.found f z l.all) are.listed
-    (add-all f (site_list c.at-sites.result) l.n (omega (arith, long, c.loop-n-test.false)) a.found l.all l.invariant.1)
+    (add-all f (site_list c.at-sites.result) l.n (omega (arith, long, c.loop-n-test.false)) a.found l.all l.invariant)

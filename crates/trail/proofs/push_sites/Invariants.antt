@@ -1,5 +1,4 @@
 -- After n turns the first n sites are added where they hold the block. Assumes nothing.
-use Prim.Native.Nat.{◌-◌, ◌≤◌}
 use lib.ListN.{take}
 use Rattle.mask.specs.Masks.{byte}
 use Rattle.mask.specs.Placements.{site_list}
@@ -7,7 +6,4 @@ use Rattle.trail.specs.Trail.{Adds, holds_at}
 use Rattle.trail.proofs.push_sites.Given as goal
 
 abbrev pub invariant-loop-n : goal.invariant-loop-n
-invariant-loop-n l = (l.n ≤ l.count) × Adds l.initial.all (holds_at l.image (byte l.working) l.block.0) (take l.n (site_list l.sites)) l.all
-
-abbrev pub decreases-loop-n : goal.decreases-loop-n
-decreases-loop-n l = l.count - l.n
+invariant-loop-n l = Adds l.initial.all (holds_at l.image (byte l.working) l.block.0) (take l.n (site_list l.sites)) l.all
