@@ -35,14 +35,12 @@ fn is_held(image: &[u8], card: Card, block: Block) -> bool
 }
 
 // Whether the card works and holds the block. The table of a card that does not work is not read.
+#[tactic(auto, unfolding(crate::specs::Trail::holds_at))]
 pub fn holds(image: &[u8], working: u8, card: Card, block: Block) -> bool
     requires { Whole image.now × (card.0 < card_count) × (block.0 < block_count) }
     ensures { result ≡ holds_at image.now (byte working) block.0 card.0 }
 {
-    if mask::has(working, card) {
-        return is_held(image, card, block);
-    }
-    false
+    mask::has(working, card) && is_held(image, card, block)
 }
 
 // The mask with the card, where it is on.
