@@ -22,9 +22,10 @@ use Rattle.control.specs.declared.Control.{Control}
 use Rattle.control.proofs.Front.{active-front}
 use Rattle.control.proofs.Struct.{active-is, length-placements}
 use Rattle.cabinet_rules.specs.Cabinet.{tran_ok}
-use Rattle.trail.specs.Trail.{Lists}
+use Rattle.image.specs.declared.Card.{Card}
+use Rattle.std.specs.Prelude as Option
+use Rattle.trail.specs.Trail.{Lists, first_in}
 use Rattle.trail.specs.declared.Holders.{Holders}
-use Rattle.trail.proofs.Listed.{none-listed, some-listed}
 use Rattle.queries.specs.declared.Told.{Told}
 use Rattle.queries.specs.declared.Told.TheVariants.{None, Number, Refused}
 use Rattle.queries.specs.Queries.{cards_in, first_told, free_from, free_in, if_in_range, mask_of_nth, told_home, told_of, unless_row}
@@ -102,15 +103,19 @@ module _ (k : Part) where
 
 -- ---- the holders of a block
 module _ (h : Holders) {l : List ℕ} (lists : Lists h l) where
-  pub first-none : h.cards ≡ 0 → None ≡ first_told l
-  first-none z = ap first_told (sym (none-listed lists z))
-
-  pub first_some : h.cards < 256 → h.cards ≢ 0 → Number h.first.0 ≡ first_told l
-  first_some small d = go l lists.first-is (some-listed lists small d)
+  pub first-none : h.first ≡ Option.None → None ≡ first_told l
+  first-none e = go l (sym e ∙ lists.first-is)
     where
-      go : (l : List ℕ) → h.first.0 ≡ get_or l 0 0 → l ≢ [] → Number h.first.0 ≡ first_told l
-      go [] e d = absurd (d refl)
-      go (c ∷ l) e d = ap (λ (n : ℕ). Number n) e
+      go : (l : List ℕ) → Option.None ≡ first_in l → None ≡ first_told l
+      go [] e = refl
+      go (c ∷ l) e = cc
+
+  pub first_some : (c : Card) → h.first ≡ Option.Some c → Number c.0 ≡ first_told l
+  first_some c e = go l (sym e ∙ lists.first-is)
+    where
+      go : (l : List ℕ) → Option.Some c ≡ first_in l → Number c.0 ≡ first_told l
+      go [] e = cc
+      go (x ∷ l) e = cc
 
   pub cards-told : size (byte h.cards) ≡ cards_in l
   unfolding size

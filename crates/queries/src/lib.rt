@@ -120,11 +120,10 @@ pub fn source(image: &[u8], tran: Tran, rec: Rec) -> Told
     if found.refusal != 0 {
         return Told::Refused(found.refusal);
     }
-    let holders = found.holders;
-    if holders.cards == 0 {
-        return Told::None;
+    match found.holders.first {
+        Some(card) => Told::Number(card.0),
+        None => Told::None,
     }
-    Told::Number(holders.first.0)
 }
 
 // How many cards hold the record's block: refused as a get of the record by the transaction is.

@@ -31,7 +31,7 @@ fn refused(refusal: u8) -> Access
         refusal: refusal,
         newest: 0,
         holders: Holders {
-            first: image::Card(0),
+            first: None,
             cards: 0,
         },
     }

@@ -17,11 +17,10 @@ use image::{Block, Card};
 use mask::Placement;
 use slot::HELD;
 
-// The holders of a block: the first of them on its trail, the oldest placement first, and all of them as a mask. With no
-// holder the first is card 0.
+// The holders of a block: the first of them on its trail, the oldest placement first, and all of them as a mask.
 #[derive(Clone, Copy)]
 pub struct Holders {
-    pub first: Card,
+    pub first: Option<Card>,
     pub cards: u8,
 }
 
@@ -109,16 +108,6 @@ pub fn held_by_two(image: &[u8], working: u8, block: Block) -> HeldTwo
     held
 }
 
-// The first holder once the card is added.
-fn first_of(found: Holders, card: Card) -> Card
-    ensures { (l : List ℕ) → Lists found l → result.0 ≡ get_or (l ++ (card.0 ∷ [])) 0 0 }
-{
-    if found.cards == 0 {
-        return card;
-    }
-    found.first
-}
-
 // The card is added where it holds the block.
 fn push(image: &[u8], working: u8, block: Block, found: Holders, card: Card) -> Holders
     requires { Whole image.now × (card.0 < card_count) × (block.0 < block_count) }
@@ -126,7 +115,7 @@ fn push(image: &[u8], working: u8, block: Block, found: Holders, card: Card) -> 
 {
     if holds(image, working, card, block) {
         return Holders {
-            first: first_of(found, card),
+            first: Some(found.first.unwrap_or(card)),
             cards: mask::with_card(found.cards, card),
         };
     }
@@ -156,7 +145,7 @@ pub fn find(image: &[u8], k: Control, block: Block) -> Holders
     ensures { Lists result (holders_in image.now block.0) }
 {
     let mut found = Holders {
-        first: Card(0),
+        first: None,
         cards: 0,
     };
     for i in 0..k.count as usize {

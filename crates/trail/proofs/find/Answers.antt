@@ -1,5 +1,6 @@
 -- After i turns the holders among the sites of the first i placements are found. Assumes nothing.
 use mathlib.Core.Path.{◌∙◌, ◌≡◌, ap, refl, subst}
+use Rattle.std.specs.Prelude.{None}
 use native.Mathlib.Omega.{arith}
 use Rattle.promise.proofs.Finish.{given-whole}
 use Rattle.trail.specs.Trail.{Lists}
@@ -10,7 +11,7 @@ use Rattle.trail.proofs.find.Goals as goal
 pub loop-i-init : goal.loop-i-init
 loop-i-init c =
     let a = c.args in
-    subst (Lists record { first = record { 0 = 0 }; cards = 0 }) (first-none a.image.now a.block.0) (list-none _ refl refl)
+    subst (Lists record { first = None; cards = 0 }) (first-none a.image.now a.block.0) (list-none _ refl refl)
 
 pub push_sites-found-requires : goal.push_sites-found-requires
 push_sites-found-requires c =
