@@ -101,10 +101,7 @@ impl Control {
         requires { Counted self }
         ensures { result ≡ is_by_rails (meaning self).newest.choice }
     {
-        if self.newest_by_table() {
-            return false;
-        }
-        (self.marks & (FIRST_MARK >> (self.count - 1))) != 0
+        !self.newest_by_table() && (self.marks & (FIRST_MARK >> (self.count - 1))) != 0
     }
 
     // The transaction opens with its home.

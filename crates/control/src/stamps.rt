@@ -47,8 +47,5 @@ pub fn is_current(image: &[u8], card: Card, serial: u32, mask: u8) -> bool
         (record { serial = serial; mask = mask }) }
 {
     let start = image::end_start(card);
-    if serials::read(image, start) != serial {
-        return false;
-    }
-    image[start + serials::SIZE] == mask
+    serials::read(image, start) == serial && image[start + serials::SIZE] == mask
 }
