@@ -4,7 +4,7 @@ use mathlib.Core.Logic.{◌⊎◌, inl, inr}
 use mathlib.Core.Bool.{Bool, true, false, ◌&&◌, cond}
 use mathlib.Core.Option.{Option, some, none}
 use mathlib.Core.List.{List, [], ◌∷◌}
-use Prim.Native.Nat.{ℕ, zero, suc, ◌+◌, ◌-◌, ◌*◌, ◌/◌, ◌%◌, ◌<◌}
+use Prim.Native.Nat.{ℕ, zero, suc, ◌+◌, ◌-◌, ◌*◌, ◌/◌, ◌%◌, ◌^◌, ◌<◌}
 use native.Mathlib.Omega.{arith}
 use lib.Bits.{bit_or}
 use lib.Dec.{ltb, eqb}
@@ -18,10 +18,10 @@ use Rattle.mask.specs.Pairs.{no_pairs}
 use Rattle.mask.specs.Placements.{Choice, Placement, by_table, from_mask, is_by_rails}
 use Rattle.method.specs.ControlPart.{active, is_card, begun_at, started, with_home, with_cards, with_placements, opened, closed, added, only_newest, halted, part}
 use Rattle.control.specs.ControlBytes.{chosen_by, field, field_bound, home_in, home_of, kept_as, mark_in, open_bit, placements_in, table_mark_in}
-use Rattle.control.specs.Meaning.{clean_marks, placement_in, meaning, newest_mask, kept_home, Counted, Is}
+use Rattle.control.specs.Meaning.{clean_marks, placement_in, meaning, newest_mask, kept_home, with_mask, Counted, Is}
 use Rattle.control.specs.Serials.{first_serial}
 use Rattle.control.specs.declared.Control.{Control}
-use Rattle.control.proofs.Marks.{chosen-rails, kind-first, marked-is, marked-same, rails-added, rails-kept, table-added, table_kept}
+use Rattle.control.proofs.Marks.{chosen-rails, kind, kind_in, kind-first, marked-is, marked-same, rails-added, rails-kept, table-added, table-bit, table_kept}
 use Rattle.control.proofs.Struct.{placements-same, active-is}
 
 -- The homes after a store at transaction t's place.
@@ -91,77 +91,45 @@ module _ (k : Control) (w : Counted k) where
           let b : t < tran_bound = ltb-true t tran_bound (and_r (ltb 0 t) (ltb t tran_bound) e) in
           rw e (ap home_in (same (t - 1) (omega arith)) ∙ kept-home c (get_or k.homes (t - 1) 0))
 
-  -- a placement is added: its mask, its marks, which keep the kinds of the others, and its serial
-  module _ (m marks ν : ℕ) (next : ν ≡ suc k.serial) (n : length k.masks ≡ most_active) (h : k.count < most_active) (p : Placement)
-      (new : kept_as k.count m marks no_pairs ≡ p)
-      (same : (i : ℕ) → i < k.count → chosen_by (table_mark_in marks i) (mark_in marks i) no_pairs ≡ chosen_by (table_mark_in k.marks i) (mark_in k.marks i) no_pairs) where
-    masks : List ℕ
+  -- a placement is added: its mask, its mark, beside marks that keep the kinds of the others, and its serial
+  module _ (m mark : ℕ) (n : length k.masks ≡ most_active) (h : k.count < most_active) where
+    abbrev marks : ℕ
+    marks = bit_or (clean_marks k.count k.marks) mark
+
+    abbrev masks : List ℕ
     masks = set k.masks k.count m
 
     c : k.count + 1 - 1 ≡ k.count
     c = omega arith
 
-    kept : (i : ℕ) → i < k.count → kept_as i (get_or masks i 0) marks no_pairs ≡ placement_in k i
-    unfolding masks
-    kept i b = ap₂ (λ (x : ℕ) (r : Choice). record { mask = byte x; choice = r }) (get_or-set_other k.masks k.count i m 0 (λ e. omega arith)) (same i b)
-
-    old : placements_in (λ i. kept_as i (get_or masks i 0) marks no_pairs) (k.count + 1 - 1) ≡ active (meaning k)
+    more-is : (table rails : Bool) → kind_in marks k.count ≡ kind table rails → ((i : ℕ) → i < k.count → kind_in marks i ≡ kind_in k.marks i)
+        → Is (with_mask k m mark) (added (meaning k) (record { mask = byte m; choice = chosen_by table rails no_pairs }) (suc k.serial))
     unfolding meaning
-    old = ap (placements_in (λ i. kept_as i (get_or masks i 0) marks no_pairs)) c
-        ∙ placements-same (λ i. kept_as i (get_or masks i 0) marks no_pairs) (placement_in k) k.count kept ∙ sym (active-is k w)
-
-    last : kept_as (k.count + 1 - 1) (get_or masks (k.count + 1 - 1) 0) marks no_pairs ≡ p
-    unfolding masks
-    last = ap (λ (i : ℕ). kept_as i (get_or masks i 0) marks no_pairs) c
-        ∙ ap (λ (x : ℕ). kept_as k.count x marks no_pairs) (get_or-set_same k.masks k.count m 0 (omega arith)) ∙ new
-
-    pub more-is : Is (record {
-      stopped = k.stopped;
-      count = k.count + 1;
-      masks = set k.masks k.count m;
-      working = k.working;
-      failed = k.failed;
-      marks = marks;
-      homes = k.homes;
-      serial = ν;
-    })
-        (added (meaning k) p (suc k.serial))
-    unfolding meaning masks
-    more-is = record {
+    more-is table rails new same = record {
       counted = record { some = omega arith; few = omega arith };
-      means = ap₂ (λ (o : List Placement) (n : Placement). part k.stopped o n (byte k.working) (byte k.failed) (meaning k).home tt ν) old last
-          ∙ ap (added (meaning k) p) next;
+      means = ap₂ (λ (o : List Placement) (n : Placement). part k.stopped o n (byte k.working) (byte k.failed) (meaning k).home tt (suc k.serial)) old last;
     }
+      where
+        kept : (i : ℕ) → i < k.count → kept_as i (get_or masks i 0) marks no_pairs ≡ placement_in k i
+        kept i b = ap₂ (λ (x : ℕ) (r : Choice). record { mask = byte x; choice = r }) (get_or-set_other k.masks k.count i m 0 (λ e. omega arith))
+            (marked-same marks k.marks i no_pairs (same i b))
 
-  module _ (m marks ν : ℕ) (next : ν ≡ suc k.serial) (n : length k.masks ≡ most_active) (h : k.count < most_active)
-      (byte-marks : k.marks < 256) (clean : marks ≡ clean_marks k.count k.marks) where
-    abbrev pub with : ℕ → Control
-    with b = record {
-      stopped = k.stopped;
-      count = k.count + 1;
-      masks = set k.masks k.count m;
-      working = k.working;
-      failed = k.failed;
-      marks = bit_or marks b;
-      homes = k.homes;
-      serial = ν;
-    }
+        old : placements_in (λ i. kept_as i (get_or masks i 0) marks no_pairs) (k.count + 1 - 1) ≡ active (meaning k)
+        old = ap (placements_in (λ i. kept_as i (get_or masks i 0) marks no_pairs)) c
+            ∙ placements-same (λ i. kept_as i (get_or masks i 0) marks no_pairs) (placement_in k) k.count kept ∙ sym (active-is k w)
 
-    pub add_is : Is (with (bit_of k.count)) (added (meaning k) (from_mask (byte m)) (suc k.serial))
-    add_is = more-is m (bit_or marks (bit_of k.count)) ν next n h (from_mask (byte m))
-        (ap (λ (x : ℕ). kept_as k.count m (bit_or x (bit_of k.count)) no_pairs) clean
-        ∙ ap (λ (c : Choice). record { mask = byte m; choice = c })
-        (marked-is (bit_or (clean_marks k.count k.marks) (bit_of k.count)) k.count false true no_pairs (rails-added k.count k.marks h byte-marks)))
-        (λ i p. ap (λ (x : ℕ). chosen_by (table_mark_in (bit_or x (bit_of k.count)) i) (mark_in (bit_or x (bit_of k.count)) i) no_pairs) clean
-        ∙ marked-same (bit_or (clean_marks k.count k.marks) (bit_of k.count)) k.marks i no_pairs (rails-kept k.count k.marks h byte-marks i p))
+        last : kept_as (k.count + 1 - 1) (get_or masks (k.count + 1 - 1) 0) marks no_pairs ≡ record { mask = byte m; choice = chosen_by table rails no_pairs }
+        last = ap (λ (i : ℕ). kept_as i (get_or masks i 0) marks no_pairs) c
+            ∙ ap₂ (λ (x : ℕ) (r : Choice). record { mask = byte x; choice = r }) (get_or-set_same k.masks k.count m 0 (omega arith))
+            (marked-is marks k.count table rails no_pairs new)
 
-    pub add-table-is : Is (with (bit_of (most_active + k.count))) (added (meaning k) (record { mask = byte m; choice = by_table no_pairs }) (suc k.serial))
-    add-table-is = more-is m (bit_or marks (bit_of (most_active + k.count))) ν next n h (record { mask = byte m; choice = by_table no_pairs })
-        (ap (λ (x : ℕ). kept_as k.count m (bit_or x (bit_of (most_active + k.count))) no_pairs) clean
-        ∙ ap (λ (c : Choice). record { mask = byte m; choice = c })
-        (marked-is (bit_or (clean_marks k.count k.marks) (bit_of (most_active + k.count))) k.count true false no_pairs (table-added k.count k.marks h byte-marks)))
-        (λ i p. ap (λ (x : ℕ). chosen_by (table_mark_in (bit_or x (bit_of (most_active + k.count))) i) (mark_in (bit_or x (bit_of (most_active + k.count))) i) no_pairs) clean
-        ∙ marked-same (bit_or (clean_marks k.count k.marks) (bit_of (most_active + k.count))) k.marks i no_pairs (table_kept k.count k.marks h byte-marks i p))
+  module _ (m : ℕ) (n : length k.masks ≡ most_active) (h : k.count < most_active) (byte-marks : k.marks < 256) where
+    pub add_is : Is (with_mask k m (bit_of k.count)) (added (meaning k) (from_mask (byte m)) (suc k.serial))
+    add_is = more-is m (bit_of k.count) n h false true (rails-added k.count k.marks h byte-marks) (rails-kept k.count k.marks h byte-marks)
+
+    pub add-table-is : Is (with_mask k m (8 / 2 ^ k.count)) (added (meaning k) (record { mask = byte m; choice = by_table no_pairs }) (suc k.serial))
+    add-table-is = rw (table-bit k.count h)
+        (more-is m (bit_of (most_active + k.count)) n h true false (table-added k.count k.marks h byte-marks) (table_kept k.count k.marks h byte-marks))
 
   -- by rails, and not by table
   pub newest-rails : is_by_rails (meaning k).newest.choice ≡ cond (table_mark_in k.marks (k.count - 1)) false (mark_in k.marks (k.count - 1))

@@ -43,13 +43,13 @@ free-small n h = ltb-true _ _ (below_all (suc most_active) (λ n. ltb (15 / 2 ^ 
 
 -- ---- kinds
 -- Both marks of a placement, as one number; that of a choice; the marks of a kind, as number i.
-abbrev kind : Bool → Bool → ℕ
+abbrev pub kind : Bool → Bool → ℕ
 kind table rails = cond table 2 (cond rails 1 0)
 
 abbrev kind_of : Choice → ℕ
 kind_of c = kind (is_by_table c) (is_by_rails c)
 
-abbrev kind_in : ℕ → ℕ → ℕ
+abbrev pub kind_in : ℕ → ℕ → ℕ
 kind_in m i = kind (table_mark_in m i) (mark_in m i)
 
 abbrev kind_marks : ℕ → ℕ → ℕ

@@ -1,15 +1,15 @@
 -- Laws of stamps. A stamp is told by its bytes (`stamp-back`) and by the test (`same-stamp`). An image with a stamp, or with those of the cards that a
 -- mask names, has the stamp's bytes at their ends and is else as it was (`stamps-in`, `stamps-out`): a card's end lies in no other card's table, so each
 -- card added leaves the ends before it alone. Assumes nothing.
-use mathlib.Core.Path.{◌≡◌, refl, sym, ap, ◌∙◌}
-use mathlib.Core.Logic.{◌≢◌, ◌⊎◌, inl, inr, ⊎_elim}
-use mathlib.Core.Bool.{Bool, true, false, cond}
+use mathlib.Core.Path.{◌≡◌, refl, sym, ap, ap₂, ◌∙◌}
+use mathlib.Core.Logic.{◌⊎◌, inl, inr, ⊎_elim}
+use mathlib.Core.Bool.{Bool, true, false, ◌&&◌, cond}
 use mathlib.Core.List.{List, [], ◌∷◌}
 use Prim.Native.Nat.{ℕ, zero, suc, ◌+◌, ◌≤◌, ◌<◌}
 use native.Mathlib.Omega.{arith}
 use lib.Dec.{eqb}
 use lib.ListN.{get_or, length}
-use borrow.Author.Tests.{eq-eqb, eqb-true, lt-ltb, le-ltb, ne_eqb}
+use borrow.Author.Tests.{eqb-true, lt-ltb, le-ltb}
 use Rattle.lists.specs.Tabulate.{tabulate}
 use Rattle.lists.proofs.Bools.{and_in, and_l, and_r, eqb-self, split, tf}
 use Rattle.lists.proofs.Cases.{lt-eq-gt, lt-or-ge}
@@ -61,14 +61,10 @@ same-stamp m n e = λ i. record {
   mask = eqb-true m.mask n.mask (and_r (eqb m.serial n.serial) (eqb m.mask n.mask) e) i;
 }
 
--- As the code tests it: the serial first.
-pub other-serial : (e : ℕ → ℕ) (ν : ℕ) (m : Stamp) → ν ≡ serial_in e → ν ≢ m.serial → false ≡ same_stamp (stamp_in e) m
+-- As the code tests it: the serial, and the mask.
+pub stamp-test : (e : ℕ → ℕ) (ν b : ℕ) (m : Stamp) → ν ≡ serial_in e → b ≡ e serial_size → (eqb ν m.serial && eqb b m.mask) ≡ same_stamp (stamp_in e) m
 unfolding same_stamp
-other-serial e ν m is ne = sym (rw (ne_eqb (serial_in e) m.serial (λ p. ne (is ∙ p))))
-
-pub by_mask_lem : (e : ℕ → ℕ) (ν b : ℕ) (m : Stamp) → ν ≡ serial_in e → ν ≡ m.serial → b ≡ e serial_size → eqb b m.mask ≡ same_stamp (stamp_in e) m
-unfolding same_stamp
-by_mask_lem e ν b m is same its = rw (eq-eqb (serial_in e) m.serial (sym is ∙ same), its)
+stamp-test e ν b m is its = ap₂ (λ (x y : ℕ). eqb x m.serial && eqb y m.mask) is its
 
 -- ---- the stamp of one card
 module _ (g : List ℕ) (w : Whole g) (c : ℕ) (hc : c < card_count) (m : Stamp) where

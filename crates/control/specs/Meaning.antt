@@ -1,6 +1,6 @@
 -- What the code's struct means: the rules' control part. Assumes nothing.
-use Rattle.std.specs.Prelude.{◌≡◌, cond, List, [], ◌∷◌, ℕ, zero, suc, ◌+◌, ◌-◌, ◌*◌, ◌/◌, ◌%◌, ◌^◌, ◌≤◌, ltb, get_or}
-use Rattle.std.specs.Int.Bits.{bit_and}
+use Rattle.std.specs.Prelude.{◌≡◌, cond, List, [], ◌∷◌, ℕ, zero, suc, ◌+◌, ◌-◌, ◌*◌, ◌/◌, ◌%◌, ◌^◌, ◌≤◌, ltb, get_or, slice_set}
+use Rattle.std.specs.Int.Bits.{bit_and, bit_or}
 use Rattle.lists.specs.Tabulate.{tabulate}
 use Rattle.lists.specs.Segments.{splice}
 use Rattle.image.specs.Layout.{control_size, most_active, pairs_size, tail_size, tail_start, tran_count}
@@ -77,6 +77,19 @@ free_marks count = 15 / 2 ^ count * 17
 -- Marks as they are written: none of a placement that is not there, and none for rails beside one for a table.
 unfoldable pub clean_marks : ℕ → ℕ → ℕ
 clean_marks count marks = bit_and (bit_and marks (255 - marks % 16 * 16)) (255 - free_marks count)
+
+-- The struct with one mask more, which has this mark, and with the next serial; marks that mean nothing are gone.
+abbrev pub with_mask : Control → ℕ → ℕ → Control
+with_mask k mask mark = record {
+  stopped = k.stopped;
+  count = k.count + 1;
+  masks = slice_set k.masks k.count mask;
+  working = k.working;
+  failed = k.failed;
+  marks = bit_or (clean_marks k.count k.marks) mark;
+  homes = k.homes;
+  serial = suc k.serial;
+}
 
 -- The image with other control bytes before the tables; with other bytes behind them.
 unfoldable pub put_control : List ℕ → Part → List ℕ

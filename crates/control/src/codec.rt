@@ -119,18 +119,14 @@ pub fn encode(k: Control) -> [u8; image::CONTROL_SIZE]
 {
     let mut bytes = [0u8; image::CONTROL_SIZE];
     bytes[0] = stopped_bit(k.stopped) + k.count * FIELD;
-    let mut i = 0;
-    while i < MASK_COUNT {
+    for i in 0..MASK_COUNT {
         bytes[MASKS_AT + i] = mask_byte(k.count, i, k.masks[i]);
-        i += 1;
     }
     bytes[WORKING_AT] = k.working;
     bytes[FAILED_AT] = k.failed;
     bytes[MARKS_AT] = clean_marks(k.count, k.marks);
-    let mut t = 0;
-    while t < TRAN_COUNT {
+    for t in 0..TRAN_COUNT {
         bytes[HOMES_AT + t] = home_byte(k.homes[t]);
-        t += 1;
     }
     let serial = serials::bytes(k.serial);
     bytes[SERIAL_AT] = serial[0];

@@ -19,7 +19,7 @@ ghost use Rattle.method.specs.ControlPart.{
   part,
 };
 ghost use Rattle.control.specs.ControlBytes.{table_mark_in};
-ghost use Rattle.control.specs.Meaning.{meaning, newest_mask, kept_home, Counted, Is};
+ghost use Rattle.control.specs.Meaning.{meaning, newest_mask, kept_home, with_mask, Counted, Is};
 ghost use Rattle.control.specs.Serials.{first_serial, serial_bound};
 
 pub mod codec;
@@ -101,10 +101,7 @@ impl Control {
         requires { Counted self }
         ensures { result ≡ is_by_rails (meaning self).newest.choice }
     {
-        if self.newest_by_table() {
-            return false;
-        }
-        (self.marks & (FIRST_MARK >> (self.count - 1))) != 0
+        !self.newest_by_table() && (self.marks & (FIRST_MARK >> (self.count - 1))) != 0
     }
 
     // The transaction opens with its home.
@@ -135,44 +132,45 @@ impl Control {
         requires { Counted self }
         ensures { Is result (closed (meaning self) (begun_at (meaning self) card.0)) }
     {
-        let mut homes = self.homes;
-        let mut i = 0;
-        while i < TRAN_COUNT {
-            homes[i] = kept_home(card, homes[i]);
-            i += 1;
+        for home in self.homes.iter_mut() {
+            *home = kept_home(card, *home);
         }
-        self.homes = homes;
+        self
+    }
+
+    // One mask more with this mark, beside marks of those that count, and the next serial.
+    fn with_mask(mut self, mask: u8, mark: u8) -> Self
+        requires counted { Counted self }
+        requires count_lt_most_active { self.count < most_active }
+        requires serial_lt_serial_bound { self.serial < serial_bound }
+        ensures { result ≡ with_mask self mask mark }
+    {
+        let i = self.count as usize;
+        self.masks[i] = mask;
+        self.marks = codec::clean_marks(self.count, self.marks) | mark;
+        self.count += 1;
+        self.serial = serials::next(self.serial);
         self
     }
 
     // A placement of the mask by rails becomes the newest, with the next serial.
-    pub fn add(mut self, mask: u8) -> Self
+    pub fn add(self, mask: u8) -> Self
         requires counted { Counted self }
         requires count_lt_most_active { self.count < most_active }
         requires serial_lt_serial_bound { self.serial < serial_bound }
         ensures { Is result (added (meaning self) (from_mask (byte mask)) (suc self.serial)) }
     {
-        let i = self.count as usize;
-        self.masks[i] = mask;
-        self.marks = codec::clean_marks(self.count, self.marks) | (FIRST_MARK >> self.count);
-        self.count = self.count + 1;
-        self.serial = serials::next(self.serial);
-        self
+        self.with_mask(mask, FIRST_MARK >> self.count)
     }
 
     // One of the mask by table becomes the newest; its pairs are not in the struct.
-    pub fn add_table(mut self, mask: u8) -> Self
+    pub fn add_table(self, mask: u8) -> Self
         requires counted { Counted self }
         requires count_lt_most_active { self.count < most_active }
         requires serial_lt_serial_bound { self.serial < serial_bound }
         ensures { Is result (added (meaning self) (record { mask = byte mask; choice = by_table no_pairs }) (suc self.serial)) }
     {
-        let i = self.count as usize;
-        self.masks[i] = mask;
-        self.marks = codec::clean_marks(self.count, self.marks) | (FIRST_TABLE_MARK >> self.count);
-        self.count = self.count + 1;
-        self.serial = serials::next(self.serial);
-        self
+        self.with_mask(mask, FIRST_TABLE_MARK >> self.count)
     }
 
     // Only the newest placement remains, and its marks move with it.

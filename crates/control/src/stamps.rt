@@ -35,10 +35,8 @@ pub fn put_all(image: &mut [u8], working: u8, serial: u32, mask: u8)
     ensures { image.new
         ≡ put_stamps image.old (byte working) (record { serial = serial; mask = mask }) card_count }
 {
-    let mut i: u8 = 0;
-    while i < image::CARD_COUNT as u8 {
+    for i in 0..image::CARD_COUNT as u8 {
         put_if(image, working, Card(i), serial, mask);
-        i += 1;
     }
 }
 
@@ -49,8 +47,5 @@ pub fn is_current(image: &[u8], card: Card, serial: u32, mask: u8) -> bool
         (record { serial = serial; mask = mask }) }
 {
     let start = image::end_start(card);
-    if serials::read(image, start) != serial {
-        return false;
-    }
-    image[start + serials::SIZE] == mask
+    serials::read(image, start) == serial && image[start + serials::SIZE] == mask
 }

@@ -8,7 +8,8 @@ use native.Mathlib.Omega.{arith}
 use lib.Dec.{eqb, leb}
 use lib.ListN.{get_or}
 use Rattle.lists.specs.Tests.{all_in, all_below}
-use Rattle.lists.proofs.Bools.{same_test}
+use Rattle.lists.proofs.Bools.{same_test, split}
+use mathlib.Core.Logic.{◌⊎◌, inl, inr}
 use Rattle.lists.proofs.Counts.{all-below, below_all, below-ext}
 use Rattle.image.specs.Layout.{control_size, most_active, most_placed, tran_bound, tran_count}
 use Rattle.mask.specs.Masks.{Byte, are_apart, byte, is_within, size}
@@ -77,37 +78,14 @@ pair (suc n) stopped f g = step (f n) (g n) (all_below n f) (all_below n g) stop
     step true b true d true = refl
     step true b true d false = refl
 
--- The clauses in the code's order, from each of them on.
-abbrev pub from_homes : List ℕ → Bool
-from_homes l = all_from homes_at homes_end (home_fits_at l) && serials_in l
-
-abbrev pub from_newest : List ℕ → Bool
-from_newest l = newest_in l && from_homes l
-
-abbrev pub from_chain : List ℕ → Bool
-from_chain l = chain_in l && from_newest l
-
-abbrev pub placements_fit : List ℕ → Bool
-placements_fit l = all_below (count_in (get_or l 0 0)) (mask_test (placement_ok (stopped_in (get_or l 0 0))) l)
-
-abbrev pub from_placements : List ℕ → Bool
-from_placements l = placements_fit l && from_chain l
-
-abbrev pub apart_in : List ℕ → Bool
-apart_in l = are_apart (byte (get_or l working_at 0)) (byte (get_or l failed_at 0))
-
-abbrev pub from_apart : List ℕ → Bool
-from_apart l = apart_in l && from_placements l
-
+-- The clauses in the code's order.
 abbrev pub clauses : List ℕ → Bool
-clauses l = other_zeros l && from_apart l
-
--- Where the first of them passes the others are left; where it fails, all do.
-pub others-left : (t rest : Bool) {x : Bool} → x ≡ (t && rest) → t ≡ true → x ≡ rest
-others-left t rest e p = e ∙ rw p
-
-pub all-fail : (t rest : Bool) {x : Bool} → x ≡ (t && rest) → t ≡ false → false ≡ x
-all-fail t rest e p = sym (e ∙ rw p)
+clauses l = other_zeros l
+    && (are_apart (byte (get_or l working_at 0)) (byte (get_or l failed_at 0))
+    && (all_below (count_in (get_or l 0 0)) (mask_test (placement_ok (stopped_in (get_or l 0 0))) l)
+    && (chain_in l
+    && (newest_in l
+    && (all_from homes_at homes_end (home_fits_at l) && serials_in l)))))
 
 module _ (l : List ℕ) (t : ℕ → ℕ) (ok : count_ok (λ n. get_or l n 0) ≡ true) (bytes : (n : ℕ) → get_or l n 0 < 256) where
   w : Counted (struct_of l)
@@ -224,3 +202,13 @@ module _ (l : List ℕ) (t : ℕ → ℕ) (ok : count_ok (λ n. get_or l n 0) �
       (stopped_in (get_or l 0 0) || all_below (count_in (get_or l 0 0)) (mask_test is_safe l)) homes_open (serials_in l)
       ∙ ap₂ (λ (p h : Bool). other_zeros l && (are_apart (byte (get_or l working_at 0)) (byte (get_or l failed_at 0)) && (p && (chain_in l && (newest_in l && (h && serials_in l))))))
       placements-as homes-as
+
+pub front-is : (l : List ℕ) (t : ℕ → ℕ) → ((n : ℕ) → get_or l n 0 < 256)
+    → front_ok (control_of (λ n. get_or l n 0) t) (λ n. get_or l n 0) ≡ (count_ok (λ n. get_or l n 0) && clauses l)
+unfolding front_ok
+front-is l t bytes = go (split (count_ok (λ n. get_or l n 0)))
+  where
+    go : (count_ok (λ n. get_or l n 0) ≡ true) ⊎ (count_ok (λ n. get_or l n 0) ≡ false)
+        → front_ok (control_of (λ n. get_or l n 0) t) (λ n. get_or l n 0) ≡ (count_ok (λ n. get_or l n 0) && clauses l)
+    go (inl e) = form-by l t e bytes ∙ rw e
+    go (inr e) = rw e

@@ -255,5 +255,6 @@ table-faults = refl
 -- The control form holds of a row's bytes exactly where the row names no clause.
 pub table-forms : forms-in table ≡ none-broken table
 unfolding tabulate kept_ok tables_ok tail_of are_pairs_of is_pair_of pair_at
-    form_ok front_ok part_ok count_ok zero_fields_ok are_apart members_ok size is_within_either chain_ok is_one_more with_card is_within is_safe common home_ok serial_ok has_card control_of control_byte
+    form_ok front_ok part_ok count_ok zero_fields_ok are_apart members_ok size is_within_either chain_ok is_one_more with_card
+    is_within is_safe common home_ok serial_ok has_card control_of control_byte
 table-forms = refl

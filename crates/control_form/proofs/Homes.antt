@@ -13,7 +13,7 @@ use lib.ListN.{get_or}
 use borrow.Author.Tests.{eqb-true}
 use Rattle.lists.specs.Bytes.{of_bytes}
 use Rattle.lists.specs.Tests.{all_below}
-use Rattle.lists.proofs.Bools.{and_in, imp-out, same_bool}
+use Rattle.lists.proofs.Bools.{imp-out, same_bool}
 use Rattle.lists.proofs.Bytes.{AreBytes, bytes-add, bytes-and, bytes-ext, bytes-mul, bytes-test, bytes-xor}
 use Rattle.lists.proofs.Counts.{at_pair, below_all, below-ext}
 use Rattle.image.specs.Layout.{card_count}
@@ -152,13 +152,11 @@ module _ (l : List ℕ) (small : (n : ℕ) → get_or l n 0 < 256) (at : ℕ) wh
       ∙ from-below at (λ n. not (is_card (home_in (get_or l n 0)) c)) word_size (at + word_size) refl
 
 -- ---- all of them
-pub all-homes : (l : List ℕ) → all_from homes_at first_end (is_home_at l) ≡ true → all_from second_at homes_end (is_home_at l) ≡ true → all_from homes_at homes_end (is_home_at l) ≡ true
-all-homes l s t = from-cover homes_at second_at first_end homes_end (is_home_at l) (omega arith) (omega arith) (omega arith)
-    ∙ and_in (all_from homes_at first_end (is_home_at l)) (all_from second_at homes_end (is_home_at l)) s t
+pub all-homes : (l : List ℕ) → all_from homes_at homes_end (is_home_at l) ≡ (all_from homes_at first_end (is_home_at l) && all_from second_at homes_end (is_home_at l))
+all-homes l = from-cover homes_at second_at first_end homes_end (is_home_at l) (omega arith) (omega arith) (omega arith)
 
 pub fits_by : (l : List ℕ) → all_from homes_at homes_end (home_fits_at l)
     ≡ ((all_from homes_at first_end (is_home_at l) && all_from second_at homes_end (is_home_at l)) && all_from homes_at homes_end (home_ok_at (stopped_in (get_or l 0 0)) l))
 unfolding home_fits_at
 fits_by l = from-both homes_at homes_end (is_home_at l) (home_ok_at (stopped_in (get_or l 0 0)) l)
-    ∙ ap (λ (t : Bool). t && all_from homes_at homes_end (home_ok_at (stopped_in (get_or l 0 0)) l))
-    (from-cover homes_at second_at first_end homes_end (is_home_at l) (omega arith) (omega arith) (omega arith))
+    ∙ ap (λ (t : Bool). t && all_from homes_at homes_end (home_ok_at (stopped_in (get_or l 0 0)) l)) (all-homes l)

@@ -107,7 +107,8 @@ module _ (l : List ℕ) where
         go (inr e) = h x p d (left-too (has_card (byte left) x) (eqb x c) e (sym (left-of x) ∙ gone))
 
   -- a card that does not work, and is a home: among the first eight bytes or the others
-  pub lacking : (c : ℕ) → all_from homes_at first_end (λ n. not (is_card (home_in (get_or l n 0)) c)) ≡ true → all_from second_at homes_end (λ n. not (is_card (home_in (get_or l n 0)) c)) ≡ true → Lacking l c
+  pub lacking : (c : ℕ) → all_from homes_at first_end (λ n. not (is_card (home_in (get_or l n 0)) c)) ≡ true
+      → all_from second_at homes_end (λ n. not (is_card (home_in (get_or l n 0)) c)) ≡ true → Lacking l c
   lacking c s t = from-cover homes_at second_at first_end homes_end (λ n. not (is_card (home_in (get_or l n 0)) c)) (omega arith) (omega arith) (omega arith) ∙ and_in _ _ s t
 
   pub begun-there : (c a e : ℕ) → has_card (byte (get_or l working_at 0)) c ≡ false → homes_at ≤ a → e ≤ homes_end

@@ -1,10 +1,11 @@
 -- What the reader finds in an image, and what it looks at byte by byte. Assumes nothing.
-use Rattle.std.specs.Prelude.{Result, IfOk, ◌≡◌, Bool, ◌&&◌, ◌||◌, cond, ◌≢◌, List, [], ◌∷◌, ℕ, zero, suc, ◌%◌, ◌*◌, ◌/◌, ◌+◌, ◌-◌, eqb, leb, ltb, get_or}
+use Rattle.std.specs.Prelude.{Result, IfOk, ◌≡◌, Bool, ◌&&◌, ◌||◌, cond, ◌≢◌, List, [], ◌∷◌, ℕ, zero, suc, ◌%◌, ◌*◌, ◌/◌, ◌+◌, ◌-◌, eqb, leb, ltb, get_or, length}
+use Rattle.std.specs.Borrow.{Bor}
 use Rattle.std.specs.Int.Bits.{bit_and}
 use Rattle.lists.specs.Tests.{all_below}
-use Rattle.image.specs.Layout.{control_size, most_placed, pairs_size}
+use Rattle.image.specs.Layout.{block_count, control_size, most_placed, pairs_size}
 use Rattle.mask.specs.Masks.{Byte, byte, is_within, no_cards, size}
-use Rattle.mask.specs.Pairs.{are_pairs_of}
+use Rattle.mask.specs.Pairs.{are_pairs_of, is_pair_of, pair_at}
 use Rattle.mask.specs.Placements.{from_mask}
 use Rattle.method.specs.ControlPart.{started}
 use Rattle.control.specs.ControlBytes.{Part, control_of, count_in, failed_at, field, front_part, home_byte, home_in, homes_at, homes_end}
@@ -105,6 +106,11 @@ unfoldable pub kept_ok_at : List ℕ → (ℕ → ℕ) → ℕ → Bool
 kept_ok_at l t i =
     cond (table_mark_in (get_or l marks_at 0) i) (are_pairs_of (mask_at l i) (pairs_in t i))
     (all_below pairs_size (λ j. eqb (t (i * pairs_size + j)) 0))
+
+-- A test of pairs may be asked of the pairs of a placement, and answers whether each is two different members of the mask.
+abbrev pub TestsPairs : (Bor (List ℕ) → ℕ → Type 0) → (Bor (List ℕ) → ℕ → Bool → Type 0) → Type 0
+TestsPairs pre post = (p : Bor (List ℕ)) (m : ℕ) → length p.now ≡ pairs_size
+    → pre p m × ((r : Bool) → post p m r → r ≡ all_below block_count (λ b. is_pair_of (byte m) (pair_at (λ j. get_or p.now j 0) b)))
 
 -- What reading an image finds: row 1 or 2 of the refusal table, or else the control part that the bytes show, without its
 -- pairs.

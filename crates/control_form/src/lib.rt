@@ -11,6 +11,7 @@ ghost use Rattle.control_form.specs.ControlForm.{all_safe, control_form, count_o
 ghost use Rattle.control.specs.Meaning.{meaning, Counted};
 ghost use Rattle.control_form.specs.Reading.{
   Reads,
+  TestsPairs,
   all_from,
   chain_in,
   home_fits_at,
@@ -60,15 +61,13 @@ const BEHIND_SERIAL: u64 = 0x1_0000;
 pub const COPIES: u32 = image::COPY_COUNT as u32;
 
 // Count is 1 to 4.
+#[tactic(auto, unfolding(crate::specs::ControlForm::count_ok))]
 fn count_ok(s: &[u8]) -> bool
     requires { control_size ≤ length s.now }
     ensures { result ≡ count_ok (λ n. get_or s.now n 0) }
 {
     let count = s[0] / FIELD % FIELD_BOUND;
-    if count < 1 {
-        return false;
-    }
-    count <= MOST_ACTIVE
+    1 <= count && count <= MOST_ACTIVE
 }
 
 // The masks from the count on are zero.
@@ -89,43 +88,32 @@ fn tail_ok(s: &[u8]) -> bool
 }
 
 // No placement that is not there has a mark, and none has both.
+#[tactic(auto, unfolding(crate::specs::Reading::marks_ok))]
 fn marks_ok(count: u8, marks: u8) -> bool
     requires { count ≤ most_active }
     ensures { result ≡ marks_ok count marks }
 {
-    if (marks & free_marks(count)) != 0 {
-        return false;
-    }
-    ((marks / RAIL_WEIGHT) & (marks % RAIL_WEIGHT)) == 0
+    (marks & free_marks(count)) == 0 && ((marks / RAIL_WEIGHT) & (marks % RAIL_WEIGHT)) == 0
 }
 
 // Zero fields are zero, but for the transactions' bytes. Masks that count, working and failed have none.
+#[tactic(auto, unfolding(crate::specs::Reading::other_zeros))]
 fn zero_fields_ok(s: &[u8]) -> bool
     requires control_size_in_bounds { control_size ≤ length s.now }
     requires n_value { count_ok (λ n. get_or s.now n 0) ≡ true }
     ensures { result ≡ other_zeros s.now }
 {
-    if s[0] % FIELD != 0 {
-        return false;
-    }
     let count = s[0] / FIELD % FIELD_BOUND;
-    if !masks_end(s, count) {
-        return false;
-    }
-    if !marks_ok(count, s[MARKS_AT]) {
-        return false;
-    }
-    tail_ok(s)
+    s[0] % FIELD == 0 && masks_end(s, count) && marks_ok(count, s[MARKS_AT]) && tail_ok(s)
 }
 
 // A placement with this mask has members enough, each working or failed.
+#[tactic(auto, unfolding(crate::specs::ControlForm::members_ok))]
 fn members_ok(working: u8, failed: u8, mask: u8) -> bool
     ensures { result ≡ members_ok (byte working) (byte failed) (byte mask) }
 {
-    if mask::members(mask) < mask::Placement::LEAST_MEMBERS {
-        return false;
-    }
-    mask::within_either(mask, working, failed)
+    mask::members(mask) >= mask::Placement::LEAST_MEMBERS
+        && mask::within_either(mask, working, failed)
 }
 
 // Of four placements the third has one failed card more than the fourth.
@@ -134,32 +122,26 @@ fn fourth_ok(s: &[u8]) -> bool
     requires n_value { count_ok (λ n. get_or s.now n 0) ≡ true }
     ensures { result ≡ chain_in s.now }
 {
-    if s[0] / FIELD % FIELD_BOUND == MOST_ACTIVE {
-        return mask::one_more(s[FAILED_AT], s[FOURTH_AT], s[THIRD_AT]);
-    }
-    true
+    s[0] / FIELD % FIELD_BOUND != MOST_ACTIVE
+        || mask::one_more(s[FAILED_AT], s[FOURTH_AT], s[THIRD_AT])
 }
 
 // In a running store all members of the newest placement work.
+#[tactic(auto, unfolding(crate::specs::Reading::newest_in))]
 fn newest_works(s: &[u8]) -> bool
     requires { control_size ≤ length s.now }
     ensures { result ≡ newest_in s.now }
 {
-    if s[0] >= STOPPED {
-        return true;
-    }
     let count = (s[0] / FIELD % FIELD_BOUND) as usize;
-    mask::within(s[MASKS_AT + count - 1], s[WORKING_AT])
+    s[0] >= STOPPED || mask::within(s[MASKS_AT + count - 1], s[WORKING_AT])
 }
 
 // A placement with this mask has fewer failed members than copies, and at least as many working ones as copies.
+#[tactic(auto, unfolding(crate::specs::ControlForm::is_safe))]
 fn is_safe(working: u8, failed: u8, mask: u8) -> bool
     ensures { result ≡ is_safe (byte working) (byte failed) (byte mask) }
 {
-    if mask::common(mask, failed) >= COPIES {
-        return false;
-    }
-    mask::common(mask, working) >= COPIES
+    mask::common(mask, failed) < COPIES && mask::common(mask, working) >= COPIES
 }
 
 // Every active placement has fewer failed members than copies, and at least as many working ones: where not, the store
@@ -168,29 +150,21 @@ pub fn all_safe(k: Control) -> bool
     requires { Counted k }
     ensures { result ≡ all_safe (meaning k) }
 {
-    let mut i: u8 = 0;
-    while i < k.count {
-        let at = i as usize;
-        if !is_safe(k.working, k.failed, k.masks[at]) {
+    for i in 0..k.count as usize {
+        if !is_safe(k.working, k.failed, k.masks[i]) {
             return false;
         }
-        i += 1;
     }
     true
 }
 
 // A placement with this mask has members enough, each working or failed; in a running store fewer than copies are
 // failed, and at least as many work.
+#[tactic(auto, unfolding(crate::specs::Reading::placement_ok))]
 fn placement_ok(stopped: bool, working: u8, failed: u8, mask: u8) -> bool
     ensures { result ≡ placement_ok stopped (byte working) (byte failed) (byte mask) }
 {
-    if !members_ok(working, failed, mask) {
-        return false;
-    }
-    if stopped {
-        return true;
-    }
-    is_safe(working, failed, mask)
+    members_ok(working, failed, mask) && (stopped || is_safe(working, failed, mask))
 }
 
 // Each active placement is so.
@@ -203,12 +177,10 @@ fn placements_ok(s: &[u8]) -> bool
     let count = (s[0] / FIELD % FIELD_BOUND) as usize;
     let working = s[WORKING_AT];
     let failed = s[FAILED_AT];
-    let mut i = 0;
-    while i < count {
+    for i in 0..count {
         if !placement_ok(stopped, working, failed, s[MASKS_AT + i]) {
             return false;
         }
-        i += 1;
     }
     true
 }
@@ -219,10 +191,7 @@ fn none_open(s: &[u8]) -> bool
     requires s_value { all_from homes_at homes_end (is_home_at s.now) ≡ true }
     ensures { result ≡ all_from homes_at homes_end (home_ok_at true s.now) }
 {
-    if words::word(s, HOMES_AT) != 0 {
-        return false;
-    }
-    words::word(s, SECOND_AT) == 0
+    words::word(s, HOMES_AT) == 0 && words::word(s, SECOND_AT) == 0
 }
 
 // Each open transaction's home works: none is a card that does not.
@@ -251,10 +220,7 @@ fn homes_ok(s: &[u8]) -> bool
     requires { control_size ≤ length s.now }
     ensures { result ≡ all_from homes_at homes_end (home_fits_at s.now) }
 {
-    if !words::are_homes(s, HOMES_AT) {
-        return false;
-    }
-    if !words::are_homes(s, SECOND_AT) {
+    if !(words::are_homes(s, HOMES_AT) && words::are_homes(s, SECOND_AT)) {
         return false;
     }
     if s[0] >= STOPPED {
@@ -286,56 +252,43 @@ pub fn front_ok(s: &[u8]) -> bool
     ensures { (t : ℕ → ℕ)
         → result ≡ front_ok (control_of (λ n. get_or s.now n 0) t) (λ n. get_or s.now n 0) }
 {
-    if !count_ok(s) {
-        return false;
-    }
-    if !zero_fields_ok(s) {
-        return false;
-    }
-    if !mask::apart(s[WORKING_AT], s[FAILED_AT]) {
-        return false;
-    }
-    if !placements_ok(s) {
-        return false;
-    }
-    if !fourth_ok(s) {
-        return false;
-    }
-    if !newest_works(s) {
-        return false;
-    }
-    if !homes_ok(s) {
-        return false;
-    }
-    serial_ok(s)
+    count_ok(s)
+        && zero_fields_ok(s)
+        && mask::apart(s[WORKING_AT], s[FAILED_AT])
+        && placements_ok(s)
+        && fourth_ok(s)
+        && newest_works(s)
+        && homes_ok(s)
+        && serial_ok(s)
 }
 
 // What the bytes behind the tables keep for placement i is zero where it has no mark for a table, and else pairs of
-// different members.
-fn kept_ok(front: &[u8], tail: &[u8], i: usize) -> bool
-    requires { (control_size ≤ length front.now) × (length tail.now ≡ tail_size) × (i < most_active) }
+// different members, which are_pairs tests.
+fn kept_ok<F: Fn(&[u8], u8) -> bool>(front: &[u8], tail: &[u8], are_pairs: &F, i: usize) -> bool
+    requires sizes { (control_size ≤ length front.now) × (length tail.now ≡ tail_size) × (i < most_active) }
+    requires tests { TestsPairs (F.pre are_pairs.now) (F.post are_pairs.now) }
     ensures { result ≡ kept_ok_at front.now (λ n. get_or tail.now n 0) i }
 {
     let start = i * image::PAIRS_SIZE;
     let end = start + image::PAIRS_SIZE;
     let mark = FIRST_TABLE_MARK >> i;
     if (front[MARKS_AT] & mark) != 0 {
-        return mask::pairs::are_pairs_of(&tail[start..end], front[MASKS_AT + i]);
+        return are_pairs(&tail[start..end], front[MASKS_AT + i]);
     }
     image::all_zero(&tail[start..end])
 }
 
-// What the control form asks of the bytes behind the tables: so it is for each placement.
-fn behind_ok(front: &[u8], tail: &[u8]) -> bool
-    requires { (control_size ≤ length front.now) × (length tail.now ≡ tail_size) }
+// What the control form asks of the bytes behind the tables: so it is for each placement. How pairs are tested is the
+// caller's, so that each caller's test is compiled into its own copy.
+pub fn behind_ok<F: Fn(&[u8], u8) -> bool>(front: &[u8], tail: &[u8], are_pairs: F) -> bool
+    requires sizes { (control_size ≤ length front.now) × (length tail.now ≡ tail_size) }
+    requires tests { TestsPairs (F.pre are_pairs) (F.post are_pairs) }
     ensures { result ≡ all_below most_active (kept_ok_at front.now (λ n. get_or tail.now n 0)) }
 {
-    let mut i = 0;
-    while i < MASK_COUNT {
-        if !kept_ok(front, tail, i) {
+    for i in 0..MASK_COUNT {
+        if !kept_ok(front, tail, &are_pairs, i) {
             return false;
         }
-        i += 1;
     }
     true
 }
@@ -351,7 +304,11 @@ fn form_ok(image: &[u8]) -> bool
     if image[MARKS_AT] % RAIL_WEIGHT == 0 {
         return image::all_zero(&image[image::TAIL_START..image::IMAGE_SIZE]);
     }
-    behind_ok(image, &image[image::TAIL_START..image::IMAGE_SIZE])
+    behind_ok(
+        image,
+        &image[image::TAIL_START..image::IMAGE_SIZE],
+        mask::pairs::are_pairs_of,
+    )
 }
 
 // The control part of an image, or why it cannot be read.

@@ -102,7 +102,8 @@ module _ (l : List ℕ) (t : ℕ → ℕ) (bytes : (n : ℕ) → get_or l n 0 < 
   front-shown = front_same (λ n. get_or first n 0) shown at_front t
 
   front-small : (n : ℕ) → get_or first n 0 < 256
-  front-small n = ⊎_elim (λ h. rw (at_front n h) (shown-small (λ n. get_or l n 0) bytes n)) (λ h. rw (past_end first n (rw (length-tabulate control_size shown) h)) (omega arith)) (lt-or-ge n control_size)
+  front-small n = ⊎_elim (λ h. rw (at_front n h) (shown-small (λ n. get_or l n 0) bytes n))
+      (λ h. rw (past_end first n (rw (length-tabulate control_size shown) h)) (omega arith)) (lt-or-ge n control_size)
 
   kept-shown : (i : ℕ) → i < most_active → kept_ok_at first t i ≡ kept_ok_at l t i
   unfolding kept_ok_at

@@ -18,7 +18,7 @@ ghost use Rattle.converter.specs.Steps.{TablesCarried, carry_table, older_front_
 use control::codec::{
     FIELD, FIELD_BOUND, MARKS_AT, MASKS_AT, RAIL_WEIGHT, SERIAL_AT, SERIAL_END, WORKING_AT,
 };
-use control::{FIRST_TABLE_MARK, MASK_COUNT, serials, stamps};
+use control::{serials, stamps};
 use image::{Block, Card};
 use refusals::Refusal;
 
@@ -50,11 +50,7 @@ fn front_ok(older: &[u8]) -> bool
     requires { control_size ≤ length older.now }
     ensures { (t : ℕ → ℕ) → result ≡ older_front_ok (λ n. get_or older.now n 0) t }
 {
-    if !image::all_zero(&older[SERIAL_AT..SERIAL_END]) {
-        return false;
-    }
-    let front = numbered(older);
-    control_form::front_ok(&front)
+    image::all_zero(&older[SERIAL_AT..SERIAL_END]) && control_form::front_ok(&numbered(older))
 }
 
 // The control form of an image from before A.6: this, and no mark for a table.
@@ -62,26 +58,18 @@ fn form_21024(older: &[u8]) -> bool
     requires { length older.now ≡ older_size }
     ensures { result ≡ form_by below_wire older.now }
 {
-    if !front_ok(older) {
-        return false;
-    }
-    older[MARKS_AT] % RAIL_WEIGHT == 0
+    front_ok(older) && older[MARKS_AT] % RAIL_WEIGHT == 0
 }
 
 // Whether the pair is two different members of the mask.
+#[tactic(auto, unfolding(mask::specs::Pairs::is_pair_of))]
 fn pair_ok(pair: u8, mask: u8) -> bool
     requires { pair < pair_bound }
     ensures { result ≡ is_pair_of (byte mask) pair }
 {
     let first = pair / CARD_COUNT;
     let second = pair % CARD_COUNT;
-    if !mask::has(mask, Card(first)) {
-        return false;
-    }
-    if !mask::has(mask, Card(second)) {
-        return false;
-    }
-    first != second
+    mask::has(mask, Card(first)) && mask::has(mask, Card(second)) && first != second
 }
 
 // Whether those of all blocks are, a block at a time: the check that takes them all at once is the calls' own, and stays
@@ -90,41 +78,10 @@ fn pairs_ok(pairs: &[u8], mask: u8) -> bool
     requires { length pairs.now ≡ pairs_size }
     ensures { result ≡ all_below block_count (λ b. is_pair_of (byte mask) (pair_at (λ j. get_or pairs.now j 0) b)) }
 {
-    let mut b: u8 = 0;
-    while b < image::BLOCK_COUNT as u8 {
+    for b in 0..image::BLOCK_COUNT as u8 {
         if !pair_ok(mask::pairs::pair_at(pairs, Block(b)), mask) {
             return false;
         }
-        b += 1;
-    }
-    true
-}
-
-// What is kept behind the tables for placement i is zero where it has no mark for a table, and else such pairs.
-fn kept_ok(front: &[u8], tail: &[u8], i: usize) -> bool
-    requires { (control_size ≤ length front.now) × (length tail.now ≡ tail_size) × (i < most_active) }
-    ensures { result ≡ kept_ok_at front.now (λ n. get_or tail.now n 0) i }
-{
-    let start = i * image::PAIRS_SIZE;
-    let end = start + image::PAIRS_SIZE;
-    let mark = FIRST_TABLE_MARK >> i;
-    if (front[MARKS_AT] & mark) != 0 {
-        return pairs_ok(&tail[start..end], front[MASKS_AT + i]);
-    }
-    image::all_zero(&tail[start..end])
-}
-
-// So it is for each placement.
-fn behind_ok(front: &[u8], tail: &[u8]) -> bool
-    requires { (control_size ≤ length front.now) × (length tail.now ≡ tail_size) }
-    ensures { result ≡ all_below most_active (kept_ok_at front.now (λ n. get_or tail.now n 0)) }
-{
-    let mut i = 0;
-    while i < MASK_COUNT {
-        if !kept_ok(front, tail, i) {
-            return false;
-        }
-        i += 1;
     }
     true
 }
@@ -134,10 +91,8 @@ fn form_21216(older: &[u8]) -> bool
     requires { length older.now ≡ pairs_image_size }
     ensures { result ≡ form_by by_tables older.now }
 {
-    if !front_ok(older) {
-        return false;
-    }
-    behind_ok(older, &older[OLDER_SIZE..PAIRS_IMAGE_SIZE])
+    front_ok(older)
+        && control_form::behind_ok(older, &older[OLDER_SIZE..PAIRS_IMAGE_SIZE], pairs_ok)
 }
 
 // Fills the lent buffer with the image from before A.6 at the length of A.6, and answers how many bytes were written;
@@ -176,10 +131,8 @@ fn carry_tables(older: &[u8], image: &mut [u8])
     requires { (length older.now ≡ pairs_image_size) × Whole image.old }
     ensures { TablesCarried older.now card_count image.new }
 {
-    let mut i: u8 = 0;
-    while i < image::CARD_COUNT as u8 {
+    for i in 0..image::CARD_COUNT as u8 {
         carry_table(older, image, Card(i));
-        i += 1;
     }
 }
 

@@ -22,10 +22,10 @@ use Rattle.control.specs.declared.Control.{Control}
 use Rattle.control.proofs.Front.{active-front}
 use Rattle.control.proofs.Struct.{active-is, length-placements}
 use Rattle.cabinet_rules.specs.Cabinet.{tran_ok}
-use Rattle.trail.specs.Trail.{Lists}
+use Rattle.image.specs.declared.Card.{Card}
+use Rattle.trail.specs.Trail.{Lists, first_in}
 use Rattle.trail.specs.declared.Holders.{Holders}
-use Rattle.trail.proofs.Listed.{none-listed, some-listed}
-use Rattle.std.specs.Prelude.{Option, Result}
+use Rattle.std.specs.Prelude.{Option, None, Result, Some}
 use Rattle.refusals.specs.Refusals.{number}
 use Rattle.refusals.specs.declared.Refusal.{Refusal}
 use Rattle.refusals.proofs.HandedOn.{HandsOn, handed-on}
@@ -108,15 +108,19 @@ module _ (k : Part) where
 
 -- ---- the holders of a block
 module _ (h : Holders) {l : List ℕ} (lists : Lists h l) where
-  pub first-none : h.cards ≡ 0 → tells_none ≡ first_told l
-  first-none z = ap first_told (sym (none-listed lists z))
-
-  pub first_some : h.cards < 256 → h.cards ≢ 0 → tells h.first.0 ≡ first_told l
-  first_some small d = go l lists.first-is (some-listed lists small d)
+  pub first-none : h.first ≡ None → tells_none ≡ first_told l
+  first-none e = go l (sym e ∙ lists.first-is)
     where
-      go : (l : List ℕ) → h.first.0 ≡ get_or l 0 0 → l ≢ [] → tells h.first.0 ≡ first_told l
-      go [] e d = absurd (d refl)
-      go (c ∷ l) e d = ap (λ (n : ℕ). tells n) e
+      go : (l : List ℕ) → None ≡ first_in l → tells_none ≡ first_told l
+      go [] e = refl
+      go (c ∷ l) e = cc
+
+  pub first_some : (c : Card) → h.first ≡ Some c → tells c.0 ≡ first_told l
+  first_some c e = go l (sym e ∙ lists.first-is)
+    where
+      go : (l : List ℕ) → Some c ≡ first_in l → tells c.0 ≡ first_told l
+      go [] e = cc
+      go (x ∷ l) e = cc
 
   pub cards-told : size (byte h.cards) ≡ cards_in l
   unfolding size

@@ -97,11 +97,10 @@ pub fn source(image: &[u8], tran: Tran, rec: Rec) -> Result<Option<u8>, Refusal>
     ensures { shown_told result ≡ source_on tran.0 rec.0 image.now }
 {
     let found = records::access::look_up(image, tran, rec)?;
-    let holders = found.holders;
-    if holders.cards == 0 {
-        return Ok(None);
+    match found.holders.first {
+        Some(card) => Ok(Some(card.0)),
+        None => Ok(None),
     }
-    Ok(Some(holders.first.0))
 }
 
 // How many cards hold the record's block: refused as a get of the record by the transaction is.

@@ -1,5 +1,5 @@
 -- The locks that the code writes, holder by holder or in a new block, are the rules' writes. Assumes nothing.
-use Prim.Native.Nat.{◌%◌, ◌+◌, ◌/◌, ◌<◌, ℕ}
+use Prim.Native.Nat.{◌%◌, ◌/◌, ◌<◌, ℕ}
 use borrow.Author.Tests.{eqb-true, ne_eqb}
 use borrow.Rule.Slice.PartMut.{mid_of, put_mid}
 use lib.Dec.{eqb}

@@ -4,7 +4,6 @@ use lib.Dec.{eqb}
 use lib.ListN.{drop, get_or, length}
 use mathlib.Core.Bool.{Bool, ◌||◌, cond, false, true}
 use mathlib.Core.List.{List, [], ◌∷◌}
-use mathlib.Core.Logic.{◌≢◌}
 use mathlib.Core.Option.{Option, none}
 use mathlib.Core.Path.{◌∙◌, ◌≡◌, ap, ap₂, refl, sym}
 use native.Mathlib.Omega.{arith}
@@ -25,9 +24,11 @@ use Rattle.cabinet_rules.specs.Cabinet.{cabinet, slot_seen}
 use Rattle.cabinet_rules.specs.Images.{Image, block_in, control_in, state_in}
 use Rattle.promise.proofs.Laid.{of-block}
 use Rattle.promise.proofs.View.{held-look, look-on}
-use Rattle.trail.specs.Trail.{Lists, holders_in}
+use Rattle.trail.specs.Trail.{Lists, first_in, holders_in}
 use Rattle.trail.specs.declared.Holders.{Holders}
-use Rattle.trail.proofs.Listed.{none-listed, some-listed}
+use Rattle.trail.proofs.Listed.{no-first}
+use Rattle.image.specs.declared.Card.{Card}
+use Rattle.std.specs.Prelude.{None, Some}
 use Rattle.records.specs.Slots.{locked_at, locked_out_in, seen_in}
 
 -- a holder's block is what the rules see
@@ -78,18 +79,20 @@ module _ (g : Image) (t r : ℕ) (hr : r < record_count) (h : Holders) (lists : 
       (λ c m. ap (λ (x : BlockBytes). locked_by_other t (slot_seen x (r % slot_count))) (sym (holder-look g c (r / slot_count) (omega arith) m)))
 
   -- ---- what is read
-  pub read_none : h.cards ≡ 0 → (e : Entry) → e ≡ entry_of none → state_of e ≡ read_by t (seen_in g r)
-  read_none z e is = ap state_of is ∙ sym (ap (λ (l : List ℕ). read_by t (first_slot cabinet (look cabinet (state_in g)) r l)) (none-listed lists z) ∙ go (eqb 0 t))
+  pub read_none : h.first ≡ None → (e : Entry) → e ≡ entry_of none → state_of e ≡ read_by t (seen_in g r)
+  read_none z e is = ap state_of is ∙ sym (ap (λ (l : List ℕ). read_by t (first_slot cabinet (look cabinet (state_in g)) r l)) (no-first (holders_in g (r / slot_count)) (sym z ∙ lists.first-is)) ∙ go (eqb 0 t))
     where
       go : (b : Bool) → ◌≡◌ {A = Option ℕ} (cond b none none) none
       go true = refl
       go false = refl
 
-  pub read_some : h.cards < 256 → h.cards ≢ 0 → read_by t (slot_seen (block_in g h.first.0 (r / slot_count)) (r % slot_count)) ≡ read_by t (seen_in g r)
-  read_some small d = go (holders_in g (r / slot_count)) (some-listed lists small d) lists.first-is (λ c m. holder-look g c (r / slot_count) (omega arith) m)
+  pub read_some : (c : Card) → h.first ≡ Some c → read_by t (slot_seen (block_in g c.0 (r / slot_count)) (r % slot_count)) ≡ read_by t (seen_in g r)
+  read_some c e = go (holders_in g (r / slot_count)) (sym e ∙ lists.first-is) (λ d m. holder-look g d (r / slot_count) (omega arith) m)
     where
-      go : (l : List ℕ) → l ≢ [] → h.first.0 ≡ get_or l 0 0 → ((c : ℕ) → elem c l ≡ true → look cabinet (state_in g) c (r / slot_count) ≡ block_in g c (r / slot_count))
-          → read_by t (slot_seen (block_in g h.first.0 (r / slot_count)) (r % slot_count)) ≡ read_by t (first_slot cabinet (look cabinet (state_in g)) r l)
-      go [] n e held = absurd (n refl)
-      go (x ∷ l) n e held = ap (λ (y : BlockBytes). read_by t (slot_seen y (r % slot_count)))
-          (ap (λ (c : ℕ). block_in g c (r / slot_count)) e ∙ sym (held x (or_l (eqb x x) (elem x l) (eqb-self x))))
+      go : (l : List ℕ) → Some c ≡ first_in l → ((d : ℕ) → elem d l ≡ true → look cabinet (state_in g) d (r / slot_count) ≡ block_in g d (r / slot_count))
+          → read_by t (slot_seen (block_in g c.0 (r / slot_count)) (r % slot_count)) ≡ read_by t (first_slot cabinet (look cabinet (state_in g)) r l)
+      go [] e held = cc
+      go (x ∷ l) e held =
+          let same : c.0 ≡ x = cc in
+          ap (λ (y : BlockBytes). read_by t (slot_seen y (r % slot_count)))
+          (ap (λ (d : ℕ). block_in g d (r / slot_count)) same ∙ sym (held x (or_l (eqb x x) (elem x l) (eqb-self x))))

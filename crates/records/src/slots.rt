@@ -94,10 +94,10 @@ pub fn read_first(image: &[u8], holders: Holders, tran: Tran, rec: Rec) -> Entry
     requires lists { Lists holders (holders_in image.now (rec.0 / slot_count)) }
     ensures { state_of result ≡ read_by tran.0 (seen_in image.now rec.0) }
 {
-    if holders.cards == 0 {
-        return Entry::absent();
+    match holders.first {
+        Some(card) => read_by(slot_on(image, card, rec), tran),
+        None => Entry::absent(),
     }
-    read_by(slot_on(image, holders.first, rec), tran)
 }
 
 // A value, or absent.

@@ -6,7 +6,7 @@ use lib.ListN.{get_or}
 use lib.Pow.{high, pow-add, pow_mono, pow_pos}
 use mathlib.Core.Bool.{Bool, cond, false, true}
 use mathlib.Core.List.{List}
-use mathlib.Core.Option.{none}
+use mathlib.Core.Option.{Option, none}
 use mathlib.Core.Path.{◌∙◌, ◌≡◌, ap, ap₂, refl, sym}
 use native.Mathlib.Nat.{add_comm, mul-add-div, two-pow-succ, zero-add}
 use native.Mathlib.Numerals.{add-one}
@@ -17,7 +17,7 @@ use Rattle.lists.proofs.Counts.{below_all}
 use Rattle.image.specs.Layout.{tran_bound}
 use Rattle.slot.specs.Blocks.{in_set}
 use Rattle.control.specs.ControlBytes.{home_in, home_of}
-use Rattle.tables.specs.Tables.{is_begun, set_below, set_of}
+use Rattle.tables.specs.Tables.{set_below, set_of}
 
 -- A set of numbers below n has n bits.
 pub set-lt : (n : ℕ) (f : ℕ → Bool) → set_below n f < 2 ^ n
@@ -81,33 +81,29 @@ test-shift = refl
 pub shift_one : (t : ℕ) → t < tran_bound → 1 * 2 ^ t % 65536 ≡ set_of (λ x. eqb x t)
 shift_one t h = eqb-true (1 * 2 ^ t % 65536) (2 ^ t) (below_all tran_bound (λ t. eqb (1 * 2 ^ t % 65536) (2 ^ t)) t test-shift h) ∙ sym (set-one t h)
 
--- ---- the set of what was begun at a card, or of all that are open, as the loop collects it
-abbrev pub begun : Bool → ℕ → List ℕ → ℕ → Bool
-begun every c homes t = is_begun every c (home_of t (get_or homes (t - 1) 0))
+-- ---- the set of the transactions whose homes p picks, as the loop collects it
+abbrev pub picked : (Option ℕ → Bool) → List ℕ → ℕ → Bool
+picked p homes t = p (home_of t (get_or homes (t - 1) 0))
 
-module _ (every : Bool) (c : ℕ) (homes : List ℕ) where
-  pub begun-start : 0 ≡ set_below 1 (begun every c homes)
-  begun-start = go every
-    where
-      go : (b : Bool) → 0 ≡ cond (is_begun b c none) 1 0 + 0
-      go true = refl
-      go false = refl
+module _ (p : Option ℕ → Bool) (homes : List ℕ) where
+  pub picked-start : p none ≡ false → 0 ≡ set_below 1 (picked p homes)
+  picked-start e = rw e refl
 
-  pub begun-turn : (i set : ℕ) → i < 15 → set ≡ set_below (i + 1) (begun every c homes) → (on : Bool) → on ≡ is_begun every c (home_in (get_or homes i 0))
-      → (bit : ℕ) → bit ≡ cond on (2 ^ (i + 1)) 0 → set + bit ≡ set_below (i + 1 + 1) (begun every c homes)
-  begun-turn i set h e on p bit q = add_comm set bit ∙ ap₂ ◌+◌ (q ∙ ap (λ (b : Bool). cond b (2 ^ (i + 1)) 0) (p ∙ sym here)) e
-      ∙ ap (λ (n : ℕ). set_below n (begun every c homes)) (sym (add-one (i + 1)))
+  pub picked-turn : (i set : ℕ) → i < 15 → set ≡ set_below (i + 1) (picked p homes) → (on : Bool) → on ≡ p (home_in (get_or homes i 0))
+      → (bit : ℕ) → bit ≡ cond on (2 ^ (i + 1)) 0 → set + bit ≡ set_below (i + 1 + 1) (picked p homes)
+  picked-turn i set h e on o bit q = add_comm set bit ∙ ap₂ ◌+◌ (q ∙ ap (λ (b : Bool). cond b (2 ^ (i + 1)) 0) (o ∙ sym here)) e
+      ∙ ap (λ (n : ℕ). set_below n (picked p homes)) (sym (add-one (i + 1)))
     where
       back : i + 1 - 1 ≡ i
       back = omega arith
 
-      here : begun every c homes (i + 1) ≡ is_begun every c (home_in (get_or homes i 0))
+      here : picked p homes (i + 1) ≡ p (home_in (get_or homes i 0))
       here = rw (lt-ltb 0 (i + 1) (omega arith), lt-ltb (i + 1) tran_bound (omega arith), back)
 
   -- and it has 16 bits
-  pub begun-fits : (i set : ℕ) → i < 15 → set ≡ set_below (i + 1 + 1) (begun every c homes) → set < 2 ^ 16
-  begun-fits i set h e =
-      let b : set_below (i + 1 + 1) (begun every c homes) < 2 ^ (i + 1 + 1) = set-lt (i + 1 + 1) (begun every c homes) in
+  pub picked-fits : (i set : ℕ) → i < 15 → set ≡ set_below (i + 1 + 1) (picked p homes) → set < 2 ^ 16
+  picked-fits i set h e =
+      let b : set_below (i + 1 + 1) (picked p homes) < 2 ^ (i + 1 + 1) = set-lt (i + 1 + 1) (picked p homes) in
       let n : i + 1 + 1 ≤ 16 = omega arith in
       let m : 2 ^ (i + 1 + 1) ≤ 2 ^ 16 = pow_mono n in
       omega arith

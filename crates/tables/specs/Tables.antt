@@ -1,13 +1,12 @@
 -- The end of transactions in the tables of an image, and sets of transactions. Assumes nothing.
-use Rattle.std.specs.Prelude.{◌^◌, ℕ, Bool, ◌&&◌, cond, false, true, List}
+use Rattle.std.specs.Prelude.{◌≡◌, ◌<◌, ◌^◌, ℕ, Bool, ◌&&◌, cond, List}
 use Rattle.std.proofs.Math.Option.{Option, none, some}
 use Rattle.lists.specs.Segments.{each}
 use Rattle.lists.specs.Tests.{sum_below}
 use Rattle.image.specs.Layout.{block_count, block_size, tran_bound}
 use Rattle.mask.specs.Masks.{Byte, has_card}
 use Rattle.slot.specs.Blocks.{end_slots, ended_block, is_held}
-use Rattle.method.specs.ControlPart.{is_card}
-use Rattle.method.specs.Slots.{is_some}
+use Rattle.control.specs.ControlBytes.{home_in}
 use Rattle.cabinet_rules.specs.Images.{Image, Writes, block_in}
 
 -- On the cards of a mask, in all held blocks, slots locked by the transactions that f picks take or drop the pending
@@ -31,7 +30,6 @@ set_below n f = sum_below n (λ t. cond (f t) (2 ^ t) 0)
 unfoldable pub set_of : (ℕ → Bool) → ℕ
 set_of f = set_below tran_bound f
 
--- A home says that its transaction was begun at card c, or, with every, only that it is open.
-abbrev pub is_begun : Bool → ℕ → Option ℕ → Bool
-is_begun true c home = is_some home
-is_begun false c home = is_card home c
+-- A test of a transaction's byte may be asked of every byte, and answers what f says of its home.
+abbrev pub TestsHomes : (Option ℕ → Bool) → (ℕ → Type 0) → (ℕ → Bool → Type 0) → Type 0
+TestsHomes f pre post = (b : ℕ) → b < 256 → pre b × ((r : Bool) → post b r → r ≡ f (home_in b))

@@ -1,17 +1,18 @@
 // Work on the tables of an image that commit, rollback and fail share: transactions end in all held blocks.
 #![tactic(auto)]
 
-ghost use Rattle.std.specs.Prelude.{◌≡◌, cond, ◌-◌, ◌^◌, ◌<◌, eqb, get_or, length};
+ghost use Rattle.std.specs.Prelude.{◌≡◌, Bool, false, ℕ, cond, ◌-◌, ◌^◌, ◌<◌, eqb, get_or, length};
+ghost use Rattle.std.proofs.Math.Option.{Option, none};
 ghost use Rattle.lists.specs.Segments.{within};
 ghost use Rattle.image.specs.Layout.{card_count, table_size, table_start, tran_bound};
 ghost use Rattle.image.specs.Parts.{Whole};
 ghost use Rattle.mask.specs.Masks.{byte};
 ghost use Rattle.slot.specs.Blocks.{in_set};
 ghost use Rattle.method.specs.ControlPart.{is_open, begun_at};
-ghost use Rattle.control.specs.ControlBytes.{home_in, home_of};
+ghost use Rattle.control.specs.ControlBytes.{home_of};
 ghost use Rattle.control.specs.Meaning.{meaning};
 ghost use Rattle.promise.specs.Laid.{laid};
-ghost use Rattle.tables.specs.Tables.{end_writes, ended_on, ended_table, set_of, is_begun};
+ghost use Rattle.tables.specs.Tables.{TestsHomes, end_writes, ended_on, ended_table, set_of};
 
 use control::Control;
 use control::codec::OPEN;
@@ -23,12 +24,10 @@ fn end_table(table: &mut [u8], take: bool, set: u16)
     requires { length table.old ≡ table_size }
     ensures { table.new ≡ ended_table take (in_set set) table.old }
 {
-    let mut b = 0;
-    while b < BLOCK_COUNT {
+    for b in 0..BLOCK_COUNT {
         let start = b * BLOCK_SIZE;
         let end = start + BLOCK_SIZE;
         slot::block::end_held(&mut table[start..end], take, set);
-        b += 1;
     }
 }
 
@@ -55,11 +54,9 @@ pub fn end_held(image: &mut [u8], working: u8, take: bool, set: u16)
     if set == 0 {
         return;
     }
-    let mut c: u8 = 0;
-    while c < Placement::MOST_CARDS {
+    for c in 0..Placement::MOST_CARDS {
         let on = mask::has(working, Card(c));
         end_card(image, on, Card(c), take, set);
-        c += 1;
     }
 }
 
@@ -69,16 +66,6 @@ pub fn set_of(tran: Tran) -> u16
     ensures { result ≡ set_of (λ x. eqb x tran.0) }
 {
     1u16 << tran.0
-}
-
-// Whether a transaction's byte says that it was begun at the card, or, with every, that it is open.
-fn is_begun(home: u8, every: bool, card: Card) -> bool
-    ensures { result ≡ is_begun every card.0 (home_in home) }
-{
-    if every {
-        return home >= OPEN;
-    }
-    control::codec::is_home(home, card)
 }
 
 // The transaction's bit if it is picked, else 0.
@@ -92,16 +79,16 @@ fn bit_if(on: bool, tran: Tran) -> u16
     0
 }
 
-// The set of the transactions begun at the card, or, with every, of all open ones, from their bytes.
-fn begun_set(homes: [u8; TRAN_COUNT], every: bool, card: Card) -> u16
-    ensures { result ≡ set_of (λ t. is_begun every card.0 (home_of t (get_or homes (t - 1) 0))) }
+// The set of the transactions whose byte passes the test, which is one of the home that the byte says.
+fn set_by<F: Fn(u8) -> bool>(homes: [u8; TRAN_COUNT], passes: F) -> u16
+    ghost picks: { Option ℕ → Bool }
+    requires closed { picks none ≡ false }
+    requires tests { TestsHomes picks (F.pre passes) (F.post passes) }
+    ensures { result ≡ set_of (λ t. picks (home_of t (get_or homes (t - 1) 0))) }
 {
     let mut set: u16 = 0;
-    let mut i = 0;
-    while i < TRAN_COUNT {
-        let on = is_begun(homes[i], every, card);
-        set += bit_if(on, Tran((i + 1) as u8));
-        i += 1;
+    for i in 0..TRAN_COUNT {
+        set += bit_if(passes(homes[i]), Tran((i + 1) as u8));
     }
     set
 }
@@ -110,14 +97,12 @@ fn begun_set(homes: [u8; TRAN_COUNT], every: bool, card: Card) -> u16
 pub fn all_open(k: Control) -> u16
     ensures { result ≡ set_of (is_open (meaning k)) }
 {
-    let homes = k.homes;
-    begun_set(homes, true, Card(0))
+    set_by(k.homes, |home| home >= OPEN)
 }
 
 // The set of the transactions begun at the card.
 pub fn begun_at(k: Control, card: Card) -> u16
     ensures { result ≡ set_of (begun_at (meaning k) card.0) }
 {
-    let homes = k.homes;
-    begun_set(homes, false, card)
+    set_by(k.homes, |home| control::codec::is_home(home, card))
 }

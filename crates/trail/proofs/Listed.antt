@@ -10,7 +10,6 @@ use mathlib.Core.List.{List, [], ◌++◌, ◌∷◌, append_assoc, append-nil}
 use mathlib.Core.Logic.{◌≢◌}
 use mathlib.Core.Path.{◌∙◌, ◌≡◌, ap, refl, subst, sym}
 use native.Mathlib.Numerals.{add-one}
-use native.Mathlib.Omega.{arith}
 use Rattle.lists.specs.Tests.{elem, keep_if}
 use Rattle.lists.proofs.Bools.{eqb-self, or_l, tf}
 use Rattle.lists.proofs.Lists.{any_append, keep_append}
@@ -19,14 +18,21 @@ use Rattle.mask.specs.Masks.{Byte, byte, has_card, with_card}
 use Rattle.mask.proofs.Masks.{has-card, has-none, has-with}
 use Rattle.mask.proofs.MaskSites.{some-card}
 use Rattle.trail.specs.declared.Holders.{Holders}
-use Rattle.trail.specs.Trail.{Adds, Lists}
+use Rattle.trail.specs.Trail.{Adds, Lists, first_in}
+use Rattle.std.specs.Prelude.{None, Some, unwrap_or}
+use Rattle.image.specs.declared.Card.{Card}
 
 -- ---- no holder, and some
 head_in : (x : ℕ) (l : List ℕ) → elem x (x ∷ l) ≡ true
 head_in x l = or_l (eqb x x) (elem x l) (eqb-self x)
 
-pub list-none : (h : Holders) → h.cards ≡ 0 → h.first.0 ≡ 0 → Lists h []
+pub list-none : (h : Holders) → h.cards ≡ 0 → h.first ≡ None → Lists h []
 list-none h z f = record { cards-are = λ c. ap (λ (n : ℕ). has_card (byte n) c) z ∙ has-none c; first-is = f }
+
+-- With no first the list is empty.
+pub no-first : (l : List ℕ) → None ≡ first_in l → l ≡ []
+no-first [] e = refl
+no-first (x ∷ l) e = cc
 
 module _ {h : Holders} where
   -- the mask 0 is of no holder
@@ -41,22 +47,21 @@ module _ {h : Holders} where
       tf (has_card (byte h.cards) some.0) some.1 (lists.cards-are some.0 ∙ ap (elem some.0) e)
 
   -- the first is a card
-  pub first-card : {l : List ℕ} → Lists h l → h.first.0 < card_count
-  first-card {l = []} lists = omega (arith, lists.first-is)
-  first-card {l = x ∷ l} lists = rw lists.first-is (has-card (byte h.cards) x (lists.cards-are x ∙ head_in x l))
+  pub first-card : {l : List ℕ} → Lists h l → (c : Card) → h.first ≡ Some c → c.0 < card_count
+  first-card {l = []} lists c e = cc (lists.first-is, e)
+  first-card {l = x ∷ l} lists c e =
+      let same : x ≡ c.0 = cc (lists.first-is, e) in
+      rw (sym same) (has-card (byte h.cards) x (lists.cards-are x ∙ head_in x l))
 
   -- ---- the first, once card c is added
-  pub first-now : (c : ℕ) → h.cards ≡ 0 → (l : List ℕ) → Lists h l → c ≡ get_or (l ++ (c ∷ [])) 0 0
-  first-now c z l lists = ap (λ (m : List ℕ). get_or (m ++ (c ∷ [])) 0 0) (sym (none-listed lists z))
-
-  pub first-before : (c : ℕ) → h.cards < 256 → h.cards ≢ 0 → (l : List ℕ) → Lists h l → h.first.0 ≡ get_or (l ++ (c ∷ [])) 0 0
-  first-before c small d [] lists = absurd (some-listed lists small d refl)
-  first-before c small d (x ∷ l) lists = lists.first-is
+  first-now : (c : Card) → (l : List ℕ) → Lists h l → Some (unwrap_or h.first c) ≡ first_in (l ++ (c.0 ∷ []))
+  first-now c [] lists = rw lists.first-is refl
+  first-now c (x ∷ l) lists = rw lists.first-is refl
 
   -- ---- one card
-  pub push-yes : (f : ℕ → Bool) (c : ℕ) (r : Holders) → c < card_count → f c ≡ true → ((l : List ℕ) → Lists h l → r.first.0 ≡ get_or (l ++ (c ∷ [])) 0 0)
-      → byte r.cards ≡ with_card (byte h.cards) c → Adds h f (c ∷ []) r
-  push-yes f c r hc on first e l lists = rw on (record { cards-are = cards; first-is = first l lists })
+  pub push-yes : (f : ℕ → Bool) (c : Card) (r : Holders) → c.0 < card_count → f c.0 ≡ true → r.first ≡ Some (unwrap_or h.first c)
+      → byte r.cards ≡ with_card (byte h.cards) c.0 → Adds h f (c.0 ∷ []) r
+  push-yes f c r hc on first e l lists = rw on (record { cards-are = cards; first-is = first ∙ first-now c l lists })
     where
       swap : (a b : Bool) → (a || b) ≡ (b || (a || false))
       swap true true = refl
@@ -64,9 +69,9 @@ module _ {h : Holders} where
       swap false true = refl
       swap false false = refl
 
-      cards : (x : ℕ) → has_card (byte r.cards) x ≡ elem x (l ++ (c ∷ []))
-      cards x = ap (λ (b : Byte). has_card b x) e ∙ has-with (byte h.cards) c x (lt-ltb c card_count hc)
-          ∙ ap (λ (t : Bool). eqb x c || t) (lists.cards-are x) ∙ swap (eqb x c) (elem x l) ∙ sym (any_append (eqb x) l (c ∷ []))
+      cards : (x : ℕ) → has_card (byte r.cards) x ≡ elem x (l ++ (c.0 ∷ []))
+      cards x = ap (λ (b : Byte). has_card b x) e ∙ has-with (byte h.cards) c.0 x (lt-ltb c.0 card_count hc)
+          ∙ ap (λ (t : Bool). eqb x c.0 || t) (lists.cards-are x) ∙ swap (eqb x c.0) (elem x l) ∙ sym (any_append (eqb x) l (c.0 ∷ []))
 
   pub push-no : (f : ℕ → Bool) (c : ℕ) → f c ≡ false → Adds h f (c ∷ []) h
   push-no f c off l lists = rw off (subst (Lists h) (sym (append-nil l)) lists)

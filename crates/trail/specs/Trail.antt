@@ -1,5 +1,6 @@
 -- The holders of a block on an image, and what the code keeps of the list of them. Assumes nothing.
-use Rattle.std.specs.Prelude.{ℕ, get_or, Bool, ◌&&◌, cond, List, ◌++◌, ◌≡◌}
+use Rattle.std.specs.Prelude.{ℕ, get_or, Bool, ◌&&◌, cond, List, [], ◌∷◌, ◌++◌, ◌≡◌, Option, Some, None}
+use Rattle.image.specs.declared.Card.{Card}
 use Rattle.lists.specs.Tests.{elem, keep_if}
 use Rattle.mask.specs.Masks.{AreMembers, Byte, byte, has_card, with_card}
 use Rattle.mask.specs.Placements.{Placement}
@@ -27,10 +28,15 @@ holds_at g working b c = has_card working c && is_held (block_in g c b)
 abbrev pub WithCard : ℕ → ℕ → ℕ → Bool → Type 0
 WithCard m r c on = byte r ≡ cond on (with_card (byte m) c) (byte m)
 
--- What the code keeps of the list l of holders: its cards as a mask, and the first of them, card 0 where there is none.
+-- The first card of a list, if there is one.
+abbrev pub first_in : List ℕ → Option Card
+first_in [] = None
+first_in (c ∷ l) = Some (record { 0 = c })
+
+-- What the code keeps of the list l of holders: its cards as a mask, and the first of them.
 pub record Lists (h : Holders) (l : List ℕ) : Type 0 where
   pub cards-are : AreMembers h.cards (λ c. elem c l)
-  pub first-is : h.first.0 ≡ get_or l 0 0
+  pub first-is : h.first ≡ first_in l
 
 -- Whatever `found` lists, r lists that and behind it the cards of s that f picks.
 abbrev pub Adds : Holders → (ℕ → Bool) → List ℕ → Holders → Type 0

@@ -17,11 +17,10 @@ use image::{Block, Card};
 use mask::Placement;
 use slot::HELD;
 
-// The holders of a block: the first of them on its trail, the oldest placement first, and all of them as a mask. With no
-// holder the first is card 0.
+// The holders of a block: the first of them on its trail, the oldest placement first, and all of them as a mask.
 #[derive(Clone, Copy)]
 pub struct Holders {
-    pub first: Card,
+    pub first: Option<Card>,
     pub cards: u8,
 }
 
@@ -35,14 +34,12 @@ fn is_held(image: &[u8], card: Card, block: Block) -> bool
 }
 
 // Whether the card works and holds the block. The table of a card that does not work is not read.
+#[tactic(auto, unfolding(crate::specs::Trail::holds_at))]
 pub fn holds(image: &[u8], working: u8, card: Card, block: Block) -> bool
     requires { Whole image.now × (card.0 < card_count) × (block.0 < block_count) }
     ensures { result ≡ holds_at image.now (byte working) block.0 card.0 }
 {
-    if mask::has(working, card) {
-        return is_held(image, card, block);
-    }
-    false
+    mask::has(working, card) && is_held(image, card, block)
 }
 
 // The mask with the card, where it is on.
@@ -62,11 +59,9 @@ pub fn held_by(image: &[u8], working: u8, block: Block) -> u8
     ensures { AreMembers result (holds_at image.now (byte working) block.0) }
 {
     let mut held: u8 = 0;
-    let mut c: u8 = 0;
-    while c < Placement::MOST_CARDS {
+    for c in 0..Placement::MOST_CARDS {
         let on = holds(image, working, Card(c), block);
         held = with_if(held, on, Card(c));
-        c += 1;
     }
     held
 }
@@ -107,22 +102,10 @@ pub fn held_by_two(image: &[u8], working: u8, block: Block) -> HeldTwo
         first: 0,
         second: 0,
     };
-    let mut c: u8 = 0;
-    while c < Placement::MOST_CARDS {
+    for c in 0..Placement::MOST_CARDS {
         held = both_with_card(image, working, held, Card(c), block);
-        c += 1;
     }
     held
-}
-
-// The first holder once the card is added.
-fn first_of(found: Holders, card: Card) -> Card
-    ensures { (l : List ℕ) → Lists found l → result.0 ≡ get_or (l ++ (card.0 ∷ [])) 0 0 }
-{
-    if found.cards == 0 {
-        return card;
-    }
-    found.first
 }
 
 // The card is added where it holds the block.
@@ -132,7 +115,7 @@ fn push(image: &[u8], working: u8, block: Block, found: Holders, card: Card) -> 
 {
     if holds(image, working, card, block) {
         return Holders {
-            first: first_of(found, card),
+            first: Some(found.first.unwrap_or(card)),
             cards: mask::with_card(found.cards, card),
         };
     }
@@ -149,8 +132,7 @@ fn push_sites(image: &[u8], working: u8, block: Block, found: Holders, i: usize)
     let sites = control::sites::at(image, i, block);
     let mut all = found;
     for card in sites {
-        let more = push(image, working, block, all, card);
-        all = more;
+        all = push(image, working, block, all, card);
     }
     all
 }
@@ -162,17 +144,12 @@ pub fn find(image: &[u8], k: Control, block: Block) -> Holders
     requires block_lt_block_count { block.0 < block_count }
     ensures { Lists result (holders_in image.now block.0) }
 {
-    let count = k.count as usize;
-    let working = k.working;
     let mut found = Holders {
-        first: Card(0),
+        first: None,
         cards: 0,
     };
-    let mut i: usize = 0;
-    while i < count {
-        let more = push_sites(image, working, block, found, i);
-        found = more;
-        i += 1;
+    for i in 0..k.count as usize {
+        found = push_sites(image, k.working, block, found, i);
     }
     found
 }

@@ -1,7 +1,6 @@
 -- The masks before i are safe. Assumes nothing.
 use mathlib.Core.Path.{◌≡◌}
 use mathlib.Core.Bool.{true}
-use Prim.Native.Nat.{◌≤◌, ◌-◌}
 use Rattle.lists.specs.Tests.{all_below}
 use Rattle.control_form.specs.ControlForm.{is_safe}
 use Rattle.control.specs.Meaning.{meaning}
@@ -9,7 +8,4 @@ use Rattle.control.proofs.Active.{mask_passes}
 use Rattle.control_form.proofs.all_safe.Given as goal
 
 abbrev pub invariant-loop-i : goal.invariant-loop-i
-invariant-loop-i l = (l.i ≤ l.k.count) × (all_below l.i (mask_passes (is_safe (meaning l.k).working (meaning l.k).failed) l.k) ≡ true)
-
-abbrev pub decreases-loop-i : goal.decreases-loop-i
-decreases-loop-i l = l.k.count - l.i
+invariant-loop-i l = all_below l.i (mask_passes (is_safe (meaning l.k).working (meaning l.k).failed) l.k) ≡ true

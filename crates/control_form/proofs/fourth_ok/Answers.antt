@@ -1,6 +1,6 @@
 -- By whether as many placements are active as there can be. Assumes nothing.
 use mathlib.Core.Path.{◌≡◌, ◌∙◌, sym, ap}
-use mathlib.Core.Bool.{Bool, cond, true, false}
+use mathlib.Core.Bool.{Bool, cond, not, true, false}
 use mathlib.Core.List.{List}
 use Prim.Native.Nat.{ℕ, ◌-◌}
 use lib.Dec.{eqb}
@@ -23,10 +23,10 @@ decided l ok t e =
     ap (λ (b : Bool). cond b (is_one_more (byte (get_or l failed_at 0)) (mask_at l (most_active - 1)) (mask_at l (most_active - 2))) true) (sym e)
     ∙ chain_by (byte (get_or l failed_at 0)) (mask_at l) (count_in (get_or l 0 0)) (count-some l ok) (count-few l ok)
 
-pub returns-then-s-eq-MOST_ACTIVE : goal.returns-then-s-eq-MOST_ACTIVE
-returns-then-s-eq-MOST_ACTIVE c =
-    c.one_more.ensures ∙ decided c.args.s.now c.requires.n_value true (eq-eqb _ _ c.if-s-eq-MOST_ACTIVE.true)
+pub returns-then-s-ne-MOST_ACTIVE : goal.returns-then-s-ne-MOST_ACTIVE
+returns-then-s-ne-MOST_ACTIVE c =
+    let e = ne_eqb _ _ c.if-s-ne-MOST_ACTIVE.true in
+    ap not e ∙ decided c.args.s.now c.requires.n_value false e
 
-pub returns : goal.returns
-returns c =
-    decided c.args.s.now c.requires.n_value false (ne_eqb _ _ c.if-s-eq-MOST_ACTIVE.false)
+pub returns-else-s-ne-MOST_ACTIVE : goal.returns-else-s-ne-MOST_ACTIVE
+returns-else-s-ne-MOST_ACTIVE c = c.one_more.ensures ∙ decided c.args.s.now c.requires.n_value true (eq-eqb _ _ c.if-s-ne-MOST_ACTIVE.false)

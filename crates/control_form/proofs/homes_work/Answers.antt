@@ -4,46 +4,39 @@ use native.Mathlib.Omega.{arith}
 use borrow.Author.Rules.{rules}
 use Rattle.mask.specs.Masks.{byte, without_card}
 use Rattle.mask.proofs.FirstMember.{one_fewer, some-members}
-use Rattle.control_form.specs.Reading.{first_end, is_home_at, second_at}
-use Rattle.control_form.proofs.Checks.{failed-is, passed_is}
+use Rattle.control_form.specs.Reading.{all_from, first_end, is_home_at, second_at}
+use Rattle.lists.proofs.Bools.{and_l, and_r}
+use Rattle.control_form.proofs.Homes.{all-homes}
 use Rattle.control_form.proofs.Idle.{all-work, begun-there, first-idle, idle-all, idle-less}
 use Rattle.control_form.proofs.Idle.{lacking, tried-more, tried-none}
-use Rattle.control_form.proofs.Ranges.{all-from, from_all}
 use Rattle.control.specs.ControlBytes.{homes_at, homes_end}
-use mathlib.Core.Bool.{not}
 use Rattle.control_form.proofs.homes_work.Goals as goal
 
 pub loop-idle-init : goal.loop-idle-init
-loop-idle-init c =
-    let g = c.args.s.now in
-    (search rules, idle-all g c.without-idle.result c.without-idle.ensures, tried-none g c.without-idle.result c.without-idle.ensures)
+loop-idle-init c = (search rules, idle-all c.args.s.now _ c.without-idle.ensures, tried-none c.args.s.now _ c.without-idle.ensures)
 
 pub first_member-card-requires : goal.first_member-card-requires
 first_member-card-requires c = some-members c.loop-idle.idle c.loop-idle.invariant.0 c.loop-idle-test.true
 
-pub lack_home-requires : goal.lack_home-requires
-lack_home-requires c =
-    let g = c.args.s.now in
-    record { word_size_in_bounds = omega (arith, c.requires.control_size_in_bounds); home_lt_card_count = c.first_member-card.ensures.1; s_value = all-from homes_at (is_home_at g) first_end (λ n p q. from_all homes_at (is_home_at g) homes_end n c.requires.s_value p (omega arith)) }
+pub lack_home-requires-clause-s_value : goal.lack_home-requires-clause-s_value
+lack_home-requires-clause-s_value c = and_l _ _ (sym (all-homes c.args.s.now) ∙ c.requires.s_value)
 
 pub returns-then-not-lack_home : goal.returns-then-not-lack_home
 returns-then-not-lack_home c =
     let g = c.args.s.now in
     let card = c.first_member-card.result.0 in
     let idle = first-idle g c.loop-idle.idle card c.loop-idle.invariant.0 c.loop-idle-test.true c.first_member-card.ensures.0 c.loop-idle.invariant.1 in
-    begun-there g card homes_at first_end idle (omega arith) (omega arith) (failed-is c.lack_home.ensures (ap not c.if-not-lack_home.true))
+    begun-there g card homes_at first_end idle (omega arith) (omega arith) (sym c.lack_home.ensures ∙ c.if-not-lack_home.true)
 
-pub lack_home-requires-in-loop-idle : goal.lack_home-requires-in-loop-idle
-lack_home-requires-in-loop-idle c =
-    let g = c.args.s.now in
-    record { word_size_in_bounds = omega (arith, c.requires.control_size_in_bounds); home_lt_card_count = c.first_member-card.ensures.1; s_value = all-from second_at (is_home_at g) homes_end (λ n p q. from_all homes_at (is_home_at g) homes_end n c.requires.s_value (omega arith) q) }
+pub lack_home-requires-in-loop-idle-clause-s_value : goal.lack_home-requires-in-loop-idle-clause-s_value
+lack_home-requires-in-loop-idle-clause-s_value c = and_r (all_from homes_at first_end (is_home_at c.args.s.now)) _ (sym (all-homes c.args.s.now) ∙ c.requires.s_value)
 
 pub returns-then-not-lack_home-2 : goal.returns-then-not-lack_home-2
 returns-then-not-lack_home-2 c =
     let g = c.args.s.now in
     let card = c.first_member-card.result.0 in
     let idle = first-idle g c.loop-idle.idle card c.loop-idle.invariant.0 c.loop-idle-test.true c.first_member-card.ensures.0 c.loop-idle.invariant.1 in
-    begun-there g card second_at homes_end idle (omega arith) (omega arith) (failed-is c.lack_home-in-loop-idle.ensures (ap not c.if-not-lack_home-2.true))
+    begun-there g card second_at homes_end idle (omega arith) (omega arith) (sym c.lack_home-in-loop-idle.ensures ∙ c.if-not-lack_home-2.true)
 
 pub without_first-idle-requires : goal.without_first-idle-requires
 without_first-idle-requires c =
@@ -60,7 +53,7 @@ loop-idle-preserved c =
       search rules,
       idle-less g c.loop-idle.idle c.without_first-idle.result c.first_member-card.result.0 d c.loop-idle.invariant.1,
       tried-more g c.loop-idle.idle c.without_first-idle.result c.first_member-card.result.0 d c.loop-idle.invariant.2
-          (lacking g c.first_member-card.result.0 (passed_is c.lack_home.ensures (ap not c.if-not-lack_home.false)) (passed_is c.lack_home-in-loop-idle.ensures (ap not c.if-not-lack_home-2.false))),
+          (lacking g c.first_member-card.result.0 (sym c.lack_home.ensures ∙ c.if-not-lack_home.false) (sym c.lack_home-in-loop-idle.ensures ∙ c.if-not-lack_home-2.false)),
     )
 
 pub returns : goal.returns

@@ -4,4 +4,4 @@ use Rattle.control_form.proofs.tail_ok.Goals as goal
 
 pub returns : goal.returns
 returns c =
-    tail-by c.args.s.now (λ n. (c.shared_slice_known-1.given n).fits) c.word.result c.word.ensures
+    tail-by c.args.s.now (λ n. (c.type_inv.s n).fits) c.word.result c.word.ensures

@@ -1,7 +1,7 @@
--- With every, the set of what was begun is the set of what is open. Assumes nothing.
+-- The bytes of the homes mean what the control part says. Assumes nothing.
 use Rattle.control.specs.Meaning.{meaning}
 use Rattle.tables.proofs.all_open.Goals as goal
 
 pub returns : goal.returns
 unfolding meaning
-returns c = c.begun_set.ensures
+returns c = c.set_by.ensures

@@ -4,4 +4,4 @@ use Rattle.tables.proofs.begun_at.Goals as goal
 
 pub returns : goal.returns
 unfolding meaning
-returns c = c.begun_set.ensures
+returns c = c.set_by.ensures

@@ -1,9 +1,9 @@
 -- The cards below c have their tables ended; with an empty set nothing is picked. Assumes nothing.
-use Prim.Native.Nat.{◌-◌, ℕ}
+use Prim.Native.Nat.{ℕ}
 use borrow.Author.Rules.{rules}
 use mathlib.Core.Bool.{Bool}
 use mathlib.Core.List.{List}
-use mathlib.Core.Path.{◌∙◌, ◌≡◌, ap, refl, sym}
+use mathlib.Core.Path.{◌∙◌, ◌≡◌, ap, sym}
 use native.Mathlib.Omega.{arith}
 use Rattle.lists.specs.Segments.{within}
 use Rattle.lists.proofs.Each.{each_more, each_none}
@@ -22,25 +22,21 @@ returns-then-set-eq0 c =
 pub loop-c-init : goal.loop-c-init
 loop-c-init c =
     let a = c.args in
-    (omega arith, refl, sym (each_none (card_wise (byte a.working) a.take (in_set a.set)) control_size table_size a.image.now))
+    sym (each_none (card_wise (byte a.working) a.take (in_set a.set)) control_size table_size a.image.now)
 
 pub loop-c-preserved : goal.loop-c-preserved
 loop-c-preserved c =
     let l = c.loop-c in
     let a = c.args in
-    let f = card_wise (byte a.working) a.take (in_set a.set) in (
-      omega arith,
-      search rules,
-      c.end_card.ensures
-          ∙ ap (λ (on : Bool). within l.image (table_start l.c) table_size (ended_on on a.take (in_set a.set))) c.has-on.ensures
-          ∙ ap (λ (g : List ℕ). within g (table_start l.c) table_size (f l.c)) l.invariant.2
-          ∙ each_more f control_size table_size l.c a.image.now,
-    )
+    let f = card_wise (byte a.working) a.take (in_set a.set) in
+    c.end_card.ensures
+    ∙ ap (λ (on : Bool). within l.image (table_start l.c) table_size (ended_on on a.take (in_set a.set))) c.has-on.ensures
+    ∙ ap (λ (g : List ℕ). within g (table_start l.c) table_size (f l.c)) l.invariant
+    ∙ each_more f control_size table_size l.c a.image.now
 
 pub returns : goal.returns
 returns c =
-    let l = c.loop-c in
     let a = c.args in
-    let e : l.c ≡ card_count = omega arith in
-    l.invariant.2 ∙ ap (λ (n : ℕ). up_to (byte a.working) a.take (in_set a.set) n a.image.now) e
-    ∙ all-ended (byte a.working) a.take (in_set a.set) a.image.now (search rules)
+    let e : c.loop-c.c ≡ card_count = omega arith in
+    c.loop-c.invariant ∙ ap (λ (n : ℕ). up_to (byte a.working) a.take (in_set a.set) n a.image.now) e
+    ∙ all-ended (byte a.working) a.take (in_set a.set) a.image.now c.requires

@@ -1,11 +1,7 @@
 -- After i turns the holders among the sites of the first i placements are found. Assumes nothing.
-use Prim.Native.Nat.{◌-◌, ◌≤◌}
 use Rattle.trail.specs.Trail.{Lists}
 use Rattle.trail.proofs.Holding.{first_holders}
 use Rattle.trail.proofs.find.Given as goal
 
 abbrev pub invariant-loop-i : goal.invariant-loop-i
-invariant-loop-i l = (l.i ≤ l.count) × Lists l.found (first_holders l.image l.block.0 l.i)
-
-abbrev pub decreases-loop-i : goal.decreases-loop-i
-decreases-loop-i l = l.count - l.i
+invariant-loop-i l = Lists l.found (first_holders l.image l.block.0 l.i)

@@ -1,5 +1,5 @@
 -- The cards before c that hold each of the two blocks have been found. Assumes nothing.
-use Prim.Native.Nat.{◌+◌, ◌-◌}
+use Prim.Native.Nat.{◌+◌}
 use mathlib.Core.Path.{refl}
 use native.Mathlib.Omega.{arith}
 use Rattle.mask.specs.Masks.{byte}
@@ -10,25 +10,27 @@ use Rattle.trail.proofs.held_by_two.Goals as goal
 
 pub loop-c-init : goal.loop-c-init
 loop-c-init c =
-    let a = c.args in
-    (omega arith, none_below (holds_at a.image.now (byte a.working) a.block.0), none_below (holds_at a.image.now (byte a.working) (a.block.0 + 1)))
+    let a = c.args in record {
+      first = none_below (holds_at a.image.now (byte a.working) a.block.0);
+      second = none_below (holds_at a.image.now (byte a.working) (a.block.0 + 1));
+    }
 
 pub loop-c-preserved : goal.loop-c-preserved
 loop-c-preserved c =
     let a = c.args in
+    let l = c.loop-c in
     let g = a.image.now in
-    let r = c.both_with_card-held.result in (
-      omega arith,
-      card-more (holds_at g (byte a.working) a.block.0) c.loop-c.held.first r.first c.loop-c.c c.loop-c-test.true c.loop-c.invariant.1
-          (holds_at g (byte a.working) a.block.0 c.loop-c.c) refl c.both_with_card-held.ensures.0,
-      card-more (holds_at g (byte a.working) (a.block.0 + 1)) c.loop-c.held.second r.second c.loop-c.c c.loop-c-test.true c.loop-c.invariant.2
-          (holds_at g (byte a.working) (a.block.0 + 1) c.loop-c.c) refl c.both_with_card-held.ensures.1,
-    )
+    let r = c.both_with_card-held in record {
+      first = card-more (holds_at g (byte a.working) a.block.0) l.held.first r.result.first l.c c.loop-c-test.true l.invariant.first
+          (holds_at g (byte a.working) a.block.0 l.c) refl r.ensures.0;
+      second = card-more (holds_at g (byte a.working) (a.block.0 + 1)) l.held.second r.result.second l.c c.loop-c-test.true l.invariant.second
+          (holds_at g (byte a.working) (a.block.0 + 1) l.c) refl r.ensures.1;
+    }
 
 pub returns : goal.returns
 returns c =
     let a = c.args in
-    let g = a.image.now in (
-      all_held g (byte a.working) a.block.0 c.loop-c.held.first c.loop-c.c (omega arith) c.loop-c.invariant.1,
-      all_held g (byte a.working) (a.block.0 + 1) c.loop-c.held.second c.loop-c.c (omega arith) c.loop-c.invariant.2,
+    let l = c.loop-c in (
+      all_held a.image.now (byte a.working) a.block.0 l.held.first l.c (omega arith) l.invariant.first,
+      all_held a.image.now (byte a.working) (a.block.0 + 1) l.held.second l.c (omega arith) l.invariant.second,
     )

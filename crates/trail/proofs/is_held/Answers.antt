@@ -6,4 +6,4 @@ use Rattle.trail.proofs.is_held.Goals as goal
 pub returns : goal.returns
 returns c =
     let a = c.args in
-    held-byte a.image.now a.card.0 a.block.0 c.block_address-at.result c.block_address-at.ensures (omega (arith, c.shared_slice_known-2-1.given c.block_address-at.result))
+    held-byte a.image.now a.card.0 a.block.0 c.block_address-at.result c.block_address-at.ensures (omega (arith, c.type_inv.image c.block_address-at.result))

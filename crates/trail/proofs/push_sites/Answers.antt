@@ -7,8 +7,8 @@ use Rattle.trail.specs.Trail.{holds_at}
 use Rattle.trail.proofs.Listed.{add-more}
 use Rattle.trail.proofs.push_sites.Goals as goal
 
-pub push-more-requires : goal.push-more-requires
-push-more-requires c =
+pub push-all-requires : goal.push-all-requires
+push-all-requires c =
     (c.requires.whole.0, listed-card c.at-sites.ensures c.loop-card.card-index record { 0 = 0 } c.loop-card-test.true, c.requires.whole.2)
 
 pub loop-card-preserved : goal.loop-card-preserved
@@ -17,4 +17,4 @@ loop-card-preserved c =
     let a = c.args in
     let are = c.at-sites.ensures in
     add-more (holds_at a.image.now (byte a.working) a.block.0) (site_list c.at-sites.result) l.card-index _ (omega (arith, c.loop-card-test.true, listed-long are))
-    (listed_at are l.card-index record { 0 = 0 }) a.found l.all c.push-more.result l.invariant c.push-more.ensures
+    (listed_at are l.card-index record { 0 = 0 }) a.found l.all c.push-all.result l.invariant c.push-all.ensures

@@ -4,5 +4,4 @@ use borrow.Author.Rules.{rules}
 use Rattle.control.proofs.Control.add.Goals as goal
 
 pub returns : goal.returns
-returns c =
-    add_is c.args.self c.requires.counted c.args.mask c.clean_marks.result c.next.result c.next.ensures (search rules) c.requires.count_lt_most_active (search rules) c.clean_marks.ensures
+returns c = rw c.with_mask.ensures (add_is c.args.self c.requires.counted c.args.mask (search rules) c.requires.count_lt_most_active (search rules))

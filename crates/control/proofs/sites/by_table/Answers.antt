@@ -16,4 +16,4 @@ returns c =
     let a = c.args in
     let m : ℕ = get_or a.image.now marks_at 0 in
     let h = c.requires.1 in
-    ap (λ (b : ℕ). not (eqb (bit_and m b) 0)) (table-bit a.i h) ∙ mark-is m (most_active + a.i) (c.shared_slice_known-1.given marks_at).fits (omega (arith, h))
+    ap (λ (b : ℕ). not (eqb (bit_and m b) 0)) (table-bit a.i h) ∙ mark-is m (most_active + a.i) (c.type_inv.image marks_at).fits (omega (arith, h))

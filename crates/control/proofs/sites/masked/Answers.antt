@@ -13,4 +13,4 @@ pub returns : goal.returns
 returns c =
     let l = c.args.image.now in
     let i : ℕ = c.args.i in
-    ap (λ (r : Bool). record { mask = byte (get_or l (masks_at + i) 0); by_rails = r }) (mark-is (get_or l marks_at 0) i (c.shared_slice_known-2-1.given marks_at).fits (omega (arith, c.requires.1)))
+    ap (λ (r : Bool). record { mask = byte (get_or l (masks_at + i) 0); by_rails = r }) (mark-is (get_or l marks_at 0) i (c.type_inv.image marks_at).fits (omega (arith, c.requires.1)))

@@ -9,4 +9,4 @@ overflow_mul-result c = omega (arith, and_le_r c.word-w.result opens)
 
 pub returns : goal.returns
 returns c =
-    homes_at_lem c.args.s.now (λ n. (c.shared_slice_known-1.given n).fits) c.args.at c.word-w.result c.word-w.ensures
+    homes_at_lem c.args.s.now (λ n. (c.type_inv.s n).fits) c.args.at c.word-w.result c.word-w.ensures

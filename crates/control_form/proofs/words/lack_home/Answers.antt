@@ -17,4 +17,4 @@ pub returns : goal.returns
 returns c =
     let w = c.word-w.result in
     ap (λ (n : ℕ). eqb (bit_and (bit_xor (w / field) (n * ones) + nibbles) carries) carries) c.from.ensures
-    ∙ lack-at c.args.s.now (λ n. (c.shared_slice_known-1.given n).fits) c.args.at w c.args.home.0 c.word-w.ensures c.requires.home_lt_card_count c.requires.s_value
+    ∙ lack-at c.args.s.now (λ n. (c.type_inv.s n).fits) c.args.at w c.args.home.0 c.word-w.ensures c.requires.home_lt_card_count c.requires.s_value
