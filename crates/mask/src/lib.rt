@@ -40,9 +40,6 @@ use image::{Block, Card};
 // The bit of card 0.
 const FIRST_BIT: u8 = 0x80;
 
-// All bits of a mask.
-const ALL_BITS: u8 = 0xff;
-
 // The bits of the two supply rails.
 const FIRST_RAIL: u8 = 0xf0;
 
@@ -119,21 +116,21 @@ pub fn without_card(mask: u8, card: Card) -> u8
     requires { card.0 < card_count }
     ensures { byte result ≡ without_card (byte mask) card.0 }
 {
-    mask & (ALL_BITS - bit_of(card))
+    mask & !bit_of(card)
 }
 
 // The members of a that b lacks.
 pub fn without(a: u8, b: u8) -> u8
     ensures { AreMembers result (λ c. has_card (byte a) c && not (has_card (byte b) c)) }
 {
-    a & (ALL_BITS - b)
+    a & !b
 }
 
 // Whether the mask is the base plus exactly one failed card: the first member that the base lacks.
 pub fn one_more(failed: u8, base: u8, mask: u8) -> bool
     ensures { result ≡ is_one_more (byte failed) (byte base) (byte mask) }
 {
-    let first = (mask & (ALL_BITS - base)).leading_zeros() as u8;
+    let first = (mask & !base).leading_zeros() as u8;
     let extra = Card(first);
     has(failed, extra) && mask == with_card(base, extra)
 }
