@@ -24,7 +24,6 @@ ghost use Rattle.mask.specs.Placements.{
   AreSites,
   Enough,
   from_mask,
-  is_site,
   mask_sites,
   meant,
   member_at,
@@ -104,7 +103,7 @@ pub fn with_card(mask: u8, card: Card) -> u8
 }
 
 // The mask of two cards.
-fn pair(a: Card, b: Card) -> u8
+pub fn pair(a: Card, b: Card) -> u8
     requires { (a.0 < card_count) × (b.0 < card_count) }
     ensures { AreMembers result (λ c. elem c (a.0 ∷ b.0 ∷ [])) }
 {
@@ -276,8 +275,8 @@ impl Placement {
         Card(across.leading_zeros() as u8)
     }
 
-    // The sites of a block, in the order of the rules: different members, on two rails whenever both have members and the placement is
-    // by rails.
+    // The sites of a block, in the order of the rules: different members, on two rails whenever both have members and the
+    // placement is by rails.
     pub fn sites(self, block: Block) -> [Card; image::COPY_COUNT]
         requires enough { Enough (meant self).mask }
         requires block_lt_block_count { block.0 < block_count }
@@ -286,15 +285,5 @@ impl Placement {
         let first = self.member_at(block.0);
         let second = self.second_site(block, first);
         [first, second]
-    }
-
-    // The same as a mask.
-    pub fn site_mask(self, block: Block) -> u8
-        requires enough { Enough (meant self).mask }
-        requires block_lt_block_count { block.0 < block_count }
-        ensures { AreMembers result (is_site (placed (meant self)) block.0) }
-    {
-        let [first, second] = self.sites(block);
-        pair(first, second)
     }
 }

@@ -91,21 +91,13 @@ pub fn sites(pair: u8) -> [Card; image::COPY_COUNT]
     [Card(pair / CARD_COUNT), Card(pair % CARD_COUNT)]
 }
 
-// The same as a mask.
-pub fn site_mask(pair: u8) -> u8
-    requires { pair < pair_bound }
-    ensures { AreMembers result (λ c. elem c (first_card pair ∷ second_card pair ∷ [])) }
-{
-    let [first, second] = sites(pair);
-    crate::pair(first, second)
-}
-
-// The same of the pair at a place of a group's bits.
+// The mask of those of the pair at a place of a group's bits.
 fn mask_in(bits: u64, place: u8) -> u8
     requires { place < blocks_in_group }
     ensures { AreMembers result (λ c. elem c (first_card (pair_in_group bits place) ∷ second_card (pair_in_group bits place) ∷ [])) }
 {
-    site_mask(pair_in(bits, place))
+    let [first, second] = sites(pair_in(bits, place));
+    crate::pair(first, second)
 }
 
 // The masks of the sites of all blocks, group by group.
