@@ -110,10 +110,9 @@ pub fn fill(masks: &mut [u8], pairs: &[u8])
     for q in 0..GROUP_COUNT {
         let bits = group(pairs, q);
         let b = q * BLOCKS_IN_GROUP as usize;
-        masks[b] = mask_in(bits, 0);
-        masks[b + 1] = mask_in(bits, 1);
-        masks[b + 2] = mask_in(bits, 2);
-        masks[b + 3] = mask_in(bits, 3);
+        for place in 0..BLOCKS_IN_GROUP {
+            masks[b + place as usize] = mask_in(bits, place);
+        }
     }
 }
 
