@@ -56,7 +56,7 @@ const LOW_BITS: u64 = 0x7f * ROWS;
 // The highest bit of 64.
 const TOP_BIT: u64 = 0x8000_0000_0000_0000;
 
-// The 24 bits of a group.
+// The 24 bits of a group. No number of the library has three bytes.
 fn group(pairs: &[u8], q: usize) -> u64
     requires { (length pairs.now ≡ pairs_size) × (q * group_size < pairs_size) }
     ensures { (result ≡ group_at (λ j. get_or pairs.now j 0) q) × (result < 256 ^ group_size) }
