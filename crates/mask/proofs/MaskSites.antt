@@ -224,4 +224,5 @@ unfolding mask_sites rail_sites chained_sites
 sites-found n false b first across h u e d = rw (d, e)
 sites-found n true b first across h u e d = rw (d, e) (ap (λ (x : ℕ). member_at (byte n) b ∷ x ∷ [])
     (across-found (byte n) b (rw (size-members (byte n)) u)
-    ∙ ap (λ (a : ℕ). cond (eqb (bit_and a (other_rail (member_at (byte n) b))) 0) (member_at (byte n) (b + 1)) (count_leading_zeros 8 (bit_and a (other_rail (member_at (byte n) b))))) (mod-eq_of_lt h)))
+    ∙ ap (λ (a : ℕ). cond (eqb (bit_and a (other_rail (member_at (byte n) b))) 0) (member_at (byte n) (b + 1))
+    (count_leading_zeros 8 (bit_and a (other_rail (member_at (byte n) b))))) (mod-eq_of_lt h)))

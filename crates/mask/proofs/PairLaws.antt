@@ -3,10 +3,10 @@
 use mathlib.Core.Bool.{Bool, true}
 use mathlib.Core.List.{List, [], ◌∷◌}
 use mathlib.Core.Path.{◌≡◌, ap, refl, sym, ◌∙◌}
-use Prim.Native.Nat.{ℕ, suc, zero, ◌+◌, ◌-◌, ◌*◌, ◌/◌, ◌%◌, ◌^◌, ◌≤◌, ◌<◌}
+use Prim.Native.Nat.{ℕ, suc, zero, ◌+◌, ◌-◌, ◌*◌, ◌/◌, ◌%◌, ◌^◌, ◌<◌}
 use native.Mathlib.Omega.{arith}
 use lib.Dec.{eqb}
-use lib.ListN.{get_or, length, length-set, set}
+use lib.ListN.{get_or, length, set}
 use lib.Seq.{ext_get_or, get_or-set_other, get_or-set_same}
 use borrow.Author.Tests.{eqb-true}
 use Rattle.lists.specs.Tests.{all_below, elem}
@@ -25,22 +25,11 @@ use Rattle.mask.specs.SiteMasks.{MasksBelow}
 abbrev pub Holds : (ℕ → ℕ → Type 0) → List ℕ → ℕ → Type 0
 Holds P l n = (k : ℕ) → k < n → P k (get_or l k 0)
 
--- One is stored behind them; three and four are.
+-- One is stored behind them.
 pub set_more : (P : ℕ → ℕ → Type 0) (l : List ℕ) (n m v : ℕ) → m ≡ n + 1 → n < length l → Holds P l n → P n v → Holds P (set l n v) m
 set_more P l n m v e h old p k j = by-eq (P k (get_or (set l n v) k 0)) k n
     (λ q. rw (q, get_or-set_same l n v 0 h) p)
     (λ d. rw (get_or-set_other l n k v 0 d) (old k (omega arith)))
-
-pub set-three : (P : ℕ → ℕ → Type 0) (l : List ℕ) (n x y z : ℕ) → n + 3 ≤ length l → Holds P l n → P n x → P (n + 1) y → P (n + 2) z
-    → Holds P (set (set (set l n x) (n + 1) y) (n + 2) z) (n + 3)
-set-three P l n x y z h old px py pz =
-    set_more P (set (set l n x) (n + 1) y) (n + 2) (n + 3) z (omega arith) (simp length-set (omega arith))
-    (set_more P (set l n x) (n + 1) (n + 2) y (omega arith) (simp length-set (omega arith)) (set_more P l n (n + 1) x refl (omega arith) old px) py) pz
-
-pub set-four : (P : ℕ → ℕ → Type 0) (l : List ℕ) (n x y z w : ℕ) → n + 4 ≤ length l → Holds P l n → P n x → P (n + 1) y → P (n + 2) z → P (n + 3) w
-    → Holds P (set (set (set (set l n x) (n + 1) y) (n + 2) z) (n + 3) w) (n + 4)
-set-four P l n x y z w h old px py pz pw =
-    set_more P (set (set (set l n x) (n + 1) y) (n + 2) z) (n + 3) (n + 4) w (omega arith) (simp length-set (omega arith)) (set-three P l n x y z (omega arith) old px py pz) pw
 
 -- ---- a pair as it is read
 -- It is below the bound, whatever the bytes are.
@@ -67,22 +56,16 @@ place_of f q r b e h = at (b / blocks_in_group) (b % blocks_in_group) (omega ari
     at : (x y : ℕ) → x ≡ q → y ≡ r → pair_in_group (group_at f x) y ≡ pair_in_group (group_at f q) r
     at x y e d = rw (e, d)
 
--- The masks of the two cards of each block's pair: one group more of them.
+-- The masks of the two cards of each block's pair: one more of them.
 abbrev pub is_card_of : ℕ → ℕ → Bool
 is_card_of pair c = elem c (first_card pair ∷ second_card pair ∷ [])
 
-pub masks-turn : (f : ℕ → ℕ) (l : List ℕ) (q n x y z w : ℕ) → q * blocks_in_group < block_count → length l ≡ block_count → n ≡ group_at f q
-    → AreMembers x (is_card_of (pair_in_group n 0)) → AreMembers y (is_card_of (pair_in_group n 1))
-    → AreMembers z (is_card_of (pair_in_group n 2)) → AreMembers w (is_card_of (pair_in_group n 3)) → MasksBelow (λ b. is_card_of (pair_at f b)) l (q * blocks_in_group)
-    → MasksBelow (λ b. is_card_of (pair_at f b))
-    (set (set (set (set l (q * blocks_in_group) x) (q * blocks_in_group + 1) y) (q * blocks_in_group + 2) z) (q * blocks_in_group + 3) w) ((q + 1) * blocks_in_group)
-masks-turn f l q n x y z w h e g px py pz pw old k i =
-    set-four (λ b v. AreMembers v (is_card_of (pair_at f b))) l (q * blocks_in_group) x y z w (omega arith) old
-    (at 0 (q * blocks_in_group) x (omega arith) (omega arith) px) (at 1 (q * blocks_in_group + 1) y refl (omega arith) py)
-    (at 2 (q * blocks_in_group + 2) z refl (omega arith) pz) (at 3 (q * blocks_in_group + 3) w refl (omega arith) pw) k (omega arith)
-  where
-    at : (r b v : ℕ) → b ≡ q * blocks_in_group + r → r < blocks_in_group → AreMembers v (is_card_of (pair_in_group n r)) → AreMembers v (is_card_of (pair_at f b))
-    at r b v e d are c = are c ∙ ap (λ (p : ℕ). is_card_of p c) (ap (λ (m : ℕ). pair_in_group m r) g ∙ sym (place_of f q r b e d))
+pub mask-turn : (f : ℕ → ℕ) (l : List ℕ) (q r n v : ℕ) → q * blocks_in_group + r < length l → r < blocks_in_group → n ≡ group_at f q
+    → AreMembers v (is_card_of (pair_in_group n r)) → MasksBelow (λ b. is_card_of (pair_at f b)) l (q * blocks_in_group + r)
+    → MasksBelow (λ b. is_card_of (pair_at f b)) (set l (q * blocks_in_group + r) v) (q * blocks_in_group + (r + 1))
+mask-turn f l q r n v h d g are old =
+    set_more (λ b v. AreMembers v (is_card_of (pair_at f b))) l (q * blocks_in_group + r) (q * blocks_in_group + (r + 1)) v (omega arith) h old
+    (λ c. are c ∙ ap (λ (p : ℕ). is_card_of p c) (ap (λ (m : ℕ). pair_in_group m r) g ∙ sym (place_of f q r (q * blocks_in_group + r) refl d)))
 
 -- A pair has six bits: the digit at a place, by a shift over the pairs below it.
 test-shift : all_below blocks_in_group (λ k. eqb (2 ^ (6 * k)) (pair_bound ^ k)) ≡ true

@@ -24,7 +24,6 @@ ghost use Rattle.mask.specs.Placements.{
   AreSites,
   Enough,
   from_mask,
-  is_site,
   mask_sites,
   meant,
   member_at,
@@ -39,9 +38,6 @@ use image::{Block, Card};
 
 // The bit of card 0.
 const FIRST_BIT: u8 = 0x80;
-
-// All bits of a mask.
-const ALL_BITS: u8 = 0xff;
 
 // The bits of the two supply rails.
 const FIRST_RAIL: u8 = 0xf0;
@@ -67,14 +63,14 @@ pub fn has(mask: u8, card: Card) -> bool
 pub fn members(mask: u8) -> u32
     ensures { result ≡ size (byte mask) }
 {
-    u8::count_ones(mask)
+    mask.count_ones()
 }
 
 // How many cards are in both.
 pub fn common(a: u8, b: u8) -> u32
     ensures { result ≡ common (byte a) (byte b) }
 {
-    u8::count_ones(a & b)
+    (a & b).count_ones()
 }
 
 // Whether every member of a is in b.
@@ -95,7 +91,7 @@ pub fn within_either(a: u8, b: u8, c: u8) -> bool
 pub fn apart(a: u8, b: u8) -> bool
     ensures { result ≡ are_apart (byte a) (byte b) }
 {
-    u8::count_ones(a & b) == 0
+    (a & b).count_ones() == 0
 }
 
 // The mask with the card.
@@ -107,7 +103,7 @@ pub fn with_card(mask: u8, card: Card) -> u8
 }
 
 // The mask of two cards.
-fn pair(a: Card, b: Card) -> u8
+pub fn pair(a: Card, b: Card) -> u8
     requires { (a.0 < card_count) × (b.0 < card_count) }
     ensures { AreMembers result (λ c. elem c (a.0 ∷ b.0 ∷ [])) }
 {
@@ -119,21 +115,21 @@ pub fn without_card(mask: u8, card: Card) -> u8
     requires { card.0 < card_count }
     ensures { byte result ≡ without_card (byte mask) card.0 }
 {
-    mask & (ALL_BITS - bit_of(card))
+    mask & !bit_of(card)
 }
 
 // The members of a that b lacks.
 pub fn without(a: u8, b: u8) -> u8
     ensures { AreMembers result (λ c. has_card (byte a) c && not (has_card (byte b) c)) }
 {
-    a & (ALL_BITS - b)
+    a & !b
 }
 
 // Whether the mask is the base plus exactly one failed card: the first member that the base lacks.
 pub fn one_more(failed: u8, base: u8, mask: u8) -> bool
     ensures { result ≡ is_one_more (byte failed) (byte base) (byte mask) }
 {
-    let first = u8::leading_zeros(mask & (ALL_BITS - base)) as u8;
+    let first = (mask & !base).leading_zeros() as u8;
     let extra = Card(first);
     has(failed, extra) && mask == with_card(base, extra)
 }
@@ -143,7 +139,7 @@ pub fn first_member(mask: u8) -> Card
     requires { 0 < length (members (byte mask)) }
     ensures { (result.0 ≡ get_or (members (byte mask)) 0 0) × (result.0 < card_count) }
 {
-    Card(u8::leading_zeros(mask) as u8)
+    Card(mask.leading_zeros() as u8)
 }
 
 // The first of these members; where there are none, of all: going round.
@@ -179,7 +175,7 @@ fn last_member(mask: u8) -> u8
     requires { 0 < length (members (byte mask)) }
     ensures { result ≡ get_or (members (byte mask)) (length (members (byte mask)) - 1) 0 }
 {
-    u8::leading_zeros(mask - (mask & (mask - 1))) as u8
+    (mask - (mask & (mask - 1))).leading_zeros() as u8
 }
 
 // Member number i, in rising order: the last once all behind it are taken off. To take off the last needs fewer
@@ -226,17 +222,14 @@ impl Placement {
     pub fn from_mask(mask: u8) -> Placement
         ensures { placed (meant result) ≡ from_mask (byte mask) }
     {
-        Placement {
-            mask: mask,
-            rails: true,
-        }
+        Placement { mask, rails: true }
     }
 
     // Whether there are as many members as copies.
     pub fn is_usable(self) -> bool
         ensures { result ≡ leb least_members (size (meant self).mask) }
     {
-        u8::count_ones(self.mask) >= Placement::LEAST_MEMBERS
+        self.mask.count_ones() >= Placement::LEAST_MEMBERS
     }
 
     // Member number i, going round.
@@ -244,7 +237,7 @@ impl Placement {
         requires { copy_count ≤ size (byte self.mask) }
         ensures { (result.0 ≡ member_at (byte self.mask) i) × (result.0 < card_count) }
     {
-        Card(nth_member(self.mask, i % u8::count_ones(self.mask) as u8))
+        Card(nth_member(self.mask, i % self.mask.count_ones() as u8))
     }
 
     // The member after the block's first site, going round: the first of those behind it, or else of all.
@@ -279,11 +272,11 @@ impl Placement {
         if across == 0 {
             return self.next_member(block, first);
         }
-        Card(u8::leading_zeros(across) as u8)
+        Card(across.leading_zeros() as u8)
     }
 
-    // The sites of a block, in the order of the rules: different members, on two rails whenever both have members and the placement is
-    // by rails.
+    // The sites of a block, in the order of the rules: different members, on two rails whenever both have members and the
+    // placement is by rails.
     pub fn sites(self, block: Block) -> [Card; image::COPY_COUNT]
         requires enough { Enough (meant self).mask }
         requires block_lt_block_count { block.0 < block_count }
@@ -292,15 +285,5 @@ impl Placement {
         let first = self.member_at(block.0);
         let second = self.second_site(block, first);
         [first, second]
-    }
-
-    // The same as a mask.
-    pub fn site_mask(self, block: Block) -> u8
-        requires enough { Enough (meant self).mask }
-        requires block_lt_block_count { block.0 < block_count }
-        ensures { AreMembers result (is_site (placed (meant self)) block.0) }
-    {
-        let [first, second] = self.sites(block);
-        pair(first, second)
     }
 }

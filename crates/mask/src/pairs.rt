@@ -56,7 +56,7 @@ const LOW_BITS: u64 = 0x7f * ROWS;
 // The highest bit of 64.
 const TOP_BIT: u64 = 0x8000_0000_0000_0000;
 
-// The 24 bits of a group.
+// The 24 bits of a group. No number of the library has three bytes.
 fn group(pairs: &[u8], q: usize) -> u64
     requires { (length pairs.now ≡ pairs_size) × (q * group_size < pairs_size) }
     ensures { (result ≡ group_at (λ j. get_or pairs.now j 0) q) × (result < 256 ^ group_size) }
@@ -91,21 +91,13 @@ pub fn sites(pair: u8) -> [Card; image::COPY_COUNT]
     [Card(pair / CARD_COUNT), Card(pair % CARD_COUNT)]
 }
 
-// The same as a mask.
-pub fn site_mask(pair: u8) -> u8
-    requires { pair < pair_bound }
-    ensures { AreMembers result (λ c. elem c (first_card pair ∷ second_card pair ∷ [])) }
-{
-    let [first, second] = sites(pair);
-    crate::pair(first, second)
-}
-
-// The same of the pair at a place of a group's bits.
+// The mask of those of the pair at a place of a group's bits.
 fn mask_in(bits: u64, place: u8) -> u8
     requires { place < blocks_in_group }
     ensures { AreMembers result (λ c. elem c (first_card (pair_in_group bits place) ∷ second_card (pair_in_group bits place) ∷ [])) }
 {
-    site_mask(pair_in(bits, place))
+    let [first, second] = sites(pair_in(bits, place));
+    crate::pair(first, second)
 }
 
 // The masks of the sites of all blocks, group by group.
@@ -118,10 +110,9 @@ pub fn fill(masks: &mut [u8], pairs: &[u8])
     for q in 0..GROUP_COUNT {
         let bits = group(pairs, q);
         let b = q * BLOCKS_IN_GROUP as usize;
-        masks[b] = mask_in(bits, 0);
-        masks[b + 1] = mask_in(bits, 1);
-        masks[b + 2] = mask_in(bits, 2);
-        masks[b + 3] = mask_in(bits, 3);
+        for place in 0..BLOCKS_IN_GROUP {
+            masks[b + place as usize] = mask_in(bits, place);
+        }
     }
 }
 

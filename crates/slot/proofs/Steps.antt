@@ -28,7 +28,8 @@ byte-of-list l j h = byte-in (λ k. get_or l k 0) j h
 -- The word of a slot, from the list's bytes.
 pub word-of-list : (l : List ℕ) (i : ℕ) → i < slot_count
     → word_at (of_list l) i
-    ≡ number_of (get_or l (slot_start i) 0 % 256) (get_or l (slot_start i + 1) 0 % 256) (get_or l (slot_start i + 2) 0 % 256) (get_or l (slot_start i + 3) 0 % 256) (get_or l (slot_start i + 4) 0 % 256)
+    ≡ number_of (get_or l (slot_start i) 0 % 256) (get_or l (slot_start i + 1) 0 % 256) (get_or l (slot_start i + 2) 0 % 256) (get_or l (slot_start i + 3) 0 % 256)
+    (get_or l (slot_start i + 4) 0 % 256)
 unfolding word_at
 word-of-list l i h =
     let a : ℕ = slot_start i in

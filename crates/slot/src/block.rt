@@ -91,7 +91,7 @@ fn is_picked(block: &[u8], i: usize, set: u16) -> bool
     ((set as u32 * TWICE) >> n) % 2 == 1
 }
 
-// The eight locks, joined bit by bit.
+// The eight locks, joined bit by bit by halves, as `joined` has them.
 fn joined_locks(block: &[u8]) -> u8
     requires { length block.now ≡ block_size }
     ensures { result ≡ joined_locks (of_list block.now) }
@@ -111,7 +111,7 @@ pub fn any_locked(block: &[u8]) -> bool
     joined_locks(block) != 0
 }
 
-// Slot i is written.
+// Slot i is written, byte by byte as `word_at` reads it.
 fn put_slot(block: &mut [u8], i: usize, s: Slot)
     requires block_len { length block.old ≡ block_size }
     requires i_lt_slot_count { (i < slot_count) × InRange s }

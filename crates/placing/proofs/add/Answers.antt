@@ -15,7 +15,10 @@ add_table-added-requires c = record { counted = c.requires.given.is.counted; cou
 
 pub write-requires : goal.write-requires
 write-requires c =
-    record { control_size_in_bounds = long-between c.requires.given c.args.lines.bytes.now c.requires.count_lt_most_active _ _ c.pairs.ensures c.put.ensures; counted = c.add_table-added.ensures.counted }
+    record {
+      control_size_in_bounds = long-between c.requires.given c.args.lines.bytes.now c.requires.count_lt_most_active _ _ c.pairs.ensures c.put.ensures;
+      counted = c.add_table-added.ensures.counted;
+    }
 
 pub put_all-requires : goal.put_all-requires
 put_all-requires c =

@@ -9,5 +9,5 @@ use Rattle.slot.proofs.block.committed_at.Goals as goal
 pub returns : goal.returns
 returns c =
     let a = c.args in
-    let f : get_or a.block.now (slot_start a.i) 0 < 256 = omega (arith, c.shared_slice_known-1.given (slot_start a.i)) in
+    let f : get_or a.block.now (slot_start a.i) 0 < 256 = omega arith in
     (committed-of-list a.block.now a.i (omega arith) f, omega arith)

@@ -4,4 +4,4 @@ use Rattle.slot.proofs.Steps.{held-of-list}
 use Rattle.slot.proofs.block.is_held.Goals as goal
 
 pub returns : goal.returns
-returns c = held-of-list c.args.block.now (omega (arith, c.shared_slice_known-1.given 0))
+returns c = held-of-list c.args.block.now (omega arith)

@@ -1,7 +1,5 @@
 -- The bit that the byte chooses in 32 is the bit of the lock in the set. Assumes nothing.
-use Prim.Native.Nat.{◌+◌, ◌*◌}
 use native.Mathlib.Omega.{arith}
-use Rattle.image.specs.Layout.{slot_size}
 use Rattle.slot.proofs.Locks.{picked-of-list}
 use Rattle.slot.proofs.block.is_picked.Goals as goal
 
@@ -9,4 +7,4 @@ pub returns : goal.returns
 returns c =
     let a = c.args in
     let i = a.i in
-    picked-of-list a.block.now i a.set (omega arith) (omega arith) (omega (arith, c.shared_slice_known-1.given (3 + i * slot_size)))
+    picked-of-list a.block.now i a.set (omega arith) (omega arith) (omega arith)

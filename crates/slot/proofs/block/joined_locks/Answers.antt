@@ -13,4 +13,4 @@ unfolding joined joined_locks
 returns c =
     let l = c.args.block.now in
     joined-field 3 (λ i. get_or l (3 + i * slot_size) 0) (λ i. (slot_at (of_list l) i).lock)
-    (λ i h. lock-of-list l i h (omega (arith, c.shared_slice_known-1.given (3 + i * slot_size))))
+    (λ i h. lock-of-list l i h (omega (arith, c.type_inv.block (3 + i * slot_size))))
