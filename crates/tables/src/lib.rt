@@ -68,17 +68,6 @@ pub fn set_of(tran: Tran) -> u16
     1u16 << tran.0
 }
 
-// The transaction's bit if it is picked, else 0.
-fn bit_if(on: bool, tran: Tran) -> u16
-    requires { tran.0 < tran_bound }
-    ensures { result ≡ cond on (2 ^ tran.0) 0 }
-{
-    if on {
-        return set_of(tran);
-    }
-    0
-}
-
 // The set of the transactions whose byte passes the test, which is one of the home that the byte says.
 fn set_by<F: Fn(u8) -> bool>(homes: [u8; TRAN_COUNT], passes: F) -> u16
     ghost picks: { Option ℕ → Bool }
@@ -88,7 +77,9 @@ fn set_by<F: Fn(u8) -> bool>(homes: [u8; TRAN_COUNT], passes: F) -> u16
 {
     let mut set: u16 = 0;
     for i in 0..TRAN_COUNT {
-        set += bit_if(passes(homes[i]), Tran((i + 1) as u8));
+        if passes(homes[i]) {
+            set += set_of(Tran((i + 1) as u8));
+        }
     }
     set
 }
