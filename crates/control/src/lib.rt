@@ -173,13 +173,28 @@ impl Control {
         self.with_mask(mask, FIRST_TABLE_MARK >> self.count)
     }
 
-    // Only the newest placement remains, and its marks move with it.
+    // The newest placement's mark, as the oldest one's.
+    fn moved_mark(self) -> u8
+        requires { Counted self }
+        ensures { result ≡ cond (table_mark_in self.marks (self.count - 1)) (bit_of most_active)
+            (cond (is_by_rails (meaning self).newest.choice) (bit_of 0) 0) }
+    {
+        if self.newest_by_table() {
+            return FIRST_TABLE_MARK;
+        }
+        if self.newest_by_rails() {
+            return FIRST_MARK;
+        }
+        0
+    }
+
+    // Only the newest placement remains, and its mark moves with it.
     pub fn retire(mut self) -> Self
         requires { Counted self }
         ensures { Is result (only_newest (meaning self)) }
     {
         let newest = self.newest_mask();
-        self.marks = first_marks(self.newest_by_table(), self.newest_by_rails());
+        self.marks = self.moved_mark();
         self.masks = [newest, 0, 0, 0];
         self.count = 1;
         self
@@ -238,19 +253,6 @@ impl Control {
         self.stopped = stopped;
         self
     }
-}
-
-// The marks of one placement.
-fn first_marks(table: bool, rails: bool) -> u8
-    ensures { result ≡ cond table (bit_of most_active) (cond rails (bit_of 0) 0) }
-{
-    if table {
-        return FIRST_TABLE_MARK;
-    }
-    if rails {
-        return FIRST_MARK;
-    }
-    0
 }
 
 // A transaction's byte once what was begun at the card has closed.

@@ -1,8 +1,8 @@
 // The stamps at the ends of card tables: the serial and the mask of a placement.
-ghost use Rattle.std.specs.Prelude.{◌≡◌, cond, ◌+◌, ◌<◌, get_or};
+ghost use Rattle.std.specs.Prelude.{◌≡◌, ◌+◌, ◌<◌, get_or};
 ghost use Rattle.image.specs.Layout.{card_count, end_start};
 ghost use Rattle.image.specs.Parts.{Whole};
-ghost use Rattle.mask.specs.Masks.{byte, has_card};
+ghost use Rattle.mask.specs.Masks.{byte};
 ghost use Rattle.control.specs.Stamps.{put_stamp, put_stamps, same_stamp, stamp_in};
 
 use crate::serials;
@@ -18,17 +18,6 @@ pub fn put(image: &mut [u8], card: Card, serial: u32, mask: u8)
     image::write_at(image, image::end_start(card), &bytes);
 }
 
-// Writes it if the card is among the working ones.
-fn put_if(image: &mut [u8], working: u8, card: Card, serial: u32, mask: u8)
-    requires { Whole image.old × (card.0 < card_count) }
-    ensures { image.new ≡ cond (has_card (byte working) card.0)
-        (put_stamp image.old card.0 (record { serial = serial; mask = mask })) image.old }
-{
-    if mask::has(working, card) {
-        put(image, card, serial, mask);
-    }
-}
-
 // Writes the stamp of every working card.
 pub fn put_all(image: &mut [u8], working: u8, serial: u32, mask: u8)
     requires { Whole image.old }
@@ -36,7 +25,9 @@ pub fn put_all(image: &mut [u8], working: u8, serial: u32, mask: u8)
         ≡ put_stamps image.old (byte working) (record { serial = serial; mask = mask }) card_count }
 {
     for i in 0..image::CARD_COUNT as u8 {
-        put_if(image, working, Card(i), serial, mask);
+        if mask::has(working, Card(i)) {
+            put(image, Card(i), serial, mask);
+        }
     }
 }
 

@@ -89,16 +89,24 @@ module _ (p : Option ℕ → Bool) (homes : List ℕ) where
   pub picked-start : p none ≡ false → 0 ≡ set_below 1 (picked p homes)
   picked-start e = rw e refl
 
-  pub picked-turn : (i set : ℕ) → i < 15 → set ≡ set_below (i + 1) (picked p homes) → (on : Bool) → on ≡ p (home_in (get_or homes i 0))
-      → (bit : ℕ) → bit ≡ cond on (2 ^ (i + 1)) 0 → set + bit ≡ set_below (i + 1 + 1) (picked p homes)
-  picked-turn i set h e on o bit q = add_comm set bit ∙ ap₂ ◌+◌ (q ∙ ap (λ (b : Bool). cond b (2 ^ (i + 1)) 0) (o ∙ sym here)) e
-      ∙ ap (λ (n : ℕ). set_below n (picked p homes)) (sym (add-one (i + 1)))
+  turn : (i set : ℕ) → i < 15 → set ≡ set_below (i + 1) (picked p homes) → (on : Bool) → p (home_in (get_or homes i 0)) ≡ on
+      → cond on (2 ^ (i + 1)) 0 + set ≡ set_below (i + 1 + 1) (picked p homes)
+  turn i set h e on o = ap₂ (λ (b : Bool) (n : ℕ). cond b (2 ^ (i + 1)) 0 + n) (sym (here ∙ o)) e ∙ ap (λ (n : ℕ). set_below n (picked p homes)) (sym (add-one (i + 1)))
     where
       back : i + 1 - 1 ≡ i
       back = omega arith
 
       here : picked p homes (i + 1) ≡ p (home_in (get_or homes i 0))
       here = rw (lt-ltb 0 (i + 1) (omega arith), lt-ltb (i + 1) tran_bound (omega arith), back)
+
+  -- one transaction more that is picked, and one that is not
+  pub picked-in : (i set bit : ℕ) → i < 15 → set ≡ set_below (i + 1) (picked p homes) → p (home_in (get_or homes i 0)) ≡ true
+      → bit ≡ set_of (λ x. eqb x (i + 1)) → set + bit ≡ set_below (i + 1 + 1) (picked p homes)
+  picked-in i set bit h e o q = add_comm set bit ∙ ap (λ (n : ℕ). n + set) (q ∙ set-one (i + 1) (omega arith)) ∙ turn i set h e true o
+
+  pub picked-out : (i set : ℕ) → i < 15 → set ≡ set_below (i + 1) (picked p homes) → p (home_in (get_or homes i 0)) ≡ false
+      → set ≡ set_below (i + 1 + 1) (picked p homes)
+  picked-out i set h e o = sym (zero-add set) ∙ turn i set h e false o
 
   -- and it has 16 bits
   pub picked-fits : (i set : ℕ) → i < 15 → set ≡ set_below (i + 1 + 1) (picked p homes) → set < 2 ^ 16

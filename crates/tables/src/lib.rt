@@ -12,7 +12,7 @@ ghost use Rattle.method.specs.ControlPart.{is_open, begun_at};
 ghost use Rattle.control.specs.ControlBytes.{home_of};
 ghost use Rattle.control.specs.Meaning.{meaning};
 ghost use Rattle.promise.specs.Laid.{laid};
-ghost use Rattle.tables.specs.Tables.{TestsHomes, end_writes, ended_on, ended_table, set_of};
+ghost use Rattle.tables.specs.Tables.{TestsHomes, end_writes, ended_table, set_of};
 
 use control::Control;
 use control::codec::OPEN;
@@ -31,17 +31,15 @@ fn end_table(table: &mut [u8], take: bool, set: u16)
     }
 }
 
-// The same in the card's table, a part from the middle of the image, if the card is on.
-fn end_card(image: &mut [u8], on: bool, card: Card, take: bool, set: u16)
+// The same in the card's table, a part from the middle of the image.
+fn end_card(image: &mut [u8], card: Card, take: bool, set: u16)
     requires { Whole image.old × (card.0 < card_count) }
     ensures { image.new
-        ≡ within image.old (table_start card.0) table_size (ended_on on take (in_set set)) }
+        ≡ within image.old (table_start card.0) table_size (ended_table take (in_set set)) }
 {
-    if on {
-        let start = image::block_address(card, Block(0));
-        let end = start + TABLE_SIZE;
-        end_table(&mut image[start..end], take, set);
-    }
+    let start = image::block_address(card, Block(0));
+    let end = start + TABLE_SIZE;
+    end_table(&mut image[start..end], take, set);
 }
 
 // The transactions of the set end in all held blocks of the mask's cards: a slot that one of them locks takes, or
@@ -55,8 +53,9 @@ pub fn end_held(image: &mut [u8], working: u8, take: bool, set: u16)
         return;
     }
     for c in 0..Placement::MOST_CARDS {
-        let on = mask::has(working, Card(c));
-        end_card(image, on, Card(c), take, set);
+        if mask::has(working, Card(c)) {
+            end_card(image, Card(c), take, set);
+        }
     }
 }
 
@@ -68,17 +67,6 @@ pub fn set_of(tran: Tran) -> u16
     1u16 << tran.0
 }
 
-// The transaction's bit if it is picked, else 0.
-fn bit_if(on: bool, tran: Tran) -> u16
-    requires { tran.0 < tran_bound }
-    ensures { result ≡ cond on (2 ^ tran.0) 0 }
-{
-    if on {
-        return set_of(tran);
-    }
-    0
-}
-
 // The set of the transactions whose byte passes the test, which is one of the home that the byte says.
 fn set_by<F: Fn(u8) -> bool>(homes: [u8; TRAN_COUNT], passes: F) -> u16
     ghost picks: { Option ℕ → Bool }
@@ -88,7 +76,9 @@ fn set_by<F: Fn(u8) -> bool>(homes: [u8; TRAN_COUNT], passes: F) -> u16
 {
     let mut set: u16 = 0;
     for i in 0..TRAN_COUNT {
-        set += bit_if(passes(homes[i]), Tran((i + 1) as u8));
+        if passes(homes[i]) {
+            set += set_of(Tran((i + 1) as u8));
+        }
     }
     set
 }

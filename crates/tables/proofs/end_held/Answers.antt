@@ -1,18 +1,17 @@
 -- The cards below c have their tables ended; with an empty set nothing is picked. Assumes nothing.
-use Prim.Native.Nat.{ℕ}
+use Prim.Native.Nat.{◌+◌, ℕ}
 use borrow.Author.Rules.{rules}
-use mathlib.Core.Bool.{Bool}
 use mathlib.Core.List.{List}
 use mathlib.Core.Path.{◌∙◌, ◌≡◌, ap, sym}
 use native.Mathlib.Omega.{arith}
 use Rattle.lists.specs.Segments.{within}
 use Rattle.lists.proofs.Each.{each_more, each_none}
 use Rattle.image.specs.Layout.{card_count, control_size, table_size, table_start}
-use Rattle.mask.specs.Masks.{byte}
+use Rattle.mask.specs.Masks.{byte, has_card}
 use Rattle.slot.specs.Blocks.{in_set}
-use Rattle.tables.specs.Tables.{ended_on}
-use Rattle.tables.proofs.Ends.{all-ended, card_wise, none-ended, up_to}
+use Rattle.tables.proofs.Ends.{all-ended, card-off, card-on, card_wise, none-ended, up_to}
 use Rattle.tables.proofs.end_held.Goals as goal
+use Rattle.tables.proofs.end_held.Goals.{else-has, then-has}
 
 pub returns-then-set-eq0 : goal.returns-then-set-eq0
 returns-then-set-eq0 c =
@@ -29,10 +28,14 @@ loop-c-preserved c =
     let l = c.loop-c in
     let a = c.args in
     let f = card_wise (byte a.working) a.take (in_set a.set) in
-    c.end_card.ensures
-    ∙ ap (λ (on : Bool). within l.image (table_start l.c) table_size (ended_on on a.take (in_set a.set))) c.has-on.ensures
-    ∙ ap (λ (g : List ℕ). within g (table_start l.c) table_size (f l.c)) l.invariant
-    ∙ each_more f control_size table_size l.c a.image.now
+    let on = has_card (byte a.working) l.c in
+    let start : ℕ = table_start l.c in
+    let turned : within l.image start table_size (f l.c) ≡ up_to (byte a.working) a.take (in_set a.set) (l.c + 1) a.image.now =
+    ap (λ (g : List ℕ). within g start table_size (f l.c)) l.invariant ∙ each_more f control_size table_size l.c a.image.now in
+    elim c.if-has.branch [
+      | then-has w ↦ w.image-is ∙ w.end_card.ensures ∙ card-on a.take (in_set a.set) l.image start on (sym c.has.ensures ∙ w.if-has.true) ∙ turned
+      | else-has w ↦ w.image-is ∙ card-off a.take (in_set a.set) l.image start on (sym c.has.ensures ∙ w.if-has.false) (omega arith) ∙ turned
+    ]
 
 pub returns : goal.returns
 returns c =
