@@ -3,7 +3,7 @@
 
 mod ending;
 
-ghost use Rattle.std.specs.Prelude.{◌*◌, ◌+◌, ◌-◌, ◌<◌, ◌≤◌, length, true, ◌≡◌, IfErr, IfOk, IfSome, None, OnErr, OnOk};
+ghost use Rattle.std.specs.Prelude.{◌*◌, ◌+◌, ◌-◌, ◌<◌, ◌≤◌, length, ◌≡◌, IfErr, IfOk, IfSome, None, OnErr, OnOk};
 ghost use Rattle.lists.specs.Segments.{segment};
 ghost use Rattle.command.specs.Commands.{command_size};
 ghost use Rattle.lines.specs.Lines.{longest_line};
