@@ -7,7 +7,9 @@ use native.Mathlib.Omega.{arith}
 use lib.Dec.{eqb, leb, ltb}
 use lib.ListN.{drop, length, take}
 use lib.Seq.{length-take-le}
-use borrow.Author.Tests.{le-leb, lt-ltb, ltb-true}
+use borrow.Author.Tests.{le-leb, ltb-true}
+use Rattle.std.specs.Prelude.{IfSome, None, Some, is_some}
+use Rattle.std.specs.declared.option.Option.{Option}
 use Rattle.lists.specs.Segments.{segment, splice}
 use Rattle.lists.proofs.Bools.{and_l, and_r, and-when, not_is}
 use Rattle.lists.proofs.Segments.{get-put, length-segment}
@@ -17,35 +19,30 @@ use Rattle.lines.specs.Lines.{longest_line}
 use Rattle.lines.proofs.Puts.{puts_same}
 use Rattle.listing.specs.Listing.{Listed, command_count, has_room_for_all, image_behind, listing}
 use Rattle.console.specs.declared.Position.{Position}
-use Rattle.console.specs.Readings.{Advanced, Given, Standing, cut, gave, is_last, numbers_fit, performed, performed_size, position_behind, standing_after}
+use Rattle.console.specs.Readings.{Advanced, Given, Standing, cut, gave, numbers_fit, performed, performed_size, position_behind, standing, standing_after}
 use Rattle.console.proofs.Buffers.{at, cut-is, performed-is, performed_le}
 
 -- ---- the position behind
-abbrev position : ℕ → ℕ → ℕ → Bool → Position
-position number commands waiting t =
-    cond t (record { number = number + commands; waiting = waiting; more = true }) (record { number = number; waiting = waiting; more = false })
+abbrev position : ℕ → ℕ → ℕ → Bool → Option Position
+position number commands waiting t = cond t (Some (record { number = number + commands; waiting = waiting })) None
 
-pub behind-next : (number commands waiting : ℕ) (last : Bool) → last ≡ false → number + commands < 2 ^ 64
-    → ◌≡◌ {A = Position} (record { number = number + commands; waiting = waiting; more = true }) (position_behind number commands waiting last)
+-- what holds of it where the program goes on
+pub behind_if : (number commands waiting : ℕ) (last : Bool) (Q : Position → Type 0)
+    → ((not last && ltb (number + commands) (2 ^ 64)) ≡ true → Q (record { number = number + commands; waiting = waiting }))
+    → IfSome (position_behind number commands waiting last) Q
 unfolding position_behind
-behind-next number commands waiting last h k =
-    sym (ap (λ (t : Bool). position number commands waiting (not t && ltb (number + commands) (2 ^ 64))) h
-    ∙ ap (position number commands waiting) (lt-ltb (number + commands) (2 ^ 64) k))
-
-pub behind-waiting : (number commands waiting : ℕ) (last : Bool) → (position_behind number commands waiting last).waiting ≡ waiting
-unfolding position_behind
-behind-waiting number commands waiting last = go (not last && ltb (number + commands) (2 ^ 64))
+behind_if number commands waiting last Q f = go (not last && ltb (number + commands) (2 ^ 64)) refl
   where
-    go : (t : Bool) → (position number commands waiting t).waiting ≡ waiting
-    go true = refl
-    go false = refl
+    go : (t : Bool) → (not last && ltb (number + commands) (2 ^ 64)) ≡ t → IfSome (position number commands waiting t) Q
+    go true e = f e
+    go false e = tt
 
-pub behind_more : (number commands waiting : ℕ) (last : Bool)
-    → (position_behind number commands waiting last).more ≡ (not last && ltb (number + commands) (2 ^ 64))
+behind_more : (number commands waiting : ℕ) (last : Bool)
+    → is_some (position_behind number commands waiting last) ≡ (not last && ltb (number + commands) (2 ^ 64))
 unfolding position_behind
 behind_more number commands waiting last = go (not last && ltb (number + commands) (2 ^ 64))
   where
-    go : (t : Bool) → (position number commands waiting t).more ≡ t
+    go : (t : Bool) → is_some (position number commands waiting t) ≡ t
     go true = refl
     go false = refl
 
@@ -72,7 +69,7 @@ unfolding segment
 moved-start l e n h = get-put l 0 n (take n (drop e l)) (length-segment l e n h) (omega arith)
 
 -- ---- what the code did, said of the program's standing
-pub advanced : (number w got put e : ℕ) (l b out o : List ℕ) (g g' : Image) (next : Position)
+pub advanced : (number w got put e : ℕ) (l b out o : List ℕ) (g g' : Image) (next : Option Position)
     → w + got ≤ length l → command_count l * longest_line command_size ≤ length out → e ≡ performed_size (w + got) (eqb got 0)
     → Listed number (take e l) out g put o g' → b ≡ splice l 0 (segment l e (w + got - e))
     → next ≡ position_behind number (e / command_size) (w + got - e) (eqb got 0)
@@ -92,22 +89,16 @@ advanced number w got put e l b out o g g' next h k d ran moved behind =
     record {
       prints = puts_same (λ i. cond (fit i) (listing number (p i) g (command_count (p i))) []) ran.prints;
       leaves = image;
-      goes = ap (λ (x : Position). x.more) behind ∙ behind_more number (e / command_size) (w + got - e) last
+      goes = ap is_some behind ∙ behind_more number (e / command_size) (w + got - e) last
           ∙ and-when (not last) (ltb (number + e / command_size) (2 ^ 64)) (ltb (number + command_count (take e l)) (2 ^ 64))
           (λ t. ap (λ (n : ℕ). ltb (number + n) (2 ^ 64)) (count t))
           ∙ (λ i. not (eqb (len i) 0) && ltb (number + command_count (p i)) (2 ^ 64));
-      stands = λ on.
-          let some : not last ≡ true = subst (λ (n : ℕ). not (eqb n 0) ≡ true) (sym len) (and_l (not (is_last r)) (ltb (number + command_count (performed s r)) (2 ^ 64)) on) in
-          let n : ℕ = number + command_count (performed s r) in
-          let below : n < 2 ^ 64 = ltb-true n (2 ^ 64) (and_r (not (is_last r)) (ltb n (2 ^ 64)) on) in
-          let c : e / command_size ≡ command_count (performed s r) = count some ∙ ap command_count p in
-          let there : next ≡ record { number = number + e / command_size; waiting = w + got - e; more = true } =
-          behind ∙ sym (behind-next number (e / command_size) (w + got - e) last (not_is last some) (omega arith)) in
-          let waits : take next.waiting b ≡ cut s r =
-          ap (λ (x : Position). take x.waiting b) there ∙ ap (take (w + got - e)) moved
-          ∙ moved-start l e (w + got - e) (omega arith) ∙ q in
-          let num : next.number ≡ number + command_count (performed s r) = ap (λ (x : Position). x.number) there ∙ ap (λ (n : ℕ). number + n) c in
+      stands = subst (λ (x : Option Position). IfSome x (λ at. standing at b g' ≡ standing_after s r)) (sym behind)
+          (behind_if number (e / command_size) (w + got - e) last (λ at. standing at b g' ≡ standing_after s r) (λ on.
+          let c : e / command_size ≡ command_count (performed s r) = count (and_l (not last) (ltb (number + e / command_size) (2 ^ 64)) on) ∙ ap command_count p in
+          let below : number + e / command_size < 2 ^ 64 = ltb-true (number + e / command_size) (2 ^ 64) (and_r (not last) (ltb (number + e / command_size) (2 ^ 64)) on) in
+          let waits : take (w + got - e) b ≡ cut s r = ap (take (w + got - e)) moved ∙ moved-start l e (w + got - e) (omega arith) ∙ q in
           let im : g' ≡ (standing_after s r).image =
           image ∙ ap (λ (t : Bool). cond t (standing_after s r).image g) (le-leb (number + command_count (performed s r)) (2 ^ 64) (omega arith)) in
-          λ i. record { number = num i; waiting = waits i; image = im i };
+          λ i. record { number = number + c i; waiting = waits i; image = im i }));
     }

@@ -11,6 +11,8 @@ use lib.ListN.{length, length-append, length-take, take}
 use lib.Seq.{length-take-le, take_at}
 use borrow.Author.Tests.{eqb-false, leb-false, ltb-true}
 use borrow.Rule.Slice.PartMut.{put_mid}
+use Rattle.std.specs.Prelude.{IfSome, None, Some, is_some}
+use Rattle.std.specs.declared.option.Option.{Option}
 use Rattle.lists.proofs.Bools.{and_l, and_r, not_is, tf}
 use Rattle.cabinet_rules.specs.Images.{Image}
 use Rattle.command.specs.Commands.{command_size}
@@ -37,7 +39,7 @@ read_some {s} {s'} {x} {out} {left} {b} {step} {g} e a =
       given = x;
       leaves = a.leaves;
       goes = λ h. sym a.goes ∙ h;
-      stands = λ h. a.stands (sym a.goes ∙ h);
+      stands = a.stands;
     })
 
 -- ---- the bytes read rise
@@ -51,37 +53,31 @@ more-held s (gave r) h =
     omega (arith, held, eqb-false (length r) 0 h)
 more-held s read_failed h = tf true refl h
 
-pub rises : (s : Standing) (next : Position) (b : List ℕ) (g : Image) → ReadSome s next b g → next.more ≡ true
+rises : (s : Standing) (next : Position) (b : List ℕ) (g : Image) → ReadSome s (Some next) b g
     → s.number * command_size + length s.waiting < next.number * command_size + next.waiting
-rises s next b g a h =
+rises s next b g a =
     let x : Given = a.given in
-    let some : is_last x ≡ false = not_last s x (a.goes h) in
-    let n : next.number ≡ s.number + command_count (performed s x) = ap (λ (z : Standing). z.number) (a.stands h) in
-    let w : length (take next.waiting b) ≡ length (cut s x) = ap (λ (z : Standing). length z.waiting) (a.stands h) in
+    let some : is_last x ≡ false = not_last s x (a.goes refl) in
+    let n : next.number ≡ s.number + command_count (performed s x) = ap (λ (z : Standing). z.number) a.stands in
+    let w : length (take next.waiting b) ≡ length (cut s x) = ap (λ (z : Standing). length z.waiting) a.stands in
     let m : length (take next.waiting b) ≤ next.waiting = subst (λ (k : ℕ). k ≤ next.waiting) (sym (length-take next.waiting b)) (min-le_left next.waiting (length b)) in
     omega (arith, n, w, m, whole-size s x some, more-held s x some)
 
-pub below : (s : Standing) (next : Position) (b : List ℕ) (g : Image) → ReadSome s next b g → next.more ≡ true → next.number < 2 ^ 64
-below s next b g a h =
+below : (s : Standing) (next : Position) (b : List ℕ) (g : Image) → ReadSome s (Some next) b g → next.number < 2 ^ 64
+below s next b g a =
     let n : ℕ = s.number + command_count (performed s a.given) in
-    subst (λ (k : ℕ). k < 2 ^ 64) (sym (ap (λ (x : Standing). x.number) (a.stands h)))
-    (ltb-true n (2 ^ 64) (and_r (not (is_last a.given)) (ltb n (2 ^ 64)) (a.goes h)))
+    subst (λ (k : ℕ). k < 2 ^ 64) (sym (ap (λ (x : Standing). x.number) a.stands))
+    (ltb-true n (2 ^ 64) (and_r (not (is_last a.given)) (ltb n (2 ^ 64)) (a.goes refl)))
 
 -- how far the numbers can still rise
-abbrev bytes_left : Position → ℕ
-bytes_left at = 2 ^ 64 * command_size - (at.number * command_size + at.waiting) + 1
+abbrev pub turns_left : Option Position → ℕ
+turns_left None = 0
+turns_left (Some at) = 2 ^ 64 * command_size - (at.number * command_size + at.waiting) + 1
 
-abbrev pub turns_left : Position → ℕ
-turns_left at = cond at.more (bytes_left at) 0
-
-pub falls : (at next : Position) → at.more ≡ true → next.waiting < command_size
-    → (next.more ≡ true → at.number * command_size + at.waiting < next.number * command_size + next.waiting)
-    → (next.more ≡ true → next.number < 2 ^ 64) → turns_left next < turns_left at
-falls at next h w f n = subst (λ (k : ℕ). turns_left next < k) (sym (ap (λ (t : Bool). cond t (bytes_left at) 0) h)) (go next.more refl)
-  where
-    go : (t : Bool) → next.more ≡ t → cond t (bytes_left next) 0 < bytes_left at
-    go true e = omega (arith, f e, w, n e)
-    go false e = omega arith
+pub falls : (s : Standing) (at : Position) (next : Option Position) (b : List ℕ) (g : Image) → s.number ≡ at.number → length s.waiting ≡ at.waiting
+    → IfSome next (λ n. n.waiting < command_size) → ReadSome s next b g → turns_left next < turns_left (Some at)
+falls s at None b g e f w a = omega arith
+falls s at (Some n) b g e f w a = omega (arith, rises s n b g a, below s n b g a)
 
 -- ---- the commands performed
 -- the image is the one after an input's commands, which are whole while the program goes on
@@ -90,8 +86,8 @@ pub record Performed (first now : Image) (more : Bool) : Type 0 where
   pub leaves : now ≡ image_behind input first (command_count input)
   pub whole : more ≡ true → length input ≡ command_count input * command_size
 
-pub more-performed : (g : Image) (s : Standing) (next : Position) (b : List ℕ) (h : Image) → Performed g s.image true → ReadSome s next b h
-    → Performed g h next.more
+pub more-performed : (g : Image) (s : Standing) (next : Option Position) (b : List ℕ) (h : Image) → Performed g s.image true → ReadSome s next b h
+    → Performed g h (is_some next)
 more-performed g s next b h p a = go (numbers_fit s a.given) refl
   where
     r : Given
@@ -106,9 +102,9 @@ more-performed g s next b h p a = go (numbers_fit s a.given) refl
     parts : InParts 1 (command_count p.input) p.input (performed s a.given) g
     parts = in_parts 1 (command_count p.input) p.input (performed s a.given) g (p.whole refl)
 
-    go : (t : Bool) → numbers_fit s a.given ≡ t → Performed g h next.more
+    go : (t : Bool) → numbers_fit s a.given ≡ t → Performed g h (is_some next)
     go true e =
-        let size : next.more ≡ true → length x ≡ command_count x * command_size = λ m. whole-size s r (not_last s r (a.goes m)) in
+        let size : (is_some next) ≡ true → length x ≡ command_count x * command_size = λ m. whole-size s r (not_last s r (a.goes m)) in
         let n : length (l ++ x) ≡ length l + length x = length-append l x in
         let c : command_count (l ++ x) ≡ command_count l + command_count x = parts.counts in
         let k : length l ≡ command_count l * command_size = p.whole refl in

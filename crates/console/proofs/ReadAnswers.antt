@@ -3,7 +3,7 @@ use mathlib.Core.Path.{◌∙◌, ◌≡◌, ap, refl, subst, sym}
 use mathlib.Core.Bool.{Bool, cond, false, true}
 use mathlib.Core.List.{List, []}
 use Prim.Native.Nat.{zero-le, ℕ}
-use Rattle.std.specs.Prelude.{Err, IsErrAnd, MatchResult, Ok, OnOk, Result, is_ok}
+use Rattle.std.specs.Prelude.{Err, IsErrAnd, MatchResult, None, Ok, OnOk, Result, is_ok}
 use Rattle.console.specs.declared.ending.Failure.{Failure}
 use Rattle.lists.specs.Segments.{segment}
 use Rattle.lists.proofs.Bools.{tf}
@@ -12,7 +12,7 @@ use Rattle.lines.proofs.Puts.{puts_none, puts_same}
 use Rattle.listing.specs.Listing.{image_behind, listing}
 use Rattle.console.specs.declared.Position.{Position}
 use Rattle.console.specs.declared.Step.{Step}
-use Rattle.console.specs.Readings.{Advanced, Given, Standing, gave, given_by, given_size, numbers_fit, performed, read_failed, standing, stopped_at}
+use Rattle.console.specs.Readings.{Advanced, Given, Standing, gave, given_by, given_size, numbers_fit, performed, read_failed, standing}
 
 -- ---- the answer: a number of bytes, or an error
 -- what a read gave, by its answer
@@ -31,16 +31,16 @@ pub advanced-same : {s : Standing} {x y : Given} {out left b : List ℕ} {step :
 advanced-same {s} {x} {y} {out} {left} {b} {step} {g} e a = subst (λ (z : Given). Advanced s z out step left b g) e a
 
 -- ---- a read that failed
-pub failed-step : (at next : Position) (l out : List ℕ) (g : Image) → next ≡ stopped_at at
-    → Advanced (standing at l g) read_failed out (record { put = 0; next = next }) out l g
+pub failed-step : (at : Position) (l out : List ℕ) (g : Image)
+    → Advanced (standing at l g) read_failed out (record { put = 0; next = None }) out l g
 unfolding performed image_behind listing
-failed-step at next l out g e =
+failed-step at l out g =
     let s : Standing = standing at l g in
     record {
       prints = puts_same (none (numbers_fit s read_failed)) (puts_none out 0 zero-le);
       leaves = same (numbers_fit s read_failed);
-      goes = ap (λ (x : Position). x.more) e;
-      stands = λ h. tf false h refl;
+      goes = refl;
+      stands = tt;
     }
   where
     none : (t : Bool) → ◌≡◌ {A = List ℕ} [] (cond t [] [])

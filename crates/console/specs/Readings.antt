@@ -1,6 +1,6 @@
 -- The program over its readings: RULES, "Commands and the listing". An input comes in readings of any length; one that
 -- gives no byte is its end, and a read that fails performs nothing. Assumes nothing.
-use Rattle.std.specs.Prelude.{◌%◌, ◌*◌, ◌+◌, ◌-◌, ◌^◌, ℕ, eqb, leb, ltb, Result, Ok, Err, IfSome, drop, length, take, Bool, ◌&&◌, cond, false, not, true, List, ◌++◌, ◌∷◌, [], ◌<◌, ◌≡◌}
+use Rattle.std.specs.Prelude.{◌%◌, ◌*◌, ◌+◌, ◌-◌, ◌^◌, ℕ, eqb, leb, ltb, Result, Ok, Err, IfSome, None, Some, is_some, drop, length, take, Bool, ◌&&◌, cond, not, true, List, ◌++◌, ◌∷◌, [], ◌<◌, ◌≡◌}
 use Rattle.std.specs.Io.KnownBytes.{Appends, Consumes, IsAtEnd, Keeps}
 use Rattle.std.specs.declared.option.Option.{Option}
 use Rattle.lists.specs.Segments.{segment}
@@ -122,18 +122,15 @@ numbers_fit s given = leb (s.number + command_count (performed s given)) (2 ^ 64
 abbrev pub goes_on : Standing → Given → Bool
 goes_on s given = not (is_last given) && ltb (s.number + command_count (performed s given)) (2 ^ 64)
 
--- The program's position before the first reading, and behind so many commands, where so many bytes wait.
+-- The program's position before the first reading, and behind so many commands, where so many bytes wait: none where the
+-- program does not go on.
 abbrev pub first_position : Position
-first_position = record { number = 1; waiting = 0; more = true }
+first_position = record { number = 1; waiting = 0 }
 
-unfoldable pub position_behind : ℕ → ℕ → ℕ → Bool → Position
+unfoldable pub position_behind : ℕ → ℕ → ℕ → Bool → Option Position
 position_behind number commands waiting last = cond (not last && ltb (number + commands) (2 ^ 64))
-    (record { number = number + commands; waiting = waiting; more = true })
-    (record { number = number; waiting = waiting; more = false })
-
--- A position from which the program does not go on.
-abbrev pub stopped_at : Position → Position
-stopped_at at = record { number = at.number; waiting = at.waiting; more = false }
+    (Some (record { number = number + commands; waiting = waiting }))
+    None
 
 -- Bytes wait at the start of a buffer, and the program's position has their count and the number of the next command.
 abbrev pub standing : Position → List ℕ → Image → Standing
@@ -144,24 +141,24 @@ standing at buffer g = record { number = at.number; waiting = take at.waiting bu
 pub record Advanced (s : Standing) (given : Given) (out : List ℕ) (step : Step) (left buffer : List ℕ) (behind : Image) : Type 0 where
   pub prints : Puts (cond (numbers_fit s given) (lines_of s given) []) out 0 step.put left
   pub leaves : behind ≡ cond (numbers_fit s given) (standing_after s given).image s.image
-  pub goes : step.next.more ≡ goes_on s given
-  pub stands : goes_on s given ≡ true → standing step.next buffer behind ≡ standing_after s given
+  pub goes : is_some step.next ≡ goes_on s given
+  pub stands : IfSome step.next (λ next. standing next buffer behind ≡ standing_after s given)
 
 -- The same of a read that the operating system answered as it chose. Nothing is known of its bytes.
-pub record ReadSome (s : Standing) (next : Position) (buffer : List ℕ) (behind : Image) : Type 0 where
+pub record ReadSome (s : Standing) (next : Option Position) (buffer : List ℕ) (behind : Image) : Type 0 where
   pub given : Given
   pub leaves : behind ≡ cond (numbers_fit s given) (standing_after s given).image s.image
-  pub goes : next.more ≡ true → goes_on s given ≡ true
-  pub stands : next.more ≡ true → standing next buffer behind ≡ standing_after s given
+  pub goes : is_some next ≡ true → goes_on s given ≡ true
+  pub stands : IfSome next (λ at. standing at buffer behind ≡ standing_after s given)
 
 -- The same of a read that gave a reading, and of what is known of the bytes that the reader has left and that the writer
 -- holds: the reading was the first of the bytes left, and all of them where it has no byte; its lines were written behind
 -- the bytes held.
-pub record ReadOne (s : Standing) (next : Position) (buffer : List ℕ) (behind : Image) (left left_behind held held_behind : Option (List ℕ)) : Type 0 where
+pub record ReadOne (s : Standing) (next : Option Position) (buffer : List ℕ) (behind : Image) (left left_behind held held_behind : Option (List ℕ)) : Type 0 where
   pub reading : List ℕ
   pub leaves : behind ≡ cond (numbers_fit s (gave reading)) (standing_after s (gave reading)).image s.image
-  pub goes : next.more ≡ goes_on s (gave reading)
-  pub stands : next.more ≡ true → standing next buffer behind ≡ standing_after s (gave reading)
+  pub goes : is_some next ≡ goes_on s (gave reading)
+  pub stands : IfSome next (λ at. standing at buffer behind ≡ standing_after s (gave reading))
   pub takes : Consumes left left_behind reading
   pub ends : is_end reading ≡ true → IsAtEnd left_behind
   pub writes : Appends held held_behind (cond (numbers_fit s (gave reading)) (lines_of s (gave reading)) [])

@@ -3,7 +3,7 @@
 
 mod ending;
 
-ghost use Rattle.std.specs.Prelude.{◌*◌, ◌+◌, ◌-◌, ◌<◌, ◌≤◌, length, true, ◌≡◌, IfErr, IfOk, OnErr, OnOk};
+ghost use Rattle.std.specs.Prelude.{◌*◌, ◌+◌, ◌-◌, ◌<◌, ◌≤◌, length, ◌≡◌, IfErr, IfOk, IfSome, None, OnErr, OnOk};
 ghost use Rattle.lists.specs.Segments.{segment};
 ghost use Rattle.command.specs.Commands.{command_size};
 ghost use Rattle.lines.specs.Lines.{longest_line};
@@ -23,7 +23,6 @@ ghost use Rattle.console.specs.Readings.{
   performed_size,
   position_behind,
   standing,
-  stopped_at,
 };
 
 pub use ending::Failure;
@@ -37,20 +36,20 @@ const INPUT_SIZE: usize = COMMANDS * command::SIZE;
 
 const OUTPUT_SIZE: usize = COMMANDS * listing::LONGEST_LINE;
 
-// Where the program is in its input: the number of the next command, how many of its bytes wait at the start of the
-// input buffer, and whether the program reads on.
+// Where the program is in its input: the number of the next command, and how many of its bytes wait at the start of the
+// input buffer.
 #[derive(Clone, Copy)]
 struct Position {
     number: u64,
     waiting: usize,
-    more: bool,
 }
 
-// What a reading leads to: how many bytes of lines were put into the output buffer, and the next position.
+// What a reading leads to: how many bytes of lines were put into the output buffer, and the next position, if the program
+// reads on.
 #[derive(Clone, Copy)]
 struct Step {
     put: usize,
-    next: Position,
+    next: Option<Position>,
 }
 
 // The position before the first reading.
@@ -60,7 +59,6 @@ fn first_position() -> Position
     Position {
         number: 1,
         waiting: 0,
-        more: true,
     }
 }
 
@@ -78,21 +76,14 @@ fn performed_size(held: usize, last: bool) -> usize
 // The position behind these commands, where so many bytes wait. The program stops where the next number would pass 64
 // bits.
 #[tactic(auto, unfolding(crate::specs::Readings::position_behind))]
-fn position_behind(number: u64, commands: usize, waiting: usize, last: bool) -> Position
+fn position_behind(number: u64, commands: usize, waiting: usize, last: bool) -> Option<Position>
     ensures { result ≡ position_behind number commands waiting last }
 {
-    match number.checked_add(commands as u64) {
-        Some(number) if !last => Position {
-            number,
-            waiting,
-            more: true,
-        },
-        _ => Position {
-            number,
-            waiting,
-            more: false,
-        },
+    if last {
+        return None;
     }
+    let number = number.checked_add(commands as u64)?;
+    Some(Position { number, waiting })
 }
 
 // Performs a reading, which stands in the input buffer behind the bytes that wait, and puts its lines into the output
@@ -105,7 +96,7 @@ fn perform(image: &mut [u8], at: Position, got: usize, input: &mut [u8], out: &m
         (gave (segment input.old at.waiting got)) out.old result out.new
         input.new image.new
         × (result.put ≤ length out.old)
-        × (result.next.waiting < command_size) }
+        × IfSome result.next (λ next. next.waiting < command_size) }
 {
     let held = at.waiting + got;
     let end = performed_size(held, got == 0);
@@ -113,13 +104,6 @@ fn perform(image: &mut [u8], at: Position, got: usize, input: &mut [u8], out: &m
     input.copy_within(end..held, 0);
     let next = position_behind(at.number, end / command::SIZE, held - end, got == 0);
     Step { put, next }
-}
-
-// The position of a program that reads no more.
-fn stopped(at: Position) -> Position
-    ensures { result ≡ stopped_at at }
-{
-    Position { more: false, ..at }
 }
 
 // Performs what a read gave, by the answer to it. One that failed performs nothing: the rest of a cut command may follow,
@@ -138,14 +122,11 @@ fn advance(
         (given_by got at.waiting input.old) out.old result out.new input.new
         image.new
         × (result.put ≤ length out.old)
-        × (result.next.waiting < command_size) }
+        × IfSome result.next (λ next. next.waiting < command_size) }
 {
     match got {
         Ok(size) => perform(image, at, size, input, out),
-        Err(_) => Step {
-            put: 0,
-            next: stopped(at),
-        },
+        Err(_) => Step { put: 0, next: None },
     }
 }
 
@@ -158,15 +139,15 @@ fn read_on<R: Read, W: Write>(
     writer: &mut W,
     input: &mut [u8],
     out: &mut [u8],
-) -> Result<Position, Failure>
+) -> Result<Option<Position>, Failure>
     requires waits_for_rest { at.waiting < command_size }
     requires room_for_command { command_size ≤ length input.old }
     requires room_for_lines { command_count input.old * longest_line command_size ≤ length out.old }
     ensures one { IfOk result (λ next. ReadOne (standing at input.old image.old) next
         input.new image.new (R.remaining reader.old) (R.remaining reader.new)
         (W.contents writer.old) (W.contents writer.new)) }
-    ensures waits { IfOk result (λ next. next.waiting < command_size) }
-    ensures some { OnErr result (ReadSome (standing at input.old image.old) (stopped_at at)
+    ensures waits { IfOk result (λ next. IfSome next (λ at. at.waiting < command_size)) }
+    ensures some { OnErr result (ReadSome (standing at input.old image.old) None
         input.new image.new) }
     ensures failed { IfErr result (NoneRead image.old image.new (R.remaining reader.old)
         (R.remaining reader.new) (W.contents writer.old) (W.contents writer.new)) }
@@ -195,9 +176,9 @@ fn read_all<R: Read, W: Write>(
     ensures failed { IfErr result (ListsRead image.old image.new (R.remaining reader.old)
         (R.remaining reader.new) (W.contents writer.old) (W.contents writer.new)) }
 {
-    let mut at = first_position();
-    while at.more {
-        at = read_on(image, at, reader, writer, input, out)?;
+    let mut next = Some(first_position());
+    while let Some(at) = next {
+        next = read_on(image, at, reader, writer, input, out)?;
     }
     Ok(())
 }

@@ -1,16 +1,20 @@
 -- A step and a run of them: the laws that finish their proofs. Assumes nothing.
 use mathlib.Core.Path.{◌∙◌, ◌≡◌, ap, refl, subst, sym}
 use mathlib.Core.Bool.{Bool, cond, false, true}
-use mathlib.Core.List.{List, ◌++◌, []}
-use Prim.Native.Nat.{◌*◌, ◌+◌, ◌-◌, ◌^◌, ◌≤◌, ℕ, zero-le}
+use mathlib.Core.List.{List, ◌++◌, [], append-nil}
+use Prim.Native.Nat.{◌*◌, ◌+◌, ◌-◌, ◌<◌, ◌^◌, ◌≤◌, ℕ, zero-le}
 use native.Mathlib.Omega.{arith}
 use native.Mathlib.Numerals.{add-one}
 use lib.Dec.{leb}
-use lib.ListN.{drop, length, length-drop, length-take}
+use lib.ListN.{drop, length, length-append, length-drop, length-take, take}
 use borrow.Rule.Slice.PartMut.{mid_of, put_mid}
-use lib.Seq.{take_all}
+use lib.Seq.{drop-append_seam, drop-drop, take-append_seam, take_all}
 use native.Mathlib.Nat.{min-le_left}
 use borrow.Author.Tests.{le-leb, leb-true}
+use mathlib.Core.Logic.{⊎_elim}
+use Rattle.std.specs.Prelude.{min}
+use Rattle.std.proofs.lemmas.List.{nil_from_length}
+use Rattle.lists.proofs.Cases.{lt-or-ge}
 use Rattle.lists.specs.Segments.{segment}
 use Rattle.lists.proofs.Bools.{and_l, and_r}
 use Rattle.image.proofs.Parts.{length_part}
@@ -50,10 +54,27 @@ pub stepped : {n : ℕ} {command out : List ℕ} {g : Image} {end : ℕ} {o : Li
 stepped {n} {command} {out} {g} {end} {o} {g'} h s = subst (Chosen n command out g end o g') h (s.prints, s.leaves)
 
 -- ---- the commands of an input
-pub last-command : (l : List ℕ) (a n : ℕ) → length l - a ≤ n → segment l a (length l - a) ≡ segment l a n
+-- a chunk that comes off what is left behind n commands is the next command
+pub chunk-is : (l rest chunk next : List ℕ) (n : ℕ) → rest ≡ drop (n * command_size) l → rest ≡ chunk ++ next → length chunk ≡ min command_size (length rest)
+    → (chunk ≡ command_bytes l n) × (next ≡ drop ((n + 1) * command_size) l)
 unfolding segment
-last-command l a n h =
-    take_all (length l - a) (drop a l) (omega (arith, length-drop a l)) ∙ sym (take_all n (drop a l) (omega (arith, length-drop a l)))
+chunk-is l rest chunk next n left parts size =
+    let sum : length rest ≡ length chunk + length next = ap length parts ∙ length-append chunk next in
+    let all : length rest ≡ length l - n * command_size = ap length left ∙ length-drop (n * command_size) l in
+    ⊎_elim (λ (short : length rest < command_size).
+    let none : next ≡ [] = nil_from_length next (omega arith) in
+    let whole : rest ≡ chunk = parts ∙ ap (λ (t : List ℕ). chunk ++ t) none ∙ append-nil chunk in (
+      sym whole ∙ left ∙ sym (take_all command_size (drop (n * command_size) l) (omega (arith, length-drop (n * command_size) l))),
+      none ∙ sym (nil_from_length (drop ((n + 1) * command_size) l) (omega (arith, length-drop ((n + 1) * command_size) l))),
+    ))
+    (λ (long : command_size ≤ length rest).
+    let five : length chunk ≡ command_size = omega arith in
+    let there : chunk ++ next ≡ drop (n * command_size) l = sym parts ∙ left in
+    let more : n * command_size + command_size ≡ (n + 1) * command_size = omega arith in (
+      sym (take-append_seam chunk next) ∙ (λ i. take (five i) (there i)),
+      sym (drop-append_seam chunk next) ∙ (λ i. drop (five i) (there i)) ∙ drop-drop command_size (n * command_size) l ∙ ap (λ (m : ℕ). drop m l) more,
+    ))
+    (lt-or-ge (length rest) command_size)
 
 -- a command has at most five bytes
 pub command_short : (l : List ℕ) (a : ℕ) → length (segment l a command_size) ≤ command_size
@@ -61,16 +82,13 @@ unfolding segment
 command_short l a = subst (λ (n : ℕ). n ≤ command_size) (sym (length-take command_size (drop a l))) (min-le_left command_size (length (drop a l)))
 
 -- a command of the input, performed with its line in a part of the buffer
-pub turned : (n at end k start stop i : ℕ) (input out part : List ℕ) (g g' : Image)
-    → start ≡ i * command_size → segment input start (stop - start) ≡ segment input start command_size
-    → k ≡ length out - at → at + longest_line command_size ≤ length out
-    → Stepped n (segment input start (stop - start)) (mid_of at k out) g end part g'
-    → end ≤ longest_line (length (segment input start (stop - start)))
+pub turned : (n at end k i : ℕ) (input bytes out part : List ℕ) (g g' : Image)
+    → bytes ≡ command_bytes input i → k ≡ length out - at → at + longest_line command_size ≤ length out
+    → Stepped n bytes (mid_of at k out) g end part g' → end ≤ longest_line (length bytes)
     → Puts (line_on n (command_bytes input i) g) out at (at + end) (put_mid at k out part)
     × (at + end ≤ at + longest_line command_size) × (g' ≡ command_next (command_bytes input i) g)
 unfolding has_room
-turned n at end k start stop i input out part g g' e f h r s m =
-    let d : segment input start (stop - start) ≡ command_bytes input i = f ∙ ap (λ (a : ℕ). segment input a command_size) e in
+turned n at end k i input bytes out part g g' d h r s m =
     let s' : Stepped n (command_bytes input i) (mid_of at k out) g end part g' = subst (λ (l : List ℕ). Stepped n l (mid_of at k out) g end part g') d s in
     let m' : end ≤ longest_line (length (command_bytes input i)) = subst (λ (l : List ℕ). end ≤ longest_line (length l)) d m in
     let short : length (command_bytes input i) ≤ command_size = command_short input (i * command_size) in
@@ -105,6 +123,11 @@ listed_by n input out g end o g' t e p =
 
 pub no_run : (n : ℕ) (input out : List ℕ) (g : Image) → false ≡ has_room_for_all n input out → Listed n input out g 0 out g
 no_run n input out g h = listed_by n input out g 0 out g false h (puts_none out 0 zero-le, refl)
+
+pub whole_run : (n i end : ℕ) (input out o : List ℕ) (g g' : Image) → true ≡ has_room_for_all n input out → i ≡ command_count input
+    → Puts (listing n input g i) out 0 end o → g' ≡ image_behind input g i → Listed n input out g end o g'
+whole_run n i end input out o g g' h e p q =
+    listed_by n input out g end o g' true h (puts_same (ap (listing n input g) e) p, q ∙ ap (image_behind input g) e)
 
 -- ---- room for all
 pub room_out : (n : ℕ) (input out : List ℕ) → has_room_for_all n input out ≡ true

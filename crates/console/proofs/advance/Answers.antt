@@ -1,9 +1,6 @@
 -- A read that failed is told by its answer; of any other the answer is the length of the reading. Assumes nothing.
-use mathlib.Core.Path.{subst, sym}
-use Prim.Native.Nat.{◌<◌, zero-le}
+use Prim.Native.Nat.{zero-le}
 use native.Mathlib.Omega.{arith}
-use Rattle.command.specs.Commands.{command_size}
-use Rattle.console.specs.declared.Position.{Position}
 use Rattle.console.proofs.ReadAnswers.{advanced-same, failed-step, given-err, given-ok, size-ok}
 use Rattle.console.proofs.advance.Goals as goal
 
@@ -22,9 +19,4 @@ returns-in-Ok c =
 pub returns-in-Err : goal.returns-in-Err
 returns-in-Err c =
     let a = c.args in
-    let e = c.stopped.ensures in (
-      advanced-same (given-err _ _ a.at.waiting a.input.now c.in-Err.is)
-          (failed-step a.at c.stopped.result a.input.now a.out.now a.image.now e),
-      zero-le,
-      subst (λ (p : Position). p.waiting < command_size) (sym e) c.requires.waits_for_rest,
-    )
+    (advanced-same (given-err _ _ a.at.waiting a.input.now c.in-Err.is) (failed-step a.at a.input.now a.out.now a.image.now), zero-le, tt)

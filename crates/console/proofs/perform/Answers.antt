@@ -1,12 +1,14 @@
 -- What the callees did is what a reading leads to (`advanced`); the cut bytes come to the start of the buffer after the
 -- commands before them were performed. Assumes nothing.
-use mathlib.Core.Path.{◌∙◌, ◌≡◌, ap, subst, sym}
-use Prim.Native.Nat.{◌+◌, ◌-◌, ◌<◌, ◌≤◌, ℕ}
+use mathlib.Core.Path.{◌∙◌, ◌≡◌, subst, sym}
+use Prim.Native.Nat.{◌+◌, ◌-◌, ◌/◌, ◌<◌, ◌≤◌, ℕ}
 use lib.Dec.{eqb}
+use Rattle.std.specs.Prelude.{IfSome}
+use Rattle.std.specs.declared.option.Option.{Option}
 use Rattle.command.specs.Commands.{command_size}
 use Rattle.console.specs.Readings.{performed_size}
 use Rattle.console.specs.declared.Position.{Position}
-use Rattle.console.proofs.Advances.{advanced, behind-waiting}
+use Rattle.console.proofs.Advances.{advanced, behind_if}
 use Rattle.console.proofs.Buffers.{moved, rest-short, performed_le}
 use Rattle.console.proofs.perform.Goals as goal
 
@@ -26,6 +28,6 @@ returns c =
       advanced a.at.number a.at.waiting a.got r.result e.result a.input.now _ a.out.now _ a.image.now _ c.position_behind-next.result pre.got_in_bounds pre.room_for_lines
           e.ensures r.ensures.0 (c.copy_within.ensures.after ∙ moved a.input.now e.result (a.at.waiting + a.got) held pre.got_in_bounds) c.position_behind-next.ensures,
       r.ensures.1,
-      subst (λ (n : ℕ). n < command_size)
-          (sym (ap (λ (p : Position). p.waiting) c.position_behind-next.ensures ∙ behind-waiting a.at.number _ (a.at.waiting + a.got - e.result) (eqb a.got 0))) short,
+      subst (λ (x : Option Position). IfSome x (λ next. next.waiting < command_size)) (sym c.position_behind-next.ensures)
+          (behind_if a.at.number (e.result / command_size) (a.at.waiting + a.got - e.result) (eqb a.got 0) (λ next. next.waiting < command_size) (λ on. short)),
     )

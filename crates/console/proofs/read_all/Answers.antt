@@ -1,73 +1,81 @@
 -- The image is the one after the commands performed, which are whole while the program goes on; the bytes read rise.
 -- Assumes nothing.
 use mathlib.Core.Path.{◌∙◌, refl, subst, sym}
-use mathlib.Core.Bool.{Bool, true}
 use Prim.Native.Nat.{◌<◌}
 use native.Mathlib.Omega.{arith}
 use lib.Seq.{length-take-le}
+use Rattle.std.specs.Prelude.{IfSome, None, Some}
+use Rattle.std.specs.declared.option.Option.{Option}
 use Rattle.std.proofs.lemmas.Result.{err_from_is_err_and}
 use Rattle.command.specs.Commands.{command_size}
 use Rattle.console.specs.declared.Position.{Position}
-use Rattle.console.specs.Readings.{Standing, standing, stopped_at}
-use Rattle.console.proofs.Known.{Listed, lists_known, lists_read, more_listed, none_listed, performed_of, some_of}
-use Rattle.console.proofs.Loop.{Performed, below, falls, more-performed, ran-some, rises}
+use Rattle.console.specs.Readings.{standing}
+use Rattle.console.proofs.Known.{Listed, listed_at, lists_known, lists_read, more_listed, none_listed, performed_of, some_of}
+use Rattle.console.proofs.Loop.{falls, more-performed, ran-some, turns_left}
 use Rattle.console.proofs.read_all.Goals as goal
 
-pub loop-at-init : goal.loop-at-init
-loop-at-init g c =
+pub loop-next-init : goal.loop-next-init
+loop-next-init g c =
     let a = c.args in
-    let e = c.first_position-at.ensures in
+    let e = c.first_position.ensures in
     let left = g.R.Read.remaining a.reader.now in
     let held = g.W.Write.contents a.writer.now in (
       refl,
       refl,
       refl,
       subst (λ (p : Position). p.waiting < command_size) (sym e) (omega arith),
-      subst (λ (p : Position). Listed a.image.now a.image.now p a.input.now left left held held)
+      subst (λ (p : Position). Listed a.image.now a.image.now (Some p) a.input.now left left held held)
           (sym e) (none_listed a.image.now a.input.now _ _),
     )
 
-pub returns-in_err-at-clause-some : goal.returns-in_err-at-clause-some
-returns-in_err-at-clause-some g c =
+pub returns-in_err-next-clause-some : goal.returns-in_err-next-clause-some
+returns-in_err-next-clause-some g c =
     let a = c.args in
-    let l = c.loop-at in
-    let p : Performed a.image.now l.image true = subst (λ (m : Bool). Performed a.image.now l.image m) c.loop-at-test.true (performed_of l.invariant.4) in
+    let l = c.loop-next in
+    let at : Position = c.in-Some.at in
     let r = c.read_on in
-    ran-some (more-performed a.image.now (standing l.at l.input l.image) (stopped_at l.at) r.new.input r.new.image p c.in_err-at.ensures.some)
+    let listed = listed_at c.in-Some.is l.invariant.4 in
+    ran-some (more-performed a.image.now (standing at l.input l.image) None r.new.input r.new.image (performed_of listed) c.in_err-next.ensures.some)
 
-pub returns-in_err-at-clause-failed : goal.returns-in_err-at-clause-failed
-returns-in_err-at-clause-failed g c =
+pub returns-in_err-next-clause-failed : goal.returns-in_err-next-clause-failed
+returns-in_err-next-clause-failed g c =
     let a = c.args in
-    let l = c.loop-at in
+    let l = c.loop-next in
+    let at : Position = c.in-Some.at in
     let r = c.read_on in
     let p = err_from_is_err_and c.from_residual.result c.from_residual.ensures.1 in
+    let waits : at.waiting < command_size = subst (λ (x : Option Position). IfSome x (λ q. q.waiting < command_size)) c.in-Some.is l.invariant.3 in
+    let listed = listed_at c.in-Some.is l.invariant.4 in
     rw (p.1, p.2)
-    (lists_read a.image.now l.image r.new.image l.at l.input _ _ _ _ _ _ c.in_err-at.field-0.0 l.invariant.4 c.loop-at-test.true l.invariant.3
-    (omega (arith, l.invariant.1, l.invariant.3, c.requires.room_for_command)) c.in_err-at.ensures.failed)
+    (lists_read a.image.now l.image r.new.image at l.input _ _ _ _ _ _ c.in_err-next.field-0.0 listed waits
+    (omega (arith, l.invariant.1, waits, c.requires.room_for_command)) c.in_err-next.ensures.failed)
 
-pub loop-at-smaller : goal.loop-at-smaller
-loop-at-smaller g c =
-    let l = c.loop-at in
-    let next : Position = c.in_ok-at.at in
+pub loop-next-smaller : goal.loop-next-smaller
+loop-next-smaller g c =
+    let l = c.loop-next in
+    let at : Position = c.in-Some.at in
     let r = c.read_on in
-    let s : Standing = standing l.at l.input l.image in
-    let some = some_of {s = s} c.in_ok-at.ensures.one in
-    let w = length-take-le l.at.waiting l.input (omega (arith, l.invariant.1, l.invariant.3, c.requires.room_for_command)) in
-    falls l.at next c.loop-at-test.true c.in_ok-at.ensures.waits (λ h. omega (arith, w, rises s next r.new.input r.new.image some h)) (below s next r.new.input r.new.image some)
+    let waits : at.waiting < command_size = subst (λ (x : Option Position). IfSome x (λ q. q.waiting < command_size)) c.in-Some.is l.invariant.3 in
+    let w = length-take-le at.waiting l.input (omega (arith, l.invariant.1, waits, c.requires.room_for_command)) in
+    let some = some_of {s = standing at l.input l.image} c.in_ok-next.ensures.one in
+    subst (λ (x : Option Position). turns_left c.in_ok-next.next < turns_left x) (sym c.in-Some.is)
+    (falls (standing at l.input l.image) at c.in_ok-next.next r.new.input r.new.image refl w c.in_ok-next.ensures.waits some)
 
-pub loop-at-preserved : goal.loop-at-preserved
-loop-at-preserved g c =
+pub loop-next-preserved : goal.loop-next-preserved
+loop-next-preserved g c =
     let a = c.args in
-    let l = c.loop-at in
-    let r = c.read_on in (
+    let l = c.loop-next in
+    let at : Position = c.in-Some.at in
+    let r = c.read_on in
+    let listed = listed_at c.in-Some.is l.invariant.4 in (
       r.auto.image ∙ l.invariant.0,
       r.auto.input ∙ l.invariant.1,
       r.auto.out ∙ l.invariant.2,
-      c.in_ok-at.ensures.waits,
-      more_listed a.image.now l.image r.new.image l.at c.in_ok-at.at l.input r.new.input _ _ _ _ _ _ l.invariant.4 c.loop-at-test.true c.in_ok-at.ensures.one,
+      c.in_ok-next.ensures.waits,
+      more_listed a.image.now l.image r.new.image at c.in_ok-next.next l.input r.new.input _ _ _ _ _ _ listed c.in_ok-next.ensures.one,
     )
 
 pub returns-clause-known : goal.returns-clause-known
 returns-clause-known g c =
-    let l = c.loop-at in
-    lists_known c.args.image.now l.image l.at l.input _ _ _ _ l.invariant.4 c.loop-at-test.false
+    let l = c.loop-next in
+    lists_known c.args.image.now l.image l.next l.input _ _ _ _ l.invariant.4 c.in_default.is
