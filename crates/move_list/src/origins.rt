@@ -65,12 +65,10 @@ pub fn any_locked(image: &[u8], from: u8, block: Block) -> bool
     ensures { result ≡ any_below card_count
         (λ c. has_card (byte from) c && some_locked (block_in image.now c block.0)) }
 {
-    let mut c: u8 = 0;
-    while c < Placement::MOST_CARDS {
+    for c in 0..Placement::MOST_CARDS {
         if locked_at(image, from, Card(c), block) {
             return true;
         }
-        c += 1;
     }
     false
 }

@@ -26,8 +26,8 @@ fn settled_by(image: &[u8], k: Control, sites: &[u8], round: usize) -> bool
     ensures { result ≡ settled cabinet (control_in image.now) (view_of image.now) }
 {
     let mut place: usize = 0;
-    let mut b = 0;
-    while b < BLOCK_COUNT {
+    for two in 0..BLOCK_COUNT / 2 {
+        let b = 2 * two;
         let held = trail::held_by_two(image, k.working, Block(b as u8));
         if !looking::block_settled(held.first, sites[place]) {
             return false;
@@ -37,7 +37,6 @@ fn settled_by(image: &[u8], k: Control, sites: &[u8], round: usize) -> bool
             return false;
         }
         place = next_place(round, next);
-        b += 2;
     }
     true
 }

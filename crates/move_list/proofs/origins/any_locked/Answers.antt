@@ -1,16 +1,13 @@
 -- No member before c has a locked slot: a search that stops at the first that has one. Assumes nothing.
-use Prim.Native.Nat.{◌-◌, ℕ}
+use Prim.Native.Nat.{ℕ}
 use mathlib.Core.Bool.{false}
-use mathlib.Core.Path.{◌∙◌, ◌≡◌, ap, refl, sym}
+use mathlib.Core.Path.{◌∙◌, ◌≡◌, ap, sym}
 use native.Mathlib.Omega.{arith}
 use Rattle.lists.specs.Tests.{any_below}
 use Rattle.lists.proofs.Counts.{any_below_lem, any-more}
 use Rattle.image.specs.Layout.{card_count}
 use Rattle.move_list.proofs.origins.any_locked.Invariants.{locked_at}
 use Rattle.move_list.proofs.origins.any_locked.Goals as goal
-
-pub loop-c-init : goal.loop-c-init
-loop-c-init c = (omega arith, refl)
 
 pub returns-then-locked_at : goal.returns-then-locked_at
 returns-then-locked_at c =
@@ -20,10 +17,10 @@ returns-then-locked_at c =
 pub loop-c-preserved : goal.loop-c-preserved
 loop-c-preserved c =
     let a = c.args in
-    (omega arith, any-more (locked_at a.image.now a.from a.block.0) c.loop-c.c (sym c.locked_at.ensures ∙ c.if-locked_at.false) c.loop-c.invariant.1)
+    any-more (locked_at a.image.now a.from a.block.0) c.loop-c.c (sym c.locked_at.ensures ∙ c.if-locked_at.false) c.loop-c.invariant
 
 pub returns : goal.returns
 returns c =
     let a = c.args in
     let e : c.loop-c.c ≡ card_count = omega arith in
-    sym (ap (λ (n : ℕ). any_below n (locked_at a.image.now a.from a.block.0)) (sym e) ∙ c.loop-c.invariant.1)
+    sym (ap (λ (n : ℕ). any_below n (locked_at a.image.now a.from a.block.0)) (sym e) ∙ c.loop-c.invariant)

@@ -1,9 +1,8 @@
 -- No member before c has a locked slot: a search that stops at the first that has one. Assumes nothing.
-use Prim.Native.Nat.{◌-◌, ◌≤◌, ℕ}
+use Prim.Native.Nat.{ℕ}
 use mathlib.Core.Bool.{Bool, ◌&&◌, false}
 use mathlib.Core.Path.{◌≡◌}
 use Rattle.lists.specs.Tests.{any_below}
-use Rattle.image.specs.Layout.{card_count}
 use Rattle.mask.specs.Masks.{byte, has_card}
 use Rattle.slot.specs.Blocks.{some_locked}
 use Rattle.cabinet_rules.specs.Images.{Image, block_in}
@@ -14,7 +13,4 @@ abbrev pub locked_at : Image → ℕ → ℕ → ℕ → Bool
 locked_at g from b c = has_card (byte from) c && some_locked (block_in g c b)
 
 abbrev pub invariant-loop-c : goal.invariant-loop-c
-invariant-loop-c l = (l.c ≤ card_count) × (any_below l.c (locked_at l.image l.from l.block.0) ≡ false)
-
-abbrev pub decreases-loop-c : goal.decreases-loop-c
-decreases-loop-c l = card_count - l.c
+invariant-loop-c l = any_below l.c (locked_at l.image l.from l.block.0) ≡ false
