@@ -38,6 +38,37 @@ use std::fmt;
 // The bytes of a command.
 pub const SIZE: usize = 5;
 
+// The numbers of the operations, for patterns, which take no cast.
+pub const START: u8 = Operation::Start as u8;
+
+pub const BEGIN: u8 = Operation::Begin as u8;
+
+pub const GET: u8 = Operation::Get as u8;
+
+pub const STORE: u8 = Operation::Store as u8;
+
+pub const DELETE: u8 = Operation::Delete as u8;
+
+pub const COMMIT: u8 = Operation::Commit as u8;
+
+pub const ROLLBACK: u8 = Operation::Rollback as u8;
+
+pub const FIT: u8 = Operation::Fit as u8;
+
+pub const WITHDRAW: u8 = Operation::Withdraw as u8;
+
+pub const PLACE: u8 = Operation::Place as u8;
+
+pub const FAIL: u8 = Operation::Fail as u8;
+
+pub const MOVE: u8 = Operation::Move as u8;
+
+pub const SETTLE: u8 = Operation::Settle as u8;
+
+pub const STATE: u8 = Operation::State as u8;
+
+pub const LOAD: u8 = Operation::Load as u8;
+
 // How many numbers four bits and eight bits have.
 const FOUR_BITS: u8 = 16;
 
@@ -117,32 +148,22 @@ fn is_within(f: Fields, tran: u8, card: u8, number: u16, value: u16) -> bool
     f.tran <= tran && f.card <= card && f.number <= number && f.value <= value
 }
 
-// Whether the fields that the operation lacks are zero and the others are not too wide.
-fn is_of_form(operation: Operation, f: Fields) -> bool
-    ensures { result ≡ of_form (operation_number operation) f }
-{
-    match operation {
-        Operation::Start | Operation::Place => is_within(f, 0, 0, 0, MOST_MASK),
-        Operation::Begin => is_within(f, MOST_TRAN, MOST_CARD, 0, 0),
-        Operation::Get | Operation::Delete => is_within(f, MOST_TRAN, 0, MOST_NUMBER, 0),
-        Operation::Store => is_within(f, MOST_TRAN, 0, MOST_NUMBER, MOST_VALUE),
-        Operation::Commit | Operation::Rollback => is_within(f, MOST_TRAN, 0, 0, 0),
-        Operation::Fit | Operation::Withdraw | Operation::Fail | Operation::Load => is_within(
-            f, 0, MOST_CARD, 0, 0,
-        ),
-        Operation::Move => is_within(f, 0, MOST_CARD, MOST_NUMBER, 0),
-        Operation::Settle | Operation::State => is_within(f, 0, 0, 0, 0),
-    }
-}
-
 // Whether the operation is known, the fields that it lacks are zero and the others are not too wide.
 #[tactic(auto, unfolding(crate::specs::Commands::formed))]
 fn is_formed(f: Fields) -> bool
     ensures { result ≡ formed f }
 {
-    match Operation::try_from(f.operation) {
-        Ok(operation) => is_of_form(operation, f),
-        Err(Malformed) => false,
+    match f.operation {
+        START | PLACE => is_within(f, 0, 0, 0, MOST_MASK),
+        BEGIN => is_within(f, MOST_TRAN, MOST_CARD, 0, 0),
+        GET | DELETE => is_within(f, MOST_TRAN, 0, MOST_NUMBER, 0),
+        STORE => is_within(f, MOST_TRAN, 0, MOST_NUMBER, MOST_VALUE),
+        COMMIT..=ROLLBACK => is_within(f, MOST_TRAN, 0, 0, 0),
+        FIT..=WITHDRAW => is_within(f, 0, MOST_CARD, 0, 0),
+        FAIL | LOAD => is_within(f, 0, MOST_CARD, 0, 0),
+        MOVE => is_within(f, 0, MOST_CARD, MOST_NUMBER, 0),
+        SETTLE..=STATE => is_within(f, 0, 0, 0, 0),
+        _ => false,
     }
 }
 
