@@ -50,7 +50,9 @@ impl Case {
     pub fn image_of(&self, side: Side) -> Option<Vec<u8>> {
         let length = side.length();
         if length == LENGTH {
-            return Some(self.image.clone());
+            // Of an earlier archive the return and the converters are not linked, since not every one has them.
+            let linked = side.older_length.is_none() || self.calls.iter().all(|asked| asked.is_old(true));
+            return linked.then(|| self.image.clone());
         }
         let tables = length == OLDER_LENGTH;
         if self.today || !self.calls.iter().all(|asked| asked.is_old(tables)) {

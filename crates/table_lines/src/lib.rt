@@ -94,12 +94,15 @@ fn line_works(working: u8, line: Line) -> bool
     line.one != line.two && mask::has(working, Card(line.one)) && mask::has(working, Card(line.two))
 }
 
-// The line has the block.
+// The line has the block: by two tests, of which the first mostly decides, with fewer instructions than by one expression.
 #[tactic(auto, unfolding(crate::specs::Lines::has_block))]
 fn has_block(line: Line, block: Block) -> bool
     ensures { result ≡ has_block (meant line) block.0 }
 {
-    line.first <= block.0 && block.0 <= line.last
+    if block.0 < line.first {
+        return false;
+    }
+    block.0 <= line.last
 }
 
 // The mask with the cards of the line.
