@@ -73,7 +73,8 @@ of_ok (Ok n) h e = h
 of_ok (Err x) h e = tf true refl e
 
 -- the answer was the error that the run ends with
-pub failed_read : {T E : Type 0} (make : E → Failure) (r : Result T E) (m : Result T Failure) (y : Failure) → MatchResult r (λ x. m ≡ Ok x) (λ e. IsErrAnd m (λ z. z ≡ make e)) → m ≡ Err y
+pub failed_read : {T E : Type 0} (make : E → Failure) (r : Result T E) (m : Result T Failure) (y : Failure)
+    → MatchResult r (λ x. m ≡ Ok x) (λ e. IsErrAnd m (λ z. z ≡ make e)) → m ≡ Err y
     → (e : E) × (r ≡ Err e) × (y ≡ make e)
 failed_read make (Ok x) m y h w = cc
 failed_read {T} make (Err e) m y h w = (e, refl, subst (λ (n : Result T Failure). IsErrAnd n (λ z. z ≡ make e)) w h)

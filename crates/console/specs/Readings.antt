@@ -1,6 +1,7 @@
 -- The program over its readings: RULES, "Commands and the listing". An input comes in readings of any length; one that
 -- gives no byte is its end, and a read that fails performs nothing. Assumes nothing.
-use Rattle.std.specs.Prelude.{◌%◌, ◌*◌, ◌+◌, ◌-◌, ◌^◌, ℕ, eqb, leb, ltb, Result, Ok, Err, IfSome, None, Some, is_some, drop, length, take, Bool, ◌&&◌, cond, not, true, List, ◌++◌, ◌∷◌, [], ◌<◌, ◌≡◌}
+use Rattle.std.specs.Prelude.{◌%◌, ◌*◌, ◌+◌, ◌-◌, ◌^◌, ℕ, eqb, leb, ltb, Result, Ok, Err, IfSome, None, Some}
+use Rattle.std.specs.Prelude.{is_some, drop, length, take, Bool, ◌&&◌, cond, not, true, List, ◌++◌, ◌∷◌, [], ◌<◌, ◌≡◌}
 use Rattle.std.specs.Io.KnownBytes.{Appends, Consumes, IsAtEnd, Keeps}
 use Rattle.std.specs.declared.option.Option.{Option}
 use Rattle.lists.specs.Segments.{segment}

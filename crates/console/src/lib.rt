@@ -63,6 +63,7 @@ fn first_position() -> Position
 }
 
 // How many of the bytes held are performed: those of whole commands, or all at the end of the input.
+// `last` is a fact of the reading, which the definitions `performed_size` and `position_behind` take too: a closure is no plainer.
 fn performed_size(held: usize, last: bool) -> usize
     ensures { result ≡ performed_size held last }
 {
