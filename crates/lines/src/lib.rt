@@ -96,7 +96,12 @@ fn put_head(out: &mut [u8], number: u64, command: &[u8]) -> usize
 
 // A line at the start of the buffer, which has room for it.
 #[tactic(auto, using(crate::proofs::Lines::head_length), unfolding(crate::specs::Lines::line))]
-fn put_whole_line(out: &mut [u8], number: u64, command: &[u8], answer: Result<Answer, Refusal>) -> usize
+fn put_whole_line(
+    out: &mut [u8],
+    number: u64,
+    command: &[u8],
+    answer: Result<Answer, Refusal>,
+) -> usize
     requires { longest_line (length command.now) ≤ length out.old }
     ensures { Puts (line number command.now (shown answer)) out.old 0 result out.new
         × (result ≤ longest_line (length command.now)) }
@@ -109,7 +114,12 @@ fn put_whole_line(out: &mut [u8], number: u64, command: &[u8], answer: Result<An
 // Puts a line at the start of the buffer: the number of bytes put. Where there is no room for the longest line of this
 // command nothing is put, and the answer is 0: it stays a number by its public clause (`line_in`).
 #[tactic(auto, using(crate::proofs::Puts::puts_none), unfolding(crate::specs::Lines::line_in, crate::specs::Lines::has_room))]
-pub fn put_line(out: &mut [u8], number: u64, command: &[u8], answer: Result<Answer, Refusal>) -> usize
+pub fn put_line(
+    out: &mut [u8],
+    number: u64,
+    command: &[u8],
+    answer: Result<Answer, Refusal>,
+) -> usize
     ensures { Puts (line_in out.old number command.now (shown answer)) out.old 0 result
         out.new
         × (result ≤ longest_line (length command.now)) }
