@@ -15,7 +15,7 @@ ghost use Rattle.codes.specs.ToldCodes.{told_code};
 use promise::Answer;
 use refusals::Refusal;
 
-// Kinds of answers, each by its number at the C boundary.
+// Kinds of answers, each by its number at the C boundary, where `Done` is OK and `Nothing` is NONE.
 #[derive(Clone, Copy, Debug, PartialEq, Eq)]
 enum Kind {
     Done = 0,
@@ -96,7 +96,8 @@ pub fn list_code(listed: Result<Option<u16>, Refusal>) -> u32
     }
 }
 
-// The code of what a question is told.
+// The code of what a question is told. Beside the one above it has another kind and 8 bits; one function over both would
+// take both as parameters, and is no plainer.
 #[tactic(auto, unfolding(crate::specs::ToldCodes::told_kind, crate::specs::ToldCodes::told_number))]
 pub fn told_code(told: Result<Option<u8>, Refusal>) -> u32
     ensures { result ≡ told_code (shown_told told) }

@@ -91,11 +91,8 @@ forms =
 abbrev pub unknown : Fields → Bool
 unknown f = false
 
-abbrev pub of_form : ℕ → Fields → Bool
-of_form operation f = get_or forms operation unknown f
-
 unfoldable pub formed : Fields → Bool
-formed f = of_form f.operation f
+formed f = get_or forms f.operation unknown f
 
 -- A list of bytes is a command if it has five bytes with formed fields.
 unfoldable pub well_formed : List ℕ → Bool

@@ -24,5 +24,5 @@ operation_number State = 13
 operation_number Load = 14
 
 -- A number is that of the operation answered, or of none.
-abbrev pub Numbered : ℕ → Result Operation Malformed → Type 0
-Numbered n r = MatchResult r (λ operation. operation_number operation ≡ n) (λ e. operation_count ≤ n)
+abbrev pub NumberOf : ℕ → Result Operation Malformed → Type 0
+NumberOf n r = MatchResult r (λ operation. operation_number operation ≡ n) (λ e. operation_count ≤ n)

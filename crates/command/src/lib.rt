@@ -17,7 +17,6 @@ ghost use Rattle.command.specs.Commands.{
   formed,
   is_wide_move,
   is_writable,
-  of_form,
   read_of,
   write_leaves,
   write_of,
@@ -32,8 +31,6 @@ use image::{Block, Card, Rec, Tran};
 pub use operation::Operation;
 use promise::Call;
 use refusals::Refusal;
-use std::error::Error;
-use std::fmt;
 
 // The bytes of a command.
 pub const SIZE: usize = 5;
@@ -99,14 +96,6 @@ pub enum Command {
 #[derive(Clone, Copy, Debug, PartialEq, Eq)]
 pub struct Malformed;
 
-impl fmt::Display for Malformed {
-    fn fmt<W: fmt::Write>(&self, f: &mut fmt::Formatter<W>) -> fmt::Result {
-        f.write_str("malformed command")
-    }
-}
-
-impl Error for Malformed {}
-
 // The refusal of bytes that are no command.
 impl From<Malformed> for Refusal {
     ghost from_gives = { λ _ r. r ≡ NotFormed };
@@ -117,7 +106,7 @@ impl From<Malformed> for Refusal {
 }
 
 // The fields of a command. The number is a record's or a block's, the value may be a mask. The operation stays a number
-// here: callers in C lend any four bits (`nolpigat_read_command`, `nolpigat_write_command`).
+// here: callers in C lend any byte (`nolpigat_read_command`, `nolpigat_write_command`).
 #[derive(Clone, Copy)]
 pub struct Fields {
     pub operation: u8,
@@ -157,7 +146,8 @@ fn is_within(f: Fields, tran: u8, card: u8, number: u16, value: u16) -> bool
     f.value <= value
 }
 
-// Whether the operation is known, the fields that it lacks are zero and the others are not too wide.
+// Whether the operation is known, the fields that it lacks are zero and the others are not too wide. The nibble is matched
+// itself, so that operations of one form are a range.
 #[tactic(auto, unfolding(crate::specs::Commands::formed))]
 fn is_formed(f: Fields) -> bool
     ensures { result ≡ formed f }

@@ -1,5 +1,5 @@
 // The known operations, by their numbers.
-ghost use Rattle.command.specs.Operations.{Numbered};
+ghost use Rattle.command.specs.Operations.{NumberOf};
 
 use crate::Malformed;
 
@@ -26,7 +26,7 @@ pub enum Operation {
 impl TryFrom<u8> for Operation {
     type Error = Malformed;
 
-    ghost try_from_gives = { Numbered };
+    ghost try_from_gives = { NumberOf };
 
     fn try_from(number: u8) -> Result<Operation, Malformed> {
         match number {

@@ -41,6 +41,7 @@ pub const FIRST_TABLE_MARK: u8 = FIRST_MARK >> MASK_COUNT;
 
 // The masks are of the active placements, oldest first, and so are the marks, highest bit first. The pairs of placements
 // by table stay in the image. A home is the transaction's byte, transaction 1 first. The serial is the newest placement's.
+// Nothing is allocated, so the masks are an array with their number, as the image keeps them (`struct_of`).
 #[derive(Clone, Copy)]
 pub struct Control {
     pub stopped: bool,

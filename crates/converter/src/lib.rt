@@ -4,11 +4,10 @@
 ghost use Rattle.std.specs.Prelude.{◌≡◌, true, ◌≤◌, ◌<◌, ℕ, get_or, length};
 ghost use Rattle.lists.specs.Tabulate.{tabulate};
 ghost use Rattle.lists.specs.Tests.{all_below};
-ghost use Rattle.image.specs.Layout.{block_count, card_count, control_size, most_active, pairs_size, tail_size};
+ghost use Rattle.image.specs.Layout.{block_count, card_count, control_size, pairs_size};
 ghost use Rattle.image.specs.Parts.{Whole};
 ghost use Rattle.mask.specs.Masks.{byte};
 ghost use Rattle.mask.specs.Pairs.{is_pair_of, pair_at, pair_bound};
-ghost use Rattle.control_form.specs.Reading.{kept_ok_at};
 ghost use Rattle.cabinet_rules.specs.Converting.{older_size, pairs_image_size, stamped_image};
 ghost use Rattle.cabinet_rules.specs.Images.{form_by};
 ghost use Rattle.cabinet_rules.specs.Retired.{below_wire, by_tables};
@@ -159,7 +158,8 @@ fn carry(older: &[u8], image: &mut [u8])
     );
 }
 
-// Fills the lent buffer with the image from before A.7 at the length of A.7, as the converter above does.
+// Fills the lent buffer with the image from before A.7 at the length of A.7, as the converter above does. The form that it
+// asks and what it writes differ, so that one function over both would take two closures and say no less.
 pub fn convert_21216(older: &[u8], image: &mut [u8]) -> Result<u16, Refusal>
     ensures { StampsDone older.now image.old result image.new }
 {

@@ -8,7 +8,6 @@ ghost use Rattle.lists.specs.Tests.{all_below};
 ghost use Rattle.image.specs.Layout.{
   block_address,
   block_count,
-  block_size,
   block_start,
   blocks_size,
   card_count,
@@ -78,13 +77,15 @@ pub struct Rec(pub u16);
 #[derive(Clone, Copy, PartialEq, Eq, Debug)]
 pub struct Tran(pub u8);
 
-// Writes bytes into s from index at.
+// Writes bytes into s from index at. By a loop: the library's copy is one of parts that may overlap, and by it the archive
+// would call memmove beside the memcpy and memset that README names.
 pub fn write_at(s: &mut [u8], at: usize, bytes: &[u8])
     requires { at + length bytes.now ≤ length s.old }
     ensures { s.new ≡ splice s.old at bytes.now }
 {
-    let end = at + bytes.len();
-    s[at..end].copy_from_slice(bytes);
+    for (i, byte) in bytes.iter().enumerate() {
+        s[at + i] = *byte;
+    }
 }
 
 // The N bytes of s from index at.

@@ -91,7 +91,7 @@ pub fn sites(pair: u8) -> [Card; image::COPY_COUNT]
     [Card(pair / CARD_COUNT), Card(pair % CARD_COUNT)]
 }
 
-// The mask of those of the pair at a place of a group's bits.
+// The mask of the two cards of the pair at a place of a group's bits.
 fn mask_in(bits: u64, place: u8) -> u8
     requires { place < blocks_in_group }
     ensures { AreMembers result (λ c. elem c (first_card (pair_in_group bits place) ∷ second_card (pair_in_group bits place) ∷ [])) }

@@ -25,9 +25,9 @@ fn put_entry(bytes: &mut [u8], at: usize, entry: Move)
 }
 
 // The first n entries are put into the buffer, from its beginning.
-fn put_entries(bytes: &mut [u8], moves: [Move; MOST_MOVES], n: usize)
+fn put_entries(bytes: &mut [u8], moves: &[Move; MOST_MOVES], n: usize)
     requires { (n ≤ most_moves) × (n * entry_size ≤ length bytes.old) }
-    ensures { bytes.new ≡ splice bytes.old 0 (first_bytes moves n) }
+    ensures { bytes.new ≡ splice bytes.old 0 (first_bytes moves.now n) }
 {
     for i in 0..n {
         put_entry(bytes, i * ENTRY_SIZE, moves[i]);
@@ -38,15 +38,15 @@ fn put_entries(bytes: &mut [u8], moves: [Move; MOST_MOVES], n: usize)
 pub fn list(image: &[u8], bytes: &mut [u8]) -> Result<Option<u16>, Refusal>
     ensures { BytesDone image.now bytes.old result bytes.new }
 {
-    let found = store::moves::all(image);
-    let listed = found.listed?;
+    let mut moves = move_list::blank();
+    let listed = store::moves::list(image, &mut moves)?;
     match listed {
         Some(count) => {
             let n = count as usize;
             if bytes.len() / ENTRY_SIZE < n {
                 return Err(Refusal::List);
             }
-            put_entries(bytes, found.moves, n);
+            put_entries(bytes, &moves, n);
             Ok(Some(count))
         }
         None => Ok(None),

@@ -34,7 +34,7 @@ use Rattle.refusals.specs.declared.Refusal.{Refusal}
 use Rattle.refusals.specs.declared.Refusal.TheVariants.{Stopped, List as TooShort}
 use Rattle.refusals.proofs.HandedOn.{HandsOn, handed-on}
 use Rattle.refusals.proofs.Numbers.{not-none}
-use Rattle.move_list.specs.Plans.{Finds, Plans, first_moves, move_at, move_for, moves_at, moves_in, stored_by}
+use Rattle.move_list.specs.Plans.{Finds, Plans, first_moves, move_at, move_for, moves_at, moves_in, plan_answer}
 use Rattle.move_list.specs.Promise.{Listed, ListDone, filled_by, list_after, shown_list}
 use Rattle.move_list.specs.declared.Move.{Move}
 use Rattle.move_list.specs.declared.Plan.{Plan}
@@ -128,22 +128,22 @@ abbrev or-short : Result ℕ Refusal → Refusal
 or-short (Ok n) = TooShort
 or-short (Err r) = r
 
--- what is filled is the number of moves, and there is room for them
-pub stored-clear : (p : Plan) (room n : ℕ) → Ok n ≡ stored_by p room → (n ≡ p.count) × (ltb room p.count ≡ false)
-unfolding stored_by
-stored-clear p room n e = go (split (ltb room p.count))
+-- what is listed is the number of moves, and there is room for them
+pub listed-whole : (p : Plan) (room n : ℕ) → Ok n ≡ plan_answer p room → (n ≡ p.count) × (ltb room p.count ≡ false)
+unfolding plan_answer
+listed-whole p room n e = go (split (ltb room p.count))
   where
     go : (ltb room p.count ≡ true) ⊎ (ltb room p.count ≡ false) → (n ≡ p.count) × (ltb room p.count ≡ false)
-    go (inl t) = let m : stored_by p room ≡ Err TooShort = rw t in tf true refl (ap (λ (x : Result ℕ Refusal). is_ok x) (e ∙ m))
-    go (inr t) = let m : stored_by p room ≡ Ok p.count = rw t in (ap or-zero (e ∙ m), t)
+    go (inl t) = let m : plan_answer p room ≡ Err TooShort = rw t in tf true refl (ap (λ (x : Result ℕ Refusal). is_ok x) (e ∙ m))
+    go (inr t) = let m : plan_answer p room ≡ Ok p.count = rw t in (ap or-zero (e ∙ m), t)
 
-pub stored-short : (p : Plan) (room : ℕ) (r : Refusal) → Err r ≡ stored_by p room → (r ≡ TooShort) × (ltb room p.count ≡ true)
-unfolding stored_by
-stored-short p room r e = go (split (ltb room p.count))
+pub listed-short : (p : Plan) (room : ℕ) (r : Refusal) → Err r ≡ plan_answer p room → (r ≡ TooShort) × (ltb room p.count ≡ true)
+unfolding plan_answer
+listed-short p room r e = go (split (ltb room p.count))
   where
     go : (ltb room p.count ≡ true) ⊎ (ltb room p.count ≡ false) → (r ≡ TooShort) × (ltb room p.count ≡ true)
-    go (inl t) = let m : stored_by p room ≡ Err TooShort = rw t in (ap or-short (e ∙ m), t)
-    go (inr t) = let m : stored_by p room ≡ Ok p.count = rw t in tf true refl (sym (ap (λ (x : Result ℕ Refusal). is_ok x) (e ∙ m)))
+    go (inl t) = let m : plan_answer p room ≡ Err TooShort = rw t in (ap or-short (e ∙ m), t)
+    go (inr t) = let m : plan_answer p room ≡ Ok p.count = rw t in tf true refl (sym (ap (λ (x : Result ℕ Refusal). is_ok x) (e ∙ m)))
 
 -- ---- the promise of the call, by what was found
 module _ (g : Image) (lent : List Move) where
@@ -178,22 +178,22 @@ module _ (g : Image) (lent : List Move) where
       by_count : list_answer_on room g ≡ cond (ltb room p.count) (not_listed 16) (listed p.count)
       by_count = by-rules false f.locked-is ∙ ap (λ (n : ℕ). cond (ltb room n) (not_listed 16) (listed n)) (sym f.count-is)
 
-      pub short-done : (r : Refusal) (a : Listed) → Err r ≡ stored_by p room → HandsOn r a → ListDone g lent a lent
+      pub short-done : (r : Refusal) (a : Listed) → Err r ≡ plan_answer p room → HandsOn r a → ListDone g lent a lent
       short-done r a e h =
-          let s = stored-short p room r e in
+          let s = listed-short p room r e in
           rw (handed-on a h, s.0) (done-by (Err TooShort) lent (by_count ∙ rw s.1) refl)
 
-      pub filled-done : (n : ℕ) → Ok n ≡ stored_by p room → (filled : List Move) → filled ≡ first_moves (moves_in p.origins) n ++ drop n lent
+      pub filled-done : (n : ℕ) → Ok n ≡ plan_answer p room → (filled : List Move) → filled ≡ first_moves (moves_in p.origins) n ++ drop n lent
           → ListDone g lent (Ok (Some p.count)) filled
       filled-done n e filled l =
-          let s = stored-clear p room n e in
+          let s = listed-whole p room n e in
           done-by (Ok (Some p.count)) filled (by_count ∙ rw s.1)
           (l ∙ ap (λ (m : ℕ). first_moves (moves_in p.origins) m ++ drop m lent) s.0
           ∙ ap (λ (l : List Move). l ++ drop p.count lent)
           (first-all (moves_in p.origins) p.count (f.count-is ∙ ap length (sym f.moves-are)) ∙ ap (map move_for) f.moves-are))
 
--- no more entries are filled than there is room for
-pub stored-le : (p : Plan) (room n : ℕ) → Ok n ≡ stored_by p room → n ≤ room
-stored-le p room n e =
-    let s = stored-clear p room n e in
+-- no more are listed than there is room for
+pub listed-le : (p : Plan) (room n : ℕ) → Ok n ≡ plan_answer p room → n ≤ room
+listed-le p room n e =
+    let s = listed-whole p room n e in
     omega (arith, s.0, ltb-false room p.count s.1)

@@ -45,6 +45,6 @@ pub record Plans (g : Image) (p : Result (Option Plan) Refusal) : Type 0 where
   pub refusal_is : row_of p ≡ list_refusal g
   pub finds : IfOk p (Finds g)
 
--- How many entries of a lent list with so much room are filled: as many as there are moves, or the list is too short.
-unfoldable pub stored_by : Plan → ℕ → Result ℕ Refusal
-stored_by p room = cond (ltb room p.count) (Err TooShort) (Ok p.count)
+-- How many moves are listed in a lent list with so much room: all that there are, or the list is too short.
+unfoldable pub plan_answer : Plan → ℕ → Result ℕ Refusal
+plan_answer p room = cond (ltb room p.count) (Err TooShort) (Ok p.count)

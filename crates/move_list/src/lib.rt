@@ -3,7 +3,7 @@
 #![tactic(auto)]
 
 ghost use Rattle.std.specs.Prelude.{◌≡◌};
-ghost use Rattle.move_list.specs.Plans.{Plans, move_at, moves_in, stored_by};
+ghost use Rattle.move_list.specs.Plans.{Plans, move_at, moves_in, plan_answer};
 ghost use Rattle.move_list.specs.Promise.{blank_list};
 
 mod finding;
@@ -21,7 +21,7 @@ pub const MOST_MOVES: usize = BLOCK_COUNT * Placement::MOST_CARDS as usize;
 pub struct Move(pub Card, pub Block);
 
 // What the call answers, beside a list that has room for every list of moves: the number of moves, none where one of them
-// is locked, or a refusal.
+// is locked, or a refusal. A struct, since `ListDone` has both, also where there is none.
 #[derive(Clone, Copy)]
 pub struct AllMoves {
     pub listed: Result<Option<u16>, Refusal>,
@@ -81,9 +81,9 @@ impl Plan {
         Move(Card(0), Block(0))
     }
 
-    // How many entries of a lent list with this room are filled: all moves, or a refusal.
-    pub fn stored(self, room: usize) -> Result<usize, Refusal>
-        ensures { result ≡ stored_by self room }
+    // How many moves are listed in a lent list with this room: all, or it is too short.
+    pub fn answer(self, room: usize) -> Result<usize, Refusal>
+        ensures { result ≡ plan_answer self room }
     {
         let count = self.count as usize;
         if room < count {

@@ -57,7 +57,7 @@ fn home(k: Control, tran: Tran) -> Result<Option<u8>, Refusal>
     Ok(None)
 }
 
-// The lowest transaction that is not open, or 0.
+// The lowest transaction that is not open, or 0: callers in C get the number as it is (`nolpigat_free_transaction`).
 fn free_transaction(k: Control) -> u8
     ensures { result ≡ free_in (meaning k) }
 {

@@ -4,9 +4,6 @@
 ghost use Rattle.std.specs.Prelude.{◌≡◌};
 ghost use Rattle.refusals.specs.Refusals.{number};
 
-use std::error::Error;
-use std::fmt;
-
 // Why a call is refused, each by its number in the table (RULES, "Refusals").
 #[derive(Clone, Copy, Debug, PartialEq, Eq)]
 pub enum Refusal {
@@ -60,12 +57,3 @@ impl Refusal {
         self as u8
     }
 }
-
-impl fmt::Display for Refusal {
-    fn fmt<W: fmt::Write>(&self, f: &mut fmt::Formatter<W>) -> fmt::Result {
-        let number = self.number();
-        write!(f, "refused {number}")
-    }
-}
-
-impl Error for Refusal {}

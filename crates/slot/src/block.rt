@@ -1,5 +1,5 @@
 // A block's eight slots, read and written in place in a lent part of a table: 41 bytes, of which each slot has five.
-ghost use Rattle.std.specs.Prelude.{◌≡◌, cond, false, ◌^◌, ◌<◌, ◌≤◌, length};
+ghost use Rattle.std.specs.Prelude.{◌≡◌, false, ◌^◌, ◌<◌, length};
 ghost use Rattle.lists.specs.Tests.{one_if};
 ghost use Rattle.image.specs.Layout.{block_size, slot_count, tran_bound};
 ghost use Rattle.slot.specs.Words.{InRange, state_of};

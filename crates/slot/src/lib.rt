@@ -137,8 +137,8 @@ impl Slot {
         self
     }
 
-    // The slot after its transaction has ended: its pending state is taken or dropped, as a command that is read at run
-    // time says. A closure in the place of the bool would test it just so, and `freed_slot` has it as a value.
+    // The slot after its transaction has ended: its pending state is taken or dropped, as the call that ends it says. A
+    // closure in the place of the bool would say no more, and `freed_slot` has it as a value.
     pub fn free(self, take: bool) -> Slot
         ensures { result ≡ freed_slot take self }
     {

@@ -17,14 +17,14 @@ fn fill(plan: Plan, list: &mut [Move], n: usize)
 }
 
 // The fewest moves after which settle succeeds, in the order of blocks and then of cards, in the first entries of the
-// list; those beyond their number stay as lent. The list stays as lent where there is none, or on a refusal.
+// list; those beyond their number stay as lent. The list stays as lent where a move is locked, or on a refusal.
 pub fn list(image: &[u8], list: &mut [Move]) -> Result<Option<u16>, Refusal>
     ensures { ListDone image.now list.old result list.new }
 {
     let found = move_list::find_moves(image)?;
     match found {
         Some(plan) => {
-            let n = plan.stored(list.len())?;
+            let n = plan.answer(list.len())?;
             fill(plan, list, n);
             Ok(Some(plan.count))
         }

@@ -1,7 +1,7 @@
 // Work on the tables of an image that commit, rollback and fail share: transactions end in all held blocks.
 #![tactic(auto)]
 
-ghost use Rattle.std.specs.Prelude.{◌≡◌, Bool, false, ℕ, cond, ◌-◌, ◌^◌, ◌<◌, eqb, get_or, length};
+ghost use Rattle.std.specs.Prelude.{◌≡◌, Bool, false, ℕ, ◌-◌, ◌<◌, eqb, get_or, length};
 ghost use Rattle.std.proofs.Math.Option.{Option, none};
 ghost use Rattle.lists.specs.Segments.{within};
 ghost use Rattle.image.specs.Layout.{card_count, table_size, table_start, tran_bound};

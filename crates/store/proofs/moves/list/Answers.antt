@@ -3,7 +3,7 @@ use Rattle.std.specs.Prelude.{None, Option, Some}
 use mathlib.Core.Path.{subst}
 use Rattle.move_list.specs.Plans.{Finds}
 use Rattle.move_list.specs.declared.Plan.{Plan}
-use Rattle.move_list.proofs.MovePlans.{filled-done, locked-done, refused-done, short-done, stored-le}
+use Rattle.move_list.proofs.MovePlans.{filled-done, locked-done, refused-done, short-done, listed-le}
 use Rattle.store.proofs.moves.list.Goals as goal
 
 pub returns-in_err-found : goal.returns-in_err-found
@@ -16,7 +16,7 @@ returns-in_err-n-in-Some c =
     short-done a.image.now a.list.now c.in_ok-found.ensures.refusal_is c.in-Some.plan f _ _ c.in_err-n-in-Some.ensures c.from_residual-in_err-n-in-Some.ensures
 
 pub fill-requires : goal.fill-requires
-fill-requires c = stored-le c.in-Some.plan _ _ c.in_ok-n-in-Some.ensures
+fill-requires c = listed-le c.in-Some.plan _ _ c.in_ok-n-in-Some.ensures
 
 pub returns-in_ok-n-in-Some : goal.returns-in_ok-n-in-Some
 returns-in_ok-n-in-Some c =

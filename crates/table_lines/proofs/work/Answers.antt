@@ -8,12 +8,12 @@ use Rattle.std.proofs.lemmas.Iterator.{cases_from_all, YieldsList-from_range}
 use Rattle.mask.specs.Masks.{byte}
 use Rattle.table_lines.specs.Lines.{line_at, line_count, line_works, lines_work}
 use Rattle.table_lines.proofs.Ranges.{all-of-range}
-use Rattle.table_lines.proofs.Lines.work.Goals as goal
+use Rattle.table_lines.proofs.work.Goals as goal
 
 pub returns : goal.returns
 unfolding lines_work
 returns c =
-    let x = c.args.self.bytes.now in
+    let x = c.args.lines.now in
     let n = line_count x in
     let f : ℕ → Bool = λ i. line_works (byte c.args.working) (line_at x i) in
     all-of-range n f c.all.result
