@@ -22,6 +22,10 @@ pub step-is : (left first next : ℕ) → 0 < length (members (byte left)) → f
     → members (byte left) ≡ first ∷ members (byte next)
 step-is left first next some e rest = first-and-rest (members (byte left)) some ∙ ap₂ ◌∷◌ (sym e) (sym rest)
 
+-- Masks with the same list of members have the same cards.
+pub same-members : (a b : Byte) → members a ≡ members b → (c : ℕ) → has_card a c ≡ has_card b c
+same-members a b e c = sym (elem-members a c) ∙ ap (elem c) e ∙ elem-members b c
+
 module _ (left next : Byte) (x : ℕ) (step : members left ≡ x ∷ members next) where
   -- What is given was in the mask, and is a card.
   pub given-in : has_card left x ≡ true
@@ -32,7 +36,7 @@ module _ (left next : Byte) (x : ℕ) (step : members left ≡ x ∷ members nex
 
   -- What is left is the mask without it.
   pub left-is : next ≡ without_card left x
-  left-is = same-mask next (without_card left x) (λ c. sym (elem-members next c) ∙ ap (elem c) others ∙ elem-members (without_card left x) c)
+  left-is = same-mask next (without_card left x) (same-members next (without_card left x) others)
     where
       others : members next ≡ members (without_card left x)
       others = sym (subst (λ (m : Byte). members (without_card m (get_or (members m) 0 0)) ≡ drop 1 (members m)) (byte_of left) (rest-is left.0 left.1)
