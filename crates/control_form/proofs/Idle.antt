@@ -1,22 +1,22 @@
 -- The homes of open transactions work exactly if none of them is a card that does not: such cards are tried one after the
 -- other. Assumes nothing.
 use mathlib.Core.Path.{◌≡◌, refl, sym, ap, ◌∙◌}
-use mathlib.Core.Logic.{◌≢◌, ◌⊎◌, inl, inr}
+use mathlib.Core.Logic.{◌⊎◌, inl, inr}
 use mathlib.Core.Bool.{Bool, true, false, not, ◌&&◌, cond}
-use mathlib.Core.List.{List}
+use mathlib.Core.List.{List, [], ◌∷◌}
 use mathlib.Core.Option.{Option, none, some}
 use Prim.Native.Nat.{ℕ, ◌/◌, ◌%◌, ◌≤◌, ◌<◌}
 use native.Mathlib.Omega.{arith}
 use lib.Dec.{eqb, leb}
 use lib.ListN.{get_or}
 use borrow.Author.Tests.{eqb-true}
-use Rattle.lists.specs.Tests.{all_below}
+use Rattle.lists.specs.Tests.{all_below, elem}
 use Rattle.lists.proofs.Counts.{below_all}
 use Rattle.lists.proofs.Bools.{and_in, eqb-self, split, tf}
 use Rattle.image.specs.Layout.{card_count}
-use Rattle.mask.specs.Masks.{AreMembers, Byte, byte, has_card, members, without_card}
-use Rattle.mask.proofs.FirstMember.{first-in, some-members}
-use Rattle.mask.proofs.Masks.{has-none, has-without}
+use Rattle.mask.specs.Masks.{AreMembers, Byte, byte, has_card, members}
+use Rattle.mask.proofs.Masks.{elem-members, has-without}
+use Rattle.mask.proofs.Steps.{given-in, left-is}
 use Rattle.method.specs.ControlPart.{is_card}
 use Rattle.control.specs.ControlBytes.{field, field_bound, home_in, homes_at, homes_end, open_bit, working_at}
 use Rattle.control_form.specs.ControlForm.{home_ok}
@@ -78,14 +78,14 @@ module _ (l : List ℕ) where
   pub tried-none : (left : ℕ) → AreMembers left (λ c. has_card (byte 255) c && not (has_card (byte (get_or l working_at 0)) c)) → Tried l left
   tried-none left are c h idle gone = tf false (sym (sym (are c) ∙ gone) ∙ rw (all-cards c h, idle)) refl
 
-  -- the first that is left does not work
-  pub first-idle : (left c : ℕ) → left < 256 → left ≢ 0 → c ≡ get_or (members (byte left)) 0 0 → Idle l left → has_card (byte (get_or l working_at 0)) c ≡ false
-  first-idle left c h d e i = i c (ap (has_card (byte left)) e ∙ first-in (byte left) (some-members left h d))
-
   -- one more
-  module _ (left next c : ℕ) (is : byte next ≡ without_card (byte left) c) where
+  module _ (left next : ℕ) (c : ℕ) (step : members (byte left) ≡ c ∷ members (byte next)) where
+    -- the one that is tried does not work
+    pub first-idle : Idle l left → has_card (byte (get_or l working_at 0)) c ≡ false
+    first-idle i = i c (given-in (byte left) (byte next) c step)
+
     left-of : (x : ℕ) → has_card (byte next) x ≡ (has_card (byte left) x && not (eqb x c))
-    left-of x = ap (λ (m : Byte). has_card m x) is ∙ has-without (byte left) c x
+    left-of x = ap (λ (m : Byte). has_card m x) (left-is (byte left) (byte next) c step) ∙ has-without (byte left) c x
 
     pub idle-less : Idle l left → Idle l next
     idle-less h x t = h x (go (has_card (byte left) x) (eqb x c) (sym (left-of x) ∙ t))
@@ -124,8 +124,9 @@ module _ (l : List ℕ) where
       go (inr t) = sym t
 
   -- none is left
-  pub all-work : (left : ℕ) → left ≡ 0 → Tried l left → true ≡ all_from homes_at homes_end (home_ok_at false l)
-  all-work left z h = sym (all-from homes_at (home_ok_at false l) homes_end (λ n p q. unfold home_ok_at in
+  pub all-work : (left : ℕ) → members (byte left) ≡ [] → Tried l left → true ≡ all_from homes_at homes_end (home_ok_at false l)
+  all-work left e h = sym (all-from homes_at (home_ok_at false l) homes_end (λ n p q. unfold home_ok_at in
       (not-works (byte (get_or l working_at 0)) (get_or l n 0) (get_or l n 0 / field % field_bound) (leb open_bit (get_or l n 0))
       (λ d. from_all homes_at (λ n'. not (is_card (home_in (get_or l n' 0)) (get_or l n 0 / field % field_bound))) homes_end n
-      (h (get_or l n 0 / field % field_bound) (omega arith) d (ap (λ (m : ℕ). has_card (byte m) (get_or l n 0 / field % field_bound)) z ∙ has-none (get_or l n 0 / field % field_bound))) p q))))
+      (h (get_or l n 0 / field % field_bound) (omega arith) d
+      (sym (elem-members (byte left) (get_or l n 0 / field % field_bound)) ∙ ap (elem (get_or l n 0 / field % field_bound)) e)) p q))))

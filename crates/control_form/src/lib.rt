@@ -200,16 +200,14 @@ fn homes_work(s: &[u8]) -> bool
     requires s_value { all_from homes_at homes_end (is_home_at s.now) ≡ true }
     ensures { result ≡ all_from homes_at homes_end (home_ok_at false s.now) }
 {
-    let mut idle = mask::without(ALL_CARDS, s[WORKING_AT]);
-    while idle != 0 {
-        let card = mask::first_member(idle);
+    let idle = mask::without(ALL_CARDS, s[WORKING_AT]);
+    for card in mask::each(idle) {
         if !words::lack_home(s, HOMES_AT, card) {
             return false;
         }
         if !words::lack_home(s, SECOND_AT, card) {
             return false;
         }
-        idle = mask::without_first(idle);
     }
     true
 }

@@ -2,6 +2,7 @@ pub mod Masks
 pub mod Sets
 pub mod FirstMember
 pub mod LastMember
+pub mod Steps
 pub mod MaskSites
 pub mod SiteLaws
 pub mod SiteMasks

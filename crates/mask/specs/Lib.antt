@@ -1,3 +1,4 @@
+pub mod Cards
 pub mod Masks
 pub mod Pairs
 pub mod PairSets

@@ -3,6 +3,7 @@
 
 ghost use Rattle.std.specs.Prelude.{◌≡◌, ◌&&◌, cond, not, ◌∷◌, [], ◌+◌, ◌-◌, ◌<◌, ◌≤◌, leb, length, get_or, drop, take};
 ghost use Rattle.std.specs.Int.Bits.{bit_and};
+ghost use Rattle.std.specs.Iterator.{YieldsFirstBy, item_count};
 ghost use Rattle.lists.specs.Tests.{elem};
 ghost use Rattle.image.specs.Layout.{card_count, block_count, copy_count, least_members};
 ghost use Rattle.mask.specs.Masks.{
@@ -20,6 +21,7 @@ ghost use Rattle.mask.specs.Masks.{
   are_apart,
   is_one_more,
 };
+ghost use Rattle.mask.specs.Cards.{cards_left};
 ghost use Rattle.mask.specs.Placements.{
   AreSites,
   Enough,
@@ -160,6 +162,34 @@ pub fn without_first(mask: u8) -> u8
         × (byte result ≡ without_card (byte mask) (get_or (members (byte mask)) 0 0)) }
 {
     without_card(mask, first_member(mask))
+}
+
+// The members that are left of a mask, one after the other in rising order.
+#[derive(Drop)]
+pub struct Cards(u8);
+
+// The members of a mask, in rising order.
+pub fn each(mask: u8) -> Cards
+    ensures { cards_left result ≡ members (byte mask) }
+{
+    Cards(mask)
+}
+
+impl Iterator for Cards {
+    type Item = Card;
+
+    ghost next_gives = { YieldsFirstBy (λ card. card.0) cards_left };
+
+    ghost remaining = { item_count cards_left };
+
+    fn next(&mut self) -> Option<Card> {
+        if self.0 == 0 {
+            return None;
+        }
+        let first = first_member(self.0);
+        self.0 = without_first(self.0);
+        Some(first)
+    }
 }
 
 // The mask without its last member. Its bit is the lowest one, and `m & (m - 1)` is m with the lowest bit off.

@@ -1,12 +1,10 @@
 -- One block put on each card of a list, as by a loop over the members of a mask: card by card it is the write of the rules. Assumes nothing.
 use Prim.Native.Nat.{◌<◌, ℕ}
 use lib.Dec.{eqb}
-use lib.ListN.{drop, get_or, length}
 use mathlib.Core.Bool.{Bool, ◌&&◌, ◌||◌, and-false, cond, false, true}
 use mathlib.Core.List.{List, [], ◌∷◌}
 use mathlib.Core.Option.{Option, none, some}
-use mathlib.Core.Path.{◌∙◌, ◌≡◌, ap, ap₂, refl, sym}
-use native.Mathlib.Omega.{arith}
+use mathlib.Core.Path.{◌∙◌, ◌≡◌, ap, refl, sym}
 use Rattle.lists.specs.Tests.{elem}
 use Rattle.lists.proofs.Bools.{eqb-self, or_l, or_r}
 use Rattle.image.specs.Layout.{block_count, card_count}
@@ -17,23 +15,25 @@ use Rattle.cabinet_rules.specs.Images.{Image, Writes, block_in}
 use Rattle.promise.specs.Laid.{laid}
 use Rattle.promise.proofs.Laid.{laid_none, laid-put, laid_same, put_one}
 
--- ---- the loop
-unfoldable pub put_each : ℕ → List ℕ → List ℕ → Image → Image
-put_each b xs [] g = g
-put_each b xs (c ∷ l) g = put_each b xs l (put_block g c b xs)
+-- ---- the loop: what f does at one card is done at each of a list
+unfoldable pub each : (ℕ → Image → Image) → List ℕ → Image → Image
+each f [] g = g
+each f (c ∷ l) g = each f l (f c g)
 
-module _ (b : ℕ) (xs : List ℕ) (image : Image) where
+module _ (f : ℕ → Image → Image) (image : Image) where
   -- the first of the cards that are left is taken
-  pub put-turn : (out : Image) (l : List ℕ) → 0 < length l → (m : List ℕ) → m ≡ drop 1 l → (c : ℕ) → c ≡ get_or l 0 0
-      → out ≡ put_block image c b xs → put_each b xs m out ≡ put_each b xs l image
-  unfolding put_each
-  put-turn out [] h m em c ec eo = absurd (omega arith)
-  put-turn out (x ∷ l) h m em c ec eo = ap₂ (put_each b xs) em (eo ∙ ap (λ (d : ℕ). put_block image d b xs) ec)
+  pub each-turn : (out : Image) (left rest : List ℕ) (c : ℕ) → left ≡ c ∷ rest → out ≡ f c image → each f rest out ≡ each f left image
+  unfolding each
+  each-turn out left rest c e eo = ap (each f rest) eo ∙ sym (ap (λ (l : List ℕ). each f l image) e)
 
   -- none is left
-  pub put-end : (l : List ℕ) → l ≡ [] → put_each b xs l image ≡ image
-  unfolding put_each
-  put-end l e = ap (λ (x : List ℕ). put_each b xs x image) e
+  pub each-end : (left : List ℕ) → left ≡ [] → each f left image ≡ image
+  unfolding each
+  each-end left e = ap (λ (l : List ℕ). each f l image) e
+
+-- one block is put on each
+abbrev pub put_each : ℕ → List ℕ → List ℕ → Image → Image
+put_each b xs = each (λ c g. put_block g c b xs)
 
 -- ---- what is written: the block on the cards that f picks
 abbrev pub put_writes : Writes → ℕ → BlockBytes → (ℕ → Bool) → Writes
@@ -41,7 +41,7 @@ put_writes w b x f d e = cond (eqb e b && f d) (some x) (w d e)
 
 put-list : (g : Image) (b : ℕ) → b < block_count → (x : BlockBytes) (l : List ℕ) → ((c : ℕ) → elem c l ≡ true → c < card_count) → (w : Writes)
     → put_each b x.0 l (laid w g) ≡ laid (put_writes w b x (λ c. elem c l)) g
-unfolding put_each
+unfolding each
 put-list g b hb x [] cards w = laid_same w g (put_writes w b x (λ c. false)) (λ d e hd he. ap (λ (t : Bool). updated (cond t (some x) (w d e)) (block_in g d e)) (sym (and-false (eqb e b))))
 put-list g b hb x (c ∷ l) cards w = ap (put_each b x.0 l) (laid-put w g c b (cards c (or_l (eqb c c) (elem c l) (eqb-self c))) hb x)
     ∙ put-list g b hb x l (λ d h. cards d (or_r (eqb d c) (elem d l) h)) (put_one w c b x)

@@ -3,7 +3,7 @@ use Prim.Native.Nat.{◌%◌, ◌/◌, ◌<◌, ℕ}
 use borrow.Author.Tests.{eqb-true, ne_eqb}
 use borrow.Rule.Slice.PartMut.{mid_of, put_mid}
 use lib.Dec.{eqb}
-use lib.ListN.{drop, get_or, length}
+use lib.ListN.{length}
 use mathlib.Core.Bool.{Bool, ◌&&◌, ◌||◌, and-false, cond, false, true}
 use mathlib.Core.List.{List, [], ◌++◌, ◌∷◌, append_assoc, append-nil}
 use mathlib.Core.Logic.{◌≢◌, ◌⊎◌, inl, inr}
@@ -31,7 +31,7 @@ use Rattle.cabinet_rules.specs.Cabinet.{cabinet}
 use Rattle.cabinet_rules.specs.Images.{Image, Writes, block_in, control_in, state_in}
 use Rattle.promise.specs.Laid.{laid}
 use Rattle.promise.proofs.Laid.{laid-block, laid_none, laid-put, laid_same, put-elsewhere, put_one}
-use Rattle.promise.proofs.PutEach.{put_each, put_writes, put-cards}
+use Rattle.promise.proofs.PutEach.{each, put_each, put_writes, put-cards}
 use Rattle.trail.specs.Trail.{holders_in}
 use Rattle.records.proofs.Reading.{holder-look}
 
@@ -71,21 +71,8 @@ elem-skip c d (x ∷ l) n = ap (λ (t : Bool). eqb c x || t) (elem-skip c d l n)
 abbrev pub locked_on : ℕ → ℕ → Option ℕ → ℕ → Image → Image
 locked_on t r v c g = put_block g c (r / slot_count) (lock_slot (of_list (block_at g c (r / slot_count))) (r % slot_count) t v).0
 
-unfoldable pub lock_each : ℕ → ℕ → Option ℕ → List ℕ → Image → Image
-lock_each t r v [] g = g
-lock_each t r v (c ∷ l) g = lock_each t r v l (locked_on t r v c g)
-
--- the first of the cards that are left is taken
-module _ (t r : ℕ) (v : Option ℕ) (image : Image) where
-  pub each_turn : (out : Image) (l : List ℕ) → 0 < length l → (m : List ℕ) → m ≡ drop 1 l → (c : ℕ) → c ≡ get_or l 0 0
-      → out ≡ locked_on t r v c image → lock_each t r v m out ≡ lock_each t r v l image
-  unfolding lock_each
-  each_turn out [] h m em c ec eo = absurd (omega arith)
-  each_turn out (x ∷ l) h m em c ec eo = ap₂ (lock_each t r v) em (eo ∙ ap (λ (d : ℕ). locked_on t r v d image) ec)
-
-  pub each-end : (l : List ℕ) → l ≡ [] → lock_each t r v l image ≡ image
-  unfolding lock_each
-  each-end l e = ap (λ (x : List ℕ). lock_each t r v x image) e
+abbrev pub lock_each : ℕ → ℕ → Option ℕ → List ℕ → Image → Image
+lock_each t r v = each (locked_on t r v)
 
 -- what is written then
 unfoldable pub lock_writes : Image → ℕ → ℕ → Option ℕ → List ℕ → Writes
@@ -139,7 +126,7 @@ module _ (g : Image) (t r : ℕ) (v : Option ℕ) (hr : r < record_count) (ht : 
   -- and each card of a list
   lock-from : (m l : List ℕ) → ((c : ℕ) → elem c m ≡ true → c < card_count) → (image : Image) → image ≡ laid (lock_writes g t r v l) g
       → lock_each t r v m image ≡ laid (lock_writes g t r v (l ++ m)) g
-  unfolding lock_each
+  unfolding each
   lock-from [] l cards image e = e ∙ ap (λ (x : List ℕ). laid (lock_writes g t r v x) g) (sym (append-nil l))
   lock-from (c ∷ m) l cards image e =
       lock-from m (l ++ (c ∷ [])) (λ d h. cards d (or_r (eqb d c) (elem d m) h)) (locked_on t r v c image)

@@ -1,7 +1,6 @@
 -- The slots of a record that the code reads on its holders are those that the rules read. Assumes nothing.
 use Prim.Native.Nat.{◌%◌, ◌/◌, ◌<◌, ℕ}
 use lib.Dec.{eqb}
-use lib.ListN.{drop, get_or, length}
 use mathlib.Core.Bool.{Bool, ◌||◌, cond, false, true}
 use mathlib.Core.List.{List, [], ◌∷◌}
 use mathlib.Core.Option.{Option, none}
@@ -45,20 +44,12 @@ slot-by g w c r hc hr b p x s eb ex ep es =
     es ∙ ap₂ (λ (y : BlockBytes) (q : ℕ). slot_at y q) (ap of_list (ex ∙ ap (block_at g c) eb) ∙ of-block g w c (r / slot_count) hc (omega arith)) ep
 
 -- ---- a loop that looks for one among the members of a mask
-module _ (f : ℕ → Bool) (l : List ℕ) (some : 0 < length l) where
-  pub any-hit : f (get_or l 0 0) ≡ true → any_in f l ≡ true
-  any-hit = go l some
-    where
-      go : (l : List ℕ) → 0 < length l → f (get_or l 0 0) ≡ true → any_in f l ≡ true
-      go [] some e = absurd (omega arith)
-      go (x ∷ l) some e = or_l (f x) (any_in f l) e
+module _ (f : ℕ → Bool) (left rest : List ℕ) (c : ℕ) (step : left ≡ c ∷ rest) where
+  pub any-hit : f c ≡ true → any_in f left ≡ true
+  any-hit e = ap (any_in f) step ∙ or_l (f c) (any_in f rest) e
 
-  pub any-miss : f (get_or l 0 0) ≡ false → any_in f (drop 1 l) ≡ any_in f l
-  any-miss = go l some
-    where
-      go : (l : List ℕ) → 0 < length l → f (get_or l 0 0) ≡ false → any_in f (drop 1 l) ≡ any_in f l
-      go [] some e = absurd (omega arith)
-      go (x ∷ l) some e = rw e
+  pub any-miss : f c ≡ false → any_in f rest ≡ any_in f left
+  any-miss e = rw (step, e)
 
 any-members : (f : ℕ → Bool) (l m : List ℕ) → ((c : ℕ) → elem c l ≡ elem c m) → any_in f l ≡ any_in f m
 any-members f l m same = same_test (any_in f l) (any_in f m) (half l m same) (half m l (λ c. sym (same c)))

@@ -68,12 +68,10 @@ pub fn locked_out(image: &[u8], holders: Holders, tran: Tran, rec: Rec) -> bool
     requires lists { Lists holders (holders_in image.now (rec.0 / slot_count)) }
     ensures { result ≡ locked_out_in image.now tran.0 rec.0 }
 {
-    let mut left = holders.cards;
-    while left != 0 {
-        if locked_on(image, mask::first_member(left), tran, rec) {
+    for holder in mask::each(holders.cards) {
+        if locked_on(image, holder, tran, rec) {
             return true;
         }
-        left = mask::without_first(left);
     }
     false
 }
@@ -129,10 +127,8 @@ pub fn lock_all(image: &mut [u8], holders: Holders, tran: Tran, rec: Rec, pendin
     ensures { image.new ≡ laid (lock_holders cabinet (control_in image.old)
         (look cabinet (state_in image.old)) tran.0 rec.0 (state_of pending)) image.old }
 {
-    let mut left = holders.cards;
-    while left != 0 {
-        lock_on(image, mask::first_member(left), tran, rec, pending);
-        left = mask::without_first(left);
+    for holder in mask::each(holders.cards) {
+        lock_on(image, holder, tran, rec, pending);
     }
 }
 
@@ -153,10 +149,8 @@ pub fn lay(image: &mut [u8], newest: usize, tran: Tran, rec: Rec, pending: Entry
     ensures { image.new ≡ laid (lay_block cabinet (control_in image.old) tran.0 rec.0
         (state_of pending)) image.old }
 {
-    let mut left = control::sites::mask_at(image, newest, block_of(rec));
-    while left != 0 {
-        let site = mask::first_member(left);
+    let sites = control::sites::mask_at(image, newest, block_of(rec));
+    for site in mask::each(sites) {
         lay_on(image, site, tran, rec, pending);
-        left = mask::without_first(left);
     }
 }

@@ -2,12 +2,12 @@
 use Prim.Native.Nat.{◌+◌, ◌<◌, ◌≤◌, ℕ}
 use borrow.Author.Tests.{eqb-true}
 use lib.Dec.{eqb}
-use lib.ListN.{drop, get_or, length}
+use lib.ListN.{length}
 use mathlib.Core.Bool.{Bool, ◌&&◌, cond, false, not, true}
 use mathlib.Core.List.{List, [], ◌∷◌}
 use mathlib.Core.Logic.{◌≢◌, ◌⊎◌, inl, inr}
 use mathlib.Core.Option.{Option, none, some}
-use mathlib.Core.Path.{◌∙◌, ◌≡◌, ap, ap₂, refl, sym}
+use mathlib.Core.Path.{◌∙◌, ◌≡◌, ap, refl, sym}
 use native.Mathlib.Omega.{arith}
 use Rattle.lists.specs.Tests.{count_not, elem, keep_if, one_if}
 use Rattle.lists.proofs.Bools.{eqb-self, split}
@@ -22,7 +22,7 @@ use Rattle.cabinet_rules.specs.Cabinet.{cabinet}
 use Rattle.cabinet_rules.specs.Images.{Image, Writes, block_in}
 use Rattle.promise.specs.Laid.{laid}
 use Rattle.promise.proofs.Laid.{laid-put, laid_same, put_one, of-block}
-use Rattle.promise.proofs.PutEach.{put_each, put_writes}
+use Rattle.promise.proofs.PutEach.{each, put_each, put_writes}
 use Rattle.trail.specs.Trail.{holds_at}
 
 -- a block that may be put
@@ -52,23 +52,21 @@ lacking f l = keep_if (λ c. not (f c)) l
 
 module _ (f : ℕ → Bool) (b : ℕ) (xs : List ℕ) (image : Image) where
   one-turn : (has : Bool) (x : ℕ) (l : List ℕ) → put_each b xs l (cond has image (put_block image x b xs)) ≡ put_each b xs (cond (not has) (x ∷ l) l) image
-  unfolding put_each
+  unfolding each
   one-turn true x l = refl
   one-turn false x l = refl
 
   -- the first of the sites that are left is looked at
-  pub fill-turn : (out : Image) (l : List ℕ) → 0 < length l → (m : List ℕ) → m ≡ drop 1 l → (c : ℕ) → c ≡ get_or l 0 0 → (has : Bool) → has ≡ f c
-      → out ≡ cond has image (put_block image c b xs) → put_each b xs (lacking f m) out ≡ put_each b xs (lacking f l) image
-  fill-turn out [] h m em c ec has eh eo = absurd (omega arith)
-  fill-turn out (x ∷ l) h m em c ec has eh eo =
-      ap₂ (λ (m : List ℕ) (o : Image). put_each b xs (lacking f m) o) em (eo ∙ ap₂ (λ (t : Bool) (d : ℕ). cond t image (put_block image d b xs)) (eh ∙ ap f ec) ec)
-      ∙ one-turn (f x) x (lacking f l)
+  pub fill-turn : (out : Image) (left rest : List ℕ) (c : ℕ) → left ≡ c ∷ rest → (has : Bool) → has ≡ f c
+      → out ≡ cond has image (put_block image c b xs) → put_each b xs (lacking f rest) out ≡ put_each b xs (lacking f left) image
+  fill-turn out left rest c e has eh eo =
+      ap (put_each b xs (lacking f rest)) (eo ∙ ap (λ (t : Bool). cond t image (put_block image c b xs)) eh)
+      ∙ one-turn (f c) c (lacking f rest) ∙ sym (ap (λ (l : List ℕ). put_each b xs (lacking f l) image) e)
 
 -- and counts as one where it lacks the block
-pub count_turn : (f : ℕ → Bool) (l : List ℕ) → 0 < length l → (m : List ℕ) → m ≡ drop 1 l → (c : ℕ) → c ≡ get_or l 0 0 → (has : Bool) → has ≡ f c
-    → (n : ℕ) → n ≡ one_if (not has) → n + count_not f m ≡ count_not f l
-count_turn f [] h m em c ec has eh n en = absurd (omega arith)
-count_turn f (x ∷ l) h m em c ec has eh n en = ap₂ (λ (i j : ℕ). i + j) (en ∙ ap (λ (t : Bool). one_if (not t)) (eh ∙ ap f ec)) (ap (count_not f) em)
+pub count_turn : (f : ℕ → Bool) (left rest : List ℕ) (c : ℕ) → left ≡ c ∷ rest → (has : Bool) → has ≡ f c
+    → (n : ℕ) → n ≡ one_if (not has) → n + count_not f rest ≡ count_not f left
+count_turn f left rest c e has eh n en = ap (λ (i : ℕ). i + count_not f rest) (en ∙ ap (λ (t : Bool). one_if (not t)) eh) ∙ sym (ap (count_not f) e)
 
 pub count-le : (f : ℕ → Bool) (l : List ℕ) → count_not f l ≤ length l
 count-le f [] = omega arith

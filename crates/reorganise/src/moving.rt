@@ -59,12 +59,9 @@ pub fn spread(image: &mut [u8], k: Control, card: Card, block: Block) -> u8
     let stays = mask::has(sites, card);
     let bytes = image::get_block(image, card, block);
     let mut copies: u8 = 0;
-    let mut left = sites;
-    while left != 0 {
-        let site = mask::first_member(left);
+    for site in mask::each(sites) {
         let has = trail::holds(image, working, site, block);
         copies += fill(image, has, site, block, bytes);
-        left = mask::without_first(left);
     }
     fill(image, stays, card, block, [0u8; image::BLOCK_SIZE]);
     copies

@@ -1,18 +1,16 @@
--- Where the slot is locked on each member that is left, it is locked on each member of the
--- mask. Assumes nothing.
+-- Where the slot is locked on each holder that is left, it is locked on each. Assumes nothing.
 use mathlib.Core.Path.{◌≡◌}
-use Prim.Native.Nat.{◌<◌}
-use lib.ListN.{length}
-use Rattle.image.specs.Layout.{value_bound}
-use Rattle.mask.specs.Masks.{byte, members}
+use Rattle.mask.specs.Cards.{cards_left}
 use Rattle.slot.specs.Words.{state_of}
+use Rattle.method.specs.Rules.{lock_holders, look}
+use Rattle.cabinet_rules.specs.Cabinet.{cabinet}
+use Rattle.cabinet_rules.specs.Images.{control_in, state_in}
+use Rattle.promise.specs.Laid.{laid}
 use Rattle.records.proofs.Locking.{lock_each}
 use Rattle.records.proofs.slots.lock_all.Given as goal
 
-abbrev pub invariant-loop-left : goal.invariant-loop-left
-invariant-loop-left l =
-    (l.left < 256) × (length l.image ≡ length l.initial.image) × (l.pending.value < value_bound)
-    × (lock_each l.tran.0 l.rec.0 (state_of l.pending) (members (byte l.left)) l.image ≡ lock_each l.tran.0 l.rec.0 (state_of l.pending) (members (byte l.initial.left)) l.initial.image)
-
-abbrev pub decreases-loop-left : goal.decreases-loop-left
-decreases-loop-left l = length (members (byte l.left))
+abbrev pub invariant-loop-holder : goal.invariant-loop-holder
+invariant-loop-holder l =
+    let g = l.initial.image in
+    let v = state_of l.pending in
+    lock_each l.tran.0 l.rec.0 v (cards_left l.holder-iterator) l.image ≡ laid (lock_holders cabinet (control_in g) (look cabinet (state_in g)) l.tran.0 l.rec.0 v) g
