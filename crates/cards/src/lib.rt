@@ -36,7 +36,7 @@ pub fn start(image: &mut [u8], mask: u8) -> Result<Answer, Refusal>
     image::clear(image);
     let k = Control::started(mask);
     codec::write(image, k);
-    stamps::put_all(image, k.working, k.serial, mask);
+    stamps::put_all(image, k.working, k.stamp());
     Ok(Answer::Accepted)
 }
 
@@ -175,6 +175,6 @@ pub fn place(image: &mut [u8], mask: u8) -> Result<Answer, Refusal>
     check_place(k, mask)?;
     let added = k.add(mask);
     codec::write(image, added);
-    stamps::put_all(image, added.working, added.serial, mask);
+    stamps::put_all(image, added.working, added.stamp());
     Ok(Answer::Accepted)
 }
