@@ -83,7 +83,8 @@ fn check_fit(k: Control, card: Card) -> Result<(), Refusal>
     Ok(())
 }
 
-// The card comes to work, no longer failed, with a table of zeros.
+// The card comes to work, no longer failed, with a table of zeros. Not one function with withdraw over a check and a
+// change: the four lines that they share would need as many clauses, when each closure may be called and what it returns.
 pub fn fit(image: &mut [u8], card: Card) -> Result<Answer, Refusal>
     ensures { Done (asked (Call.Fit card)) image.old result image.new }
 {

@@ -152,15 +152,11 @@ fn carry(older: &[u8], image: &mut [u8])
     let front = numbered(older);
     image::write_at(image, 0, &front);
     let count = (front[0] / FIELD % FIELD_BOUND) as usize;
-    let mask = front[MASKS_AT + count - 1];
-    stamps::put_all(
-        image,
-        front[WORKING_AT],
-        Stamp {
-            serial: SERIAL,
-            mask,
-        },
-    );
+    let newest = Stamp {
+        serial: SERIAL,
+        mask: front[MASKS_AT + count - 1],
+    };
+    stamps::put_all(image, front[WORKING_AT], newest);
 }
 
 // Fills the lent buffer with the image from before A.7 at the length of A.7, as the converter above does.
