@@ -6,7 +6,7 @@ use Rattle.refusals.specs.Refusals.{number}
 use Rattle.refusals.specs.declared.Refusal.{Refusal}
 use Rattle.refusals.proofs.HandedOn.{HandsOn}
 use lib.ListN.{length}
-use mathlib.Core.Path.{◌∙◌, ◌≡◌, refl, ap, sym}
+use mathlib.Core.Path.{◌∙◌, ◌≡◌, refl, ap}
 use Rattle.image.specs.Layout.{card_count, control_size, most_active}
 use Rattle.image.specs.Parts.{Whole}
 use Rattle.mask.specs.Masks.{Byte, byte, with_card, without_card}
@@ -15,7 +15,7 @@ use native.Mathlib.Omega.{arith}
 use Rattle.method.specs.ControlPart.{added, with_cards}
 use Rattle.method.specs.Rules.{Call, Plan, act, clear_card, clear_stamp, fit, ok, place, stamp_all, stamping, unwritten, withdraw, writing}
 use Rattle.control.specs.ControlBytes.{Part, front_part}
-use Rattle.control.specs.Stamps.{put_stamps, stamp_of}
+use Rattle.control.specs.Stamps.{Stamp, put_stamps, stamp_of}
 use Rattle.control.specs.Meaning.{Is, meaning, put_control}
 use Rattle.control.specs.declared.Control.{Control as Struct}
 use Rattle.control_form.proofs.Put.{length-put}
@@ -29,7 +29,7 @@ use Rattle.promise.specs.declared.Answer.{Answer as AnswerValue}
 use Rattle.promise.specs.declared.Answer.TheVariants.{Accepted}
 use Rattle.promise.proofs.Finish.{by-plan, by-rules, by-stamps-alone, form-good, given-whole}
 use Rattle.promise.proofs.Laid.{KeepsTail, more-tail, over-control, same-tail}
-use Rattle.promise.proofs.Stamping.{added_is, added_on, byte-number, stamped-as}
+use Rattle.promise.proofs.Stamping.{added_is, added_on, stamped-as}
 use Rattle.cards.specs.Emptied.{emptied}
 use Rattle.cards.proofs.Rows.{fit-front, fit-range, fit-rows, place-few, place-front, place-rows, rows_of, withdraw-front, withdraw-range, withdraw-rows}
 
@@ -94,16 +94,16 @@ module _ {k : Struct} {g : Image} (is : Given k g) where
       (rows_on_lem (withdraw c) (withdraw-front (control_in g) c ∙ withdraw-rows (control_in g) (view_of g) c) e) (withdraw-plan g c) refl
       (l ∙ ap (put_control (emptied c g)) p ∙ cleared c (withdrawn g c) (same-tail g (form-good g is.formed)))
 
-  pub place-done : (m : ℕ) → m < 256 → (x : Struct) (out behind : Image) → 0 ≡ rows_of (place (by_mask (byte m))) (meaning k)
+  pub place-done : (m : ℕ) (x : Struct) (out behind : Image) {s : Stamp} → 0 ≡ rows_of (place (by_mask (byte m))) (meaning k)
       → Is x (added (meaning k) (from_mask (byte m)) (suc k.serial)) → out ≡ put_control g (meaning x)
-      → behind ≡ put_stamps out (byte x.working) (record { serial = x.serial; mask = m }) card_count → Done (place (by_mask (byte m))) g (Ok Accepted) behind
-  place-done m small x out behind e ix o l =
+      → s ≡ stamp_of (meaning x) → behind ≡ put_stamps out (byte x.working) s card_count → Done (place (by_mask (byte m))) g (Ok Accepted) behind
+  place-done m x out behind e ix o shown l =
       let p : Part = added_on g (from_mask (byte m)) in
       let means : meaning x ≡ front_part p = added_is is x (from_mask (byte m)) ix in
       by-stamps-alone (place (by_mask (byte m))) refl g is.formed Accepted p behind
       (rows_on_lem (place (by_mask (byte m))) (place-front (control_in g) (byte m) ∙ place-rows (control_in g) (view_of g) (byte m)) e) (place-plan g (byte m))
       (more-tail g (control_in g) (from_mask (byte m)) (form-good g is.formed) refl refl (suc (control_in g).serial))
-      (l ∙ stamped-as x p m means (byte-number m small) out ∙ ap (λ (i : Image). put_stamps i p.working (stamp_of p) card_count) (o ∙ ap (put_control g) means))
+      (l ∙ stamped-as x p means shown out ∙ ap (λ (i : Image). put_stamps i p.working (stamp_of p) card_count) (o ∙ ap (put_control g) means))
 
   -- what the functions below an accepted call ask
   pub long : control_size ≤ length g

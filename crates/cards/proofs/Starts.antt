@@ -23,7 +23,7 @@ use Rattle.method.specs.Rules.{act, refusal, stamp_all, stamped, start, updated}
 use Rattle.control.specs.ControlBytes.{Part, control_byte, tail_byte, tail_of}
 use Rattle.control.specs.Meaning.{Is, meaning, put_control}
 use Rattle.control.specs.Serials.{first_serial}
-use Rattle.control.specs.Stamps.{no_stamp, put_stamps, stamp_of}
+use Rattle.control.specs.Stamps.{Stamp, no_stamp, put_stamps, stamp_of}
 use Rattle.control.specs.declared.Control.{Control as Struct}
 use Rattle.control.proofs.StampLaws.{stamps-block, stamps-control, stamps-in, stamps-kept, stamps-tail, whole-stamps}
 use Rattle.control.proofs.Tail.{tail_more}
@@ -37,7 +37,7 @@ use Rattle.std.specs.Prelude.{Ok, Err}
 use Rattle.refusals.specs.declared.Refusal.TheVariants.{Length, Placement}
 use Rattle.promise.specs.declared.Answer.TheVariants.{Accepted}
 use Rattle.promise.proofs.Laid.{is_block}
-use Rattle.promise.proofs.Stamping.{byte-number, stamped-as}
+use Rattle.promise.proofs.Stamping.{stamped-as}
 use Rattle.cards.proofs.Tables.{none-byte}
 
 -- ---- an image of zeros with a first control part, and its stamp on its cards
@@ -103,15 +103,15 @@ module _ (g : Image) (mask : ℕ) where
         let few = lt-ltb (size m) least_members (omega (arith, e)) in
         record { answers = rw (eq-eqb (length g) image_size w, few); leaves = rw (eq-eqb (length g) image_size w, few) }
 
-    pub start-done : least_members ≤ n → mask < 256 → (x : Struct) (out first behind : Image) → Is x (started (from_mask m) m no_cards tt first_serial) → out ≡ zeros (length g)
-        → first ≡ put_control out (meaning x) → behind ≡ put_stamps first (byte x.working) (record { serial = x.serial; mask = mask }) card_count → Done (start m) g (Ok Accepted) behind
+    pub start-done : least_members ≤ n → (x : Struct) (out first behind : Image) {s : Stamp} → Is x (started (from_mask m) m no_cards tt first_serial) → out ≡ zeros (length g)
+        → first ≡ put_control out (meaning x) → s ≡ stamp_of (meaning x) → behind ≡ put_stamps first (byte x.working) s card_count → Done (start m) g (Ok Accepted) behind
     unfolding answer_by next_by refusal_by refusal start_row act
-    start-done z small x out first behind ix o f l =
+    start-done z x out first behind ix o f t l =
         let some-members = le-ltb (size m) least_members (omega (arith, e)) in
         let p : Part = started_by cabinet m in
         record {
           answers = rw (eq-eqb (length g) image_size w, some-members);
-          leaves = l ∙ stamped-as x p mask ix.means (byte-number mask small) first
+          leaves = l ∙ stamped-as x p ix.means t first
               ∙ ap (λ (i : Image). put_stamps i p.working (stamp_of p) card_count) (f ∙ ap₂ put_control (o ∙ ap zeros w) ix.means)
               ∙ rw (eq-eqb (length g) image_size w, some-members) (zeros-started m g);
         }

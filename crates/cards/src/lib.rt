@@ -36,7 +36,7 @@ pub fn start(image: &mut [u8], mask: u8) -> Result<Answer, Refusal>
     image::clear(image);
     let k = Control::started(mask);
     codec::write(image, k);
-    stamps::put_all(image, k.working, k.serial, mask);
+    stamps::put_all(image, k.working, k.stamp());
     Ok(Answer::Accepted)
 }
 
@@ -83,7 +83,8 @@ fn check_fit(k: Control, card: Card) -> Result<(), Refusal>
     Ok(())
 }
 
-// The card comes to work, no longer failed, with a table of zeros.
+// The card comes to work, no longer failed, with a table of zeros. Not one function with withdraw over a check and a
+// change: the four lines that they share would need as many clauses, when each closure may be called and what it returns.
 pub fn fit(image: &mut [u8], card: Card) -> Result<Answer, Refusal>
     ensures { Done (asked (Call.Fit card)) image.old result image.new }
 {
@@ -175,6 +176,6 @@ pub fn place(image: &mut [u8], mask: u8) -> Result<Answer, Refusal>
     check_place(k, mask)?;
     let added = k.add(mask);
     codec::write(image, added);
-    stamps::put_all(image, added.working, added.serial, mask);
+    stamps::put_all(image, added.working, added.stamp());
     Ok(Answer::Accepted)
 }

@@ -7,6 +7,7 @@ use Rattle.image.specs.Parts.{put_end}
 use Rattle.mask.specs.Masks.{Byte, has_card}
 use Rattle.control.specs.ControlBytes.{Part, serial_size}
 use Rattle.control.specs.Serials.{serial_byte, serial_in}
+use Rattle.control.specs.declared.stamps.Stamp.{Stamp as Struct}
 
 pub record Stamp : Type 0 where
   pub serial : ℕ
@@ -18,6 +19,10 @@ no_stamp = record { serial = 0; mask = 0 }
 
 abbrev pub stamp_of : Part → Stamp
 stamp_of k = record { serial = k.serial; mask = k.newest.mask.0 }
+
+-- That of the code's struct.
+abbrev pub stamp_by : Struct → Stamp
+stamp_by s = record { serial = s.serial; mask = s.mask }
 
 -- Byte j of a stamp, and the stamp that bytes show.
 unfoldable pub stamp_byte : Stamp → ℕ → ℕ

@@ -21,6 +21,7 @@ ghost use Rattle.method.specs.ControlPart.{
 ghost use Rattle.control.specs.ControlBytes.{table_mark_in};
 ghost use Rattle.control.specs.Meaning.{meaning, newest_mask, kept_home, with_mask, Counted, Is};
 ghost use Rattle.control.specs.Serials.{first_serial, serial_bound};
+ghost use Rattle.control.specs.Stamps.{stamp_by, stamp_of};
 
 pub mod codec;
 pub mod pairs;
@@ -30,6 +31,7 @@ pub mod stamps;
 
 use codec::{FIELD, OPEN};
 use image::{Card, TRAN_COUNT, Tran};
+use stamps::Stamp;
 
 // As many masks as active placements at most.
 pub const MASK_COUNT: usize = image::MOST_ACTIVE as usize;
@@ -87,6 +89,17 @@ impl Control {
     {
         let i = (self.count - 1) as usize;
         self.masks[i]
+    }
+
+    // Its stamp.
+    pub fn stamp(self) -> Stamp
+        requires { Counted self }
+        ensures { stamp_by result ≡ stamp_of (meaning self) }
+    {
+        Stamp {
+            serial: self.serial,
+            mask: self.newest_mask(),
+        }
     }
 
     // Whether the newest placement is by table.

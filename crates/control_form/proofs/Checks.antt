@@ -1,12 +1,12 @@
 -- The clauses of the control form, as the code goes through them. Assumes nothing.
 use mathlib.Core.Path.{◌≡◌, refl, sym, ap, ◌∙◌}
-use mathlib.Core.Bool.{Bool, true, false, not, and-true, cond}
+use mathlib.Core.Bool.{Bool, true, and-true, cond}
 use mathlib.Core.List.{List, [], ◌∷◌, reverse, reverse-append}
 use Prim.Native.Nat.{ℕ, zero, suc, ◌-◌, ◌≤◌, ◌<◌}
 use native.Mathlib.Omega.{arith}
 use lib.Dec.{leb, eqb}
 use lib.ListN.{get_or}
-use borrow.Author.Tests.{not-true, not-false, lt-ltb, leb-true}
+use borrow.Author.Tests.{lt-ltb, leb-true}
 use Rattle.lists.specs.Tests.{all_below}
 use Rattle.lists.proofs.Bools.{and_l, and_r}
 use Rattle.image.specs.Layout.{most_active, most_placed, tran_bound}
@@ -20,13 +20,6 @@ use Rattle.control.specs.declared.Control.{Control}
 use Rattle.control_form.proofs.RoundTrip.{form-count}
 use Rattle.control.proofs.Fields.{placements-more}
 use Rattle.control.proofs.Struct.{read-means}
-
--- ---- where the code's r is a test and the code asks for not r: the test fails, the test passes
-pub failed-is : {r a : Bool} → r ≡ a → not r ≡ true → a ≡ false
-failed-is {r} e h = sym e ∙ not-true r h
-
-pub passed_is : {r a : Bool} → r ≡ a → not r ≡ false → a ≡ true
-passed_is {r} e h = sym e ∙ not-false r h
 
 -- ---- the masks of placements, from the newest back
 masks-back : (f : ℕ → Placement) (n : ℕ) → masks_of (reverse (placements_in f n)) ≡ masks_back (λ i. (f i).mask) n

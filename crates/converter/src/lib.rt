@@ -17,7 +17,8 @@ ghost use Rattle.converter.specs.Steps.{TablesCarried, carry_table, older_front_
 use control::codec::{
     FIELD, FIELD_BOUND, MARKS_AT, MASKS_AT, RAIL_WEIGHT, SERIAL_AT, SERIAL_END, WORKING_AT,
 };
-use control::{serials, stamps};
+use control::serials;
+use control::stamps::{self, Stamp};
 use image::{Block, Card};
 use refusals::Refusal;
 
@@ -122,7 +123,7 @@ fn carry_table(older: &[u8], image: &mut [u8], card: Card)
     let from = image::CONTROL_SIZE + card.0 as usize * image::BLOCKS_SIZE;
     let end = from + image::BLOCKS_SIZE;
     image::write_at(image, to, &older[from..end]);
-    stamps::put(image, card, 0, 0);
+    stamps::put(image, card, Stamp { serial: 0, mask: 0 });
 }
 
 // Those of all cards.
@@ -150,12 +151,11 @@ fn carry(older: &[u8], image: &mut [u8])
     let front = numbered(older);
     image::write_at(image, 0, &front);
     let count = (front[0] / FIELD % FIELD_BOUND) as usize;
-    stamps::put_all(
-        image,
-        front[WORKING_AT],
-        SERIAL,
-        front[MASKS_AT + count - 1],
-    );
+    let newest = Stamp {
+        serial: SERIAL,
+        mask: front[MASKS_AT + count - 1],
+    };
+    stamps::put_all(image, front[WORKING_AT], newest);
 }
 
 // Fills the lent buffer with the image from before A.7 at the length of A.7, as the converter above does. The form that it

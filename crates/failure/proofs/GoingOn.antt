@@ -20,7 +20,7 @@ use Rattle.control.specs.ControlBytes.{Part, front_part}
 use Rattle.control.proofs.Front.{added-front}
 use Rattle.control.specs.Meaning.{Is, meaning, newest_mask, placement_in, put_control}
 use Rattle.control.specs.Serials.{serial_bound}
-use Rattle.control.specs.Stamps.{put_stamps, stamp_of}
+use Rattle.control.specs.Stamps.{Stamp, put_stamps, stamp_of}
 use Rattle.control.specs.declared.Control.{Control as Struct}
 use Rattle.control.proofs.Struct.{length-placements, newest-mask-is}
 use Rattle.control_form.proofs.Put.{length-put}
@@ -35,7 +35,7 @@ use Rattle.promise.specs.declared.Answer.TheVariants.{Placed, Unplaced}
 use Rattle.promise.proofs.Finish.{by_both, by-plan, form-good}
 use Rattle.promise.specs.Laid.{laid}
 use Rattle.promise.proofs.Laid.{KeepsTail, more-tail, same-tail, whole-laid, write-control, write-stamps}
-use Rattle.promise.proofs.Stamping.{byte-number, stamped-as}
+use Rattle.promise.proofs.Stamping.{stamped-as}
 use Rattle.tables.specs.Tables.{end_writes, set_of}
 use Rattle.failure.specs.Failing.{Failing}
 use Rattle.failure.proofs.Room.{room_for}
@@ -118,13 +118,13 @@ module _ {m x : Struct} {g out : Image} {c : ℕ} (f : Failing m g c) (s : stopp
     pub whole-added : (written : Image) → written ≡ put_control out (meaning y) → Whole written
     whole-added written l = let w : Whole out = out-whole in ap length l ∙ length-put out (meaning y) (omega arith) ∙ w
 
-    pub placed-done : {b : Bool} → b ≡ has_card (byte n) c → b ≡ true → mask < 256 → (written behind : Image) → written ≡ put_control out (meaning y)
-        → behind ≡ put_stamps written (byte y.working) (record { serial = y.serial; mask = mask }) card_count → Done (fail c) g (Ok (Placed mask)) behind
-    placed-done h z small written behind l st =
+    pub placed-done : {b : Bool} → b ≡ has_card (byte n) c → b ≡ true → (written behind : Image) {s : Stamp} → written ≡ put_control out (meaning y)
+        → s ≡ stamp_of (meaning y) → behind ≡ put_stamps written (byte y.working) s card_count → Done (fail c) g (Ok (Placed mask)) behind
+    placed-done h z written behind l shown st =
         let w = drop_held cabinet (begun_at (control_in g) c) c (view_of g) in
         let keeps : KeepsTail added_part g = more-tail g closed_part (from_mask (without_card newest c)) (form-good g f.formed) refl refl (suc (control_in g).serial) in
         by-plan (fail c) refl g f.formed (Placed mask) _ behind f.accepted (placed-plan (had e h ∙ z)) (ap (λ (b : Byte). placed b) mask_is)
-        (st ∙ stamped-as y added_part mask added-means (byte-number mask small ∙ ap (λ (b : Byte). b.0) mask_is) written
+        (st ∙ stamped-as y added_part added-means shown written
         ∙ ap (λ (i : Image). put_stamps i added_part.working (stamp_of added_part) card_count) (l ∙ ap₂ put_control out-dropped added-means ∙ write-control w g added_part keeps)
         ∙ write-stamps w g added_part)
 

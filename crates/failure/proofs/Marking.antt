@@ -4,7 +4,6 @@ use Prim.Native.Nat.{◌<◌, ℕ}
 use borrow.Author.Tests.{ltb-true}
 use lib.Dec.{ltb}
 use mathlib.Core.Bool.{Bool, and-false, cond, false, not, true}
-use mathlib.Core.Logic.{◌≢◌}
 use mathlib.Core.Path.{◌∙◌, ◌≡◌, ap, refl, sym}
 use Rattle.image.specs.Layout.{card_count}
 use Rattle.mask.specs.Masks.{has_card, with_card, without_card}

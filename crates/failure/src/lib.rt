@@ -55,7 +55,7 @@ fn go_on(image: &mut [u8], marked: Control, card: Card) -> Answer
         let mask = mask::without_card(newest, card);
         let added = closed.add(mask);
         codec::write(image, added);
-        stamps::put_all(image, added.working, added.serial, mask);
+        stamps::put_all(image, added.working, added.stamp());
         return Answer::Placed(mask);
     }
     codec::write(image, closed);

@@ -16,7 +16,7 @@ use Rattle.table_lines.specs.Lines.{line_count, named_by, pair_by, table_placeme
 use Rattle.method.specs.ControlPart.{active, added}
 use Rattle.control.specs.ControlBytes.{Part, front_part, tail_byte}
 use Rattle.control.specs.Meaning.{Is, meaning, put_control, put_tail}
-use Rattle.control.specs.Stamps.{put_stamps, stamp_of}
+use Rattle.control.specs.Stamps.{Stamp, put_stamps, stamp_of}
 use Rattle.control.specs.declared.Control.{Control as Struct}
 use Rattle.control.proofs.Front.{active-front, added-front}
 use Rattle.control.proofs.PutTail.{placed-put}
@@ -25,7 +25,7 @@ use Rattle.cabinet_rules.specs.Images.{Image, control_in}
 use Rattle.promise.specs.Given.{Given}
 use Rattle.promise.proofs.Finish.{form-good, given-whole}
 use Rattle.promise.proofs.Laid.{same-tail, write-stamps}
-use Rattle.promise.proofs.Stamping.{byte-number, serial-is, stamped-as}
+use Rattle.promise.proofs.Stamping.{serial-is, stamped-as}
 use Rattle.promise.proofs.WholePart.{whole-tail, write-whole}
 use Rattle.placing.specs.Placed.{table_added, with_table}
 use Rattle.placing.proofs.Rows.{count-is}
@@ -71,13 +71,13 @@ module _ {k : Struct} {g : Image} (is : Given k g) (l : List ℕ) (few : k.count
       ∙ ap length (between xs out ex eo) ∙ whole-tail g (tail_byte new) (given-whole is)
 
   -- and the stamps
-  pub table-written : (m : ℕ) → m < 256 → (x : Struct) (xs : List ℕ) (out written behind : Image) → byte m ≡ named_by l (line_count l)
+  pub table-written : (m : ℕ) (x : Struct) (xs : List ℕ) (out written behind : Image) {s : Stamp} → byte m ≡ named_by l (line_count l)
       → Is x (added (meaning k) (record { mask = byte m; choice = by_table no_pairs }) (suc k.serial)) → xs ≡ pairs.0
       → out ≡ splice g (tail_start + k.count * pairs_size) xs → written ≡ put_control out (meaning x)
-      → behind ≡ put_stamps written (byte x.working) (record { serial = x.serial; mask = m }) card_count → behind ≡ with_table l g
+      → s ≡ stamp_of (meaning x) → behind ≡ put_stamps written (byte x.working) s card_count → behind ≡ with_table l g
   unfolding with_table table_placement
-  table-written m small x xs out written behind em ix ex eo ew eb =
-      eb ∙ stamped-as x new m (front-is m x em ix) (byte-number m small ∙ ap (λ (b : Byte). b.0) em) written
+  table-written m x xs out written behind em ix ex eo ew shown eb =
+      eb ∙ stamped-as x new (front-is m x em ix) shown written
       ∙ ap (λ (i : Image). put_stamps i new.working (stamp_of new) card_count)
       (ew ∙ ap₂ (λ (o : Image) (p : Part). put_control o p) (between xs out ex eo) (front-is m x em ix) ∙ write-whole g new (given-whole is))
       ∙ write-stamps (λ c b. none) g new

@@ -61,7 +61,7 @@ fn add(image: &mut [u8], k: Control, lines: Lines)
     let mask = lines.named();
     let added = k.add_table(mask);
     codec::write(image, added);
-    stamps::put_all(image, added.working, added.serial, mask);
+    stamps::put_all(image, added.working, added.stamp());
 }
 
 // The placement of the lines becomes the newest.

@@ -33,13 +33,8 @@ module _ {k : Struct} {g : Image} (is : Given k g) where
   pub added_is : (x : Struct) (p : Placement) → Is x (added (meaning k) (pairless p) (suc k.serial)) → meaning x ≡ front_part (added_on g p)
   added_is x p ix = ix.means ∙ ap₂ (λ (q : Part) (ν : ℕ). added q (pairless p) (suc ν)) is.is.means serial-is ∙ added-front (control_in g) p (suc (control_in g).serial)
 
--- The stamp of the code's values is that of the control part.
-pub stamped-as : (x : Struct) (p : Part) (m : ℕ) → meaning x ≡ front_part p → m ≡ p.newest.mask.0 → (i : Image)
-    → put_stamps i (byte x.working) (record { serial = x.serial; mask = m }) card_count ≡ put_stamps i p.working (stamp_of p) card_count
+-- The stamp of the code's struct is that of the control part.
+pub stamped-as : (x : Struct) (p : Part) {s : Stamp} → meaning x ≡ front_part p → s ≡ stamp_of (meaning x) → (i : Image)
+    → put_stamps i (byte x.working) s card_count ≡ put_stamps i p.working (stamp_of p) card_count
 unfolding meaning
-stamped-as x p m e n i = ap₂ (λ (w : Byte) (s : Stamp). put_stamps i w s card_count) (ap (λ (q : Part). q.working) e)
-    (λ j. record { serial = ap (λ (q : Part). q.serial) e j; mask = n j })
-
--- a byte is the number of its mask
-pub byte-number : (m : ℕ) → m < 256 → m ≡ (byte m).0
-byte-number m h = omega arith
+stamped-as x p e m i = ap₂ (λ (w : Byte) (s : Stamp). put_stamps i w s card_count) (ap (λ (q : Part). q.working) e) (m ∙ ap stamp_of e)

@@ -5,8 +5,7 @@ use borrow.Author.Tests.{le-ltb, lt-ltb, ltb-true}
 use lib.Dec.{ltb}
 use lib.ListN.{get_or}
 use mathlib.Core.Bool.{Bool, ◌&&◌, ◌||◌, cond, false, not, true}
-use mathlib.Core.Path.{◌∙◌, ◌≡◌, ap, ap₂, refl, sym}
-use native.Mathlib.Nat.{mod-eq_of_lt}
+use mathlib.Core.Path.{◌∙◌, ◌≡◌, ap, refl, sym}
 use Rattle.image.specs.Layout.{card_count, end_start}
 use Rattle.mask.specs.Masks.{Byte, byte, has_card}
 use Rattle.method.specs.Returning.{is_stale, return_refusal}
@@ -16,7 +15,7 @@ use Rattle.control.specs.ControlBytes.{Part}
 use Rattle.control.specs.Meaning.{meaning, newest_mask}
 use Rattle.control.specs.Stamps.{Stamp, no_stamp, same_stamp, stamp_in, stamp_of}
 use Rattle.control.specs.declared.Control.{Control as Struct}
-use Rattle.control.proofs.Struct.{newest-mask-is, serial-is}
+use Rattle.control.proofs.Struct.{newest-mask-is}
 use Rattle.cabinet_rules.specs.Cabinet.{cabinet}
 use Rattle.cabinet_rules.specs.Images.{Image, control_in, state_by, state_in}
 use Rattle.promise.specs.Given.{Given}
@@ -41,13 +40,10 @@ unfolding return_rows_on
 in-range g c e = ltb-true c card_count (taken-shows cabinet (control_in g) (state_in g).stamp c e).is-card
 
 -- ---- what the first tests have shown
-pub record FailedCard (k : Struct) (g : Image) (c n : ℕ) : Type 0 where
+pub record FailedCard (g : Image) (c : ℕ) : Type 0 where
   pub ranged : c < card_count
   pub rests : (control_in g).stopped ≡ true
   pub failed : has_card (control_in g).failed c ≡ true
-  pub mask_is : byte n ≡ (control_in g).newest.mask
-  pub serial-same : k.serial ≡ (control_in g).serial
-  pub small : n < 256
 
 -- ---- before the card's stamp is looked at
 module _ {k : Struct} {g : Image} (is : Given k g) (c : ℕ) where
@@ -68,35 +64,28 @@ module _ {k : Struct} {g : Image} (is : Given k g) (c : ℕ) where
     pub not-failed : {f : Bool} → k.stopped ≡ true → f ≡ has_card (byte k.failed) c → f ≡ false → 8 ≡ return_rows_on c g
     not-failed s h e = rows_of g c (lt-ltb c card_count ranged) (rests-as s) (failed-as h e) refl refl
 
-    -- the card has failed in a stopped store, and n is the newest mask
-    pub failed-card : {f : Bool} {n : ℕ} → k.stopped ≡ true → f ≡ has_card (byte k.failed) c → f ≡ true → n ≡ newest_mask k → n < 256 → FailedCard k g c n
-    failed-card {n = n} s h e m small = record {
-      ranged = ranged;
-      rests = rests-as s;
-      failed = failed-as h e;
-      mask_is = newest-mask-is k n m ∙ ap (λ (p : Part). p.newest.mask) is.is.means;
-      serial-same = serial-is k ∙ ap (λ (p : Part). p.serial) is.is.means;
-      small = small;
-    }
+    -- the card has failed in a stopped store
+    pub failed-card : {f : Bool} → k.stopped ≡ true → f ≡ has_card (byte k.failed) c → f ≡ true → FailedCard g c
+    failed-card s h e = record { ranged = ranged; rests = rests-as s; failed = failed-as h e }
 
 -- ---- the stamp
--- That of the card in the image, beside the one of the struct's serial and the mask n.
-abbrev pub is_current : Struct → Image → ℕ → ℕ → Bool
-is_current k g c n = same_stamp (stamp_in (λ j. get_or g (end_start c + j) 0)) (record { serial = k.serial; mask = n })
+-- Whether the card in the image has this one.
+abbrev pub is_current : Image → ℕ → Stamp → Bool
+is_current g c s = same_stamp (stamp_in (λ j. get_or g (end_start c + j) 0)) s
 
-module _ {k : Struct} {g : Image} {c n : ℕ} (f : FailedCard k g c n) where
-  stamp-as : {u b : Bool} → u ≡ is_current k g c n → u ≡ b → same_stamp ((state_in g).stamp c) (stamp_of (control_in g)) ≡ b
+module _ {k : Struct} {g : Image} {c : ℕ} (is : Given k g) (f : FailedCard g c) {s : Stamp} (shown : s ≡ stamp_of (meaning k)) where
+  stamp-as : {u b : Bool} → u ≡ is_current g c s → u ≡ b → same_stamp ((state_in g).stamp c) (stamp_of (control_in g)) ≡ b
   unfolding state_by
   stamp-as h e =
-      let mask : n ≡ (control_in g).newest.mask.0 = sym (mod-eq_of_lt f.small) ∙ ap (λ (m : Byte). m.0) f.mask_is in
       let found : Stamp = stamp_in (λ j. get_or g (end_start c + j) 0) in
       ap (λ (t : Bool). same_stamp (cond t found no_stamp) (stamp_of (control_in g))) (lt-ltb c card_count f.ranged)
-      ∙ sym (h ∙ ap₂ (λ (ν m : ℕ). same_stamp found (record { serial = ν; mask = m })) f.serial-same mask) ∙ e
+      ∙ sym (h ∙ ap (same_stamp found) (shown ∙ ap stamp_of is.is.means)) ∙ e
 
-  pub other-stamp : {u : Bool} → u ≡ is_current k g c n → u ≡ false → 19 ≡ return_rows_on c g
+  pub other-stamp : {u : Bool} → u ≡ is_current g c s → u ≡ false → 19 ≡ return_rows_on c g
   other-stamp h e = rows_of g c (lt-ltb c card_count f.ranged) f.rests f.failed (stamp-as h e) refl
 
   -- it is current, and the newest placement names the card or does not
-  pub same-stamp : {u x b : Bool} → u ≡ is_current k g c n → u ≡ true → x ≡ has_card (byte n) c → x ≡ b → row 19 (not b) 0 ≡ return_rows_on c g
-  same-stamp h e m y = rows_of g c (lt-ltb c card_count f.ranged) f.rests f.failed (stamp-as h e)
-      (sym (m ∙ ap (λ (z : Byte). has_card z c) f.mask_is) ∙ y)
+  pub same-stamp : {u x b : Bool} {n : ℕ} → u ≡ is_current g c s → u ≡ true → n ≡ newest_mask k → x ≡ has_card (byte n) c → x ≡ b
+      → row 19 (not b) 0 ≡ return_rows_on c g
+  same-stamp {n = n} h e newest m y = rows_of g c (lt-ltb c card_count f.ranged) f.rests f.failed (stamp-as h e)
+      (sym (m ∙ ap (λ (z : Byte). has_card z c) (newest-mask-is k n newest ∙ ap (λ (p : Part). p.newest.mask) is.is.means)) ∙ y)

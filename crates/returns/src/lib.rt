@@ -35,7 +35,7 @@ fn check(image: &[u8], k: Control, card: Card) -> Result<(), Refusal>
     if !mask::has(k.failed, card) {
         return Err(Refusal::Card);
     }
-    if !stamps::is_current(image, card, k.serial, newest) {
+    if !stamps::is_current(image, card, k.stamp()) {
         return Err(Refusal::Stale);
     }
     if !mask::has(newest, card) {

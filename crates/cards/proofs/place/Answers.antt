@@ -1,6 +1,4 @@
 -- Refused by the form or by a row; else the placement of the mask is added to the control part, and working cards get its stamp. Assumes nothing.
-use Prim.Native.Nat.{◌<◌}
-use borrow.Author.Rules.{rules}
 use mathlib.Core.Path.{refl}
 use Rattle.mask.specs.Masks.{byte}
 use Rattle.method.specs.Rules.{place}
@@ -37,5 +35,4 @@ put_all-requires c = whole-written (given c.in_ok-k.ensures) c.add-added.result 
 
 pub returns : goal.returns
 returns c =
-    let small : c.args.mask < 256 = search rules in
-    place-done (given c.in_ok-k.ensures) c.args.mask small _ _ _ c.in_ok-check_place.ensures c.add-added.ensures c.write.ensures c.put_all.ensures
+    place-done (given c.in_ok-k.ensures) c.args.mask _ _ _ c.in_ok-check_place.ensures c.add-added.ensures c.write.ensures c.stamp.ensures c.put_all.ensures

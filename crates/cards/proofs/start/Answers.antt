@@ -1,7 +1,5 @@
 -- Refused by the length or the number of members; else all bytes are zeroed, the first control part is written, and its cards get its stamp.
 -- Assumes nothing.
-use Prim.Native.Nat.{◌<◌}
-use borrow.Author.Rules.{rules}
 use Rattle.cards.proofs.Starts.{long-zeros, start-1, start-9, start-done, whole-zeros}
 use Rattle.cards.proofs.start.Goals as goal
 
@@ -23,6 +21,5 @@ put_all-requires c =
 
 pub returns : goal.returns
 returns c =
-    let small : c.args.mask < 256 = search rules in
-    start-done c.args.image.now c.args.mask c.if-image-ne-IMAGE_SIZE.false c.members.ensures c.if-members-lt-LEAST_MEMBERS.false small
-    _ _ _ _ c.started-k.ensures c.clear.ensures c.write.ensures c.put_all.ensures
+    start-done c.args.image.now c.args.mask c.if-image-ne-IMAGE_SIZE.false c.members.ensures c.if-members-lt-LEAST_MEMBERS.false
+    _ _ _ _ c.started-k.ensures c.clear.ensures c.write.ensures c.stamp.ensures c.put_all.ensures

@@ -1,9 +1,8 @@
 -- The length, then the form, then the struct that the bytes show. Assumes nothing.
-use mathlib.Core.Path.{ap}
-use mathlib.Core.Bool.{not}
+use mathlib.Core.Path.{sym, ◌∙◌}
 use borrow.Author.Tests.{eq-eqb, ne_eqb}
 use Rattle.control_form.specs.ControlForm.{form_refusal}
-use Rattle.control_form.proofs.Checks.{failed-is, form-reads, passed_is}
+use Rattle.control_form.proofs.Checks.{form-reads}
 use Rattle.control_form.proofs.read.Goals as goal
 
 pub returns-then-image-ne-IMAGE_SIZE : goal.returns-then-image-ne-IMAGE_SIZE
@@ -14,10 +13,10 @@ returns-then-image-ne-IMAGE_SIZE c =
 pub returns-then-not-form_ok : goal.returns-then-not-form_ok
 unfolding form_refusal
 returns-then-not-form_ok c =
-    record { refusal_is = rw (eq-eqb _ _ c.if-image-ne-IMAGE_SIZE.false, failed-is c.form_ok.ensures (ap not c.if-not-form_ok.true)); good = tt }
+    record { refusal_is = rw (eq-eqb _ _ c.if-image-ne-IMAGE_SIZE.false, sym c.form_ok.ensures ∙ c.if-not-form_ok.true); good = tt }
 
 pub returns : goal.returns
 unfolding form_refusal
 returns c =
-    let t = passed_is c.form_ok.ensures (ap not c.if-not-form_ok.false) in
+    let t = sym c.form_ok.ensures ∙ c.if-not-form_ok.false in
     record { refusal_is = rw (eq-eqb _ _ c.if-image-ne-IMAGE_SIZE.false, t); good = form-reads c.args.image.now c.decode.result c.decode.ensures t }

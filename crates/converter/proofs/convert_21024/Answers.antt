@@ -9,11 +9,9 @@ use Rattle.image.specs.Layout.{tail_size}
 use Rattle.image.specs.Parts.{zeros}
 use Rattle.image.proofs.Parts.{length_part, part_left}
 use Rattle.image.proofs.Zeros.{length-zeros}
-use Rattle.control_form.proofs.Checks.{failed-is, passed_is}
 use Rattle.cabinet_rules.specs.Converting.{older_size}
 use Rattle.converter.proofs.Longer.{filled_is, length-copied}
 use Rattle.converter.proofs.Refusals.{broken-form, converted, wrong-lent, wrong-older}
-use mathlib.Core.Bool.{not}
 use Rattle.converter.proofs.convert_21024.Goals as goal
 
 pub returns-then-older-ne-OLDER_SIZE : goal.returns-then-older-ne-OLDER_SIZE
@@ -23,7 +21,7 @@ pub returns-then-image-ne-PAIRS_IMAGE_SIZE : goal.returns-then-image-ne-PAIRS_IM
 returns-then-image-ne-PAIRS_IMAGE_SIZE c = wrong-lent c.if-older-ne-OLDER_SIZE.false c.if-image-ne-PAIRS_IMAGE_SIZE.true
 
 pub returns-then-not-form_21024 : goal.returns-then-not-form_21024
-returns-then-not-form_21024 c = broken-form c.if-older-ne-OLDER_SIZE.false c.if-image-ne-PAIRS_IMAGE_SIZE.false (failed-is c.form_21024.ensures (ap not c.if-not-form_21024.true))
+returns-then-not-form_21024 c = broken-form c.if-older-ne-OLDER_SIZE.false c.if-image-ne-PAIRS_IMAGE_SIZE.false (sym c.form_21024.ensures ∙ c.if-not-form_21024.true)
 
 pub returns : goal.returns
 returns c =
@@ -32,7 +30,7 @@ returns c =
     let i = c.if-image-ne-PAIRS_IMAGE_SIZE.false in
     let m = c.write_at.new.s in
     let long = ap length c.write_at.ensures ∙ length-copied a.older.now a.image.now o i in
-    converted o i (passed_is c.form_21024.ensures (ap not c.if-not-form_21024.false)) _
+    converted o i (sym c.form_21024.ensures ∙ c.if-not-form_21024.false) _
     (part_left older_size tail_size m (zeros tail_size) _
     (c.clear.ensures ∙ ap zeros (length_part older_size tail_size m tail_size refl (omega (arith, long)))) (sym (length-zeros tail_size))
     ∙ ap (λ (l : List ℕ). splice l older_size (zeros tail_size)) c.write_at.ensures ∙ filled_is a.older.now a.image.now o i)

@@ -1,6 +1,5 @@
 -- Once what was begun at the card has closed, each return is a law of going on: with a placement without the card, or with none. Assumes nothing.
-use Prim.Native.Nat.{◌<◌, ◌≤◌}
-use borrow.Author.Rules.{rules}
+use Prim.Native.Nat.{◌≤◌}
 use lib.ListN.{length}
 use native.Mathlib.Omega.{arith}
 use Rattle.image.specs.Layout.{control_size}
@@ -35,9 +34,8 @@ put_all-requires c =
 pub returns-then-has : goal.returns-then-has
 returns-then-has c =
     let closed_at : Closing c.args.marked c.args.image.now c.args.card.0 c.end_held.new.image c.close_at-closed.result = closing c.begun_at.ensures c.end_held.ensures c.close_at-closed.ensures in
-    let small : c.without_card-mask.result < 256 = search rules in
     placed-done c.requires.failing c.requires.card_value closed_at _ c.newest_mask-newest.ensures c.without_card-mask.ensures c.add-added.ensures
-    c.has.ensures c.if-has.true small _ _ c.write.ensures c.put_all.ensures
+    c.has.ensures c.if-has.true _ _ c.write.ensures c.stamp.ensures c.put_all.ensures
 
 pub write-requires-2 : goal.write-requires-2
 write-requires-2 c =

@@ -1,6 +1,4 @@
 -- The pairs of the placement are written, then the struct with the placement, then the stamps: the law of all is in Written. Assumes nothing.
-use Prim.Native.Nat.{◌<◌}
-use borrow.Author.Rules.{rules}
 use native.Mathlib.Omega.{arith}
 use Rattle.promise.proofs.Finish.{given-whole}
 use Rattle.promise.proofs.Stamping.{serial-small}
@@ -26,6 +24,5 @@ put_all-requires c =
 
 pub returns : goal.returns
 returns c =
-    let small : c.named-mask.result < 256 = search rules in
-    table-written c.requires.given c.args.lines.bytes.now c.requires.count_lt_most_active _ small _ _ _ _ _ c.named-mask.ensures c.add_table-added.ensures
-    c.pairs.ensures c.put.ensures c.write.ensures c.put_all.ensures
+    table-written c.requires.given c.args.lines.bytes.now c.requires.count_lt_most_active _ _ _ _ _ _ c.named-mask.ensures c.add_table-added.ensures
+    c.pairs.ensures c.put.ensures c.write.ensures c.stamp.ensures c.put_all.ensures

@@ -1,9 +1,7 @@
 -- The transactions below t are open. Assumes nothing.
 use Prim.Native.Nat.{◌<◌}
 use borrow.Author.Rules.{rules}
-use borrow.Author.Tests.{not-false, not-true}
-use mathlib.Core.Bool.{not}
-use mathlib.Core.Path.{◌∙◌, ◌≡◌, ap, sym}
+use mathlib.Core.Path.{◌∙◌, ◌≡◌, sym}
 use native.Mathlib.Omega.{arith}
 use Rattle.image.specs.Layout.{tran_bound}
 use Rattle.control.specs.Meaning.{meaning}
@@ -16,12 +14,12 @@ loop-t-init c = free-first _
 pub returns-then-not-is_open : goal.returns-then-not-is_open
 returns-then-not-is_open c =
     let h : c.loop-t.t < tran_bound = search rules in
-    free-found (meaning c.args.k) c.loop-t.t h (sym c.is_open.ensures ∙ not-true _ (ap not c.if-not-is_open.true)) c.loop-t.invariant
+    free-found (meaning c.args.k) c.loop-t.t h (sym c.is_open.ensures ∙ c.if-not-is_open.true) c.loop-t.invariant
 
 pub loop-t-preserved : goal.loop-t-preserved
 loop-t-preserved c =
     let h : c.loop-t.t < tran_bound = search rules in
-    free-passed (meaning c.args.k) c.loop-t.t h (sym c.is_open.ensures ∙ not-false _ (ap not c.if-not-is_open.false)) c.loop-t.invariant
+    free-passed (meaning c.args.k) c.loop-t.t h (sym c.is_open.ensures ∙ c.if-not-is_open.false) c.loop-t.invariant
 
 pub returns : goal.returns
 returns c =
