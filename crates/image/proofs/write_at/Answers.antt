@@ -3,7 +3,6 @@ use mathlib.Core.Path.{refl, sym, ap, ◌∙◌}
 use native.Mathlib.Omega.{arith}
 use lib.Seq.{take_all}
 use lib.ListN.{length-set}
-use borrow.Author.Rules.{rules}
 use Rattle.lists.specs.Segments.{splice}
 use Rattle.lists.proofs.Segments.{splice-none, splice-more}
 use Rattle.image.proofs.write_at.Goals as goal
