@@ -9,5 +9,5 @@ set -eu
 cd "$(dirname "$0")/.."
 . bench/earlier.sh
 
-# The last commit that ends transactions block by block by value, and reads the transactions' bytes one at a time.
-beside "${1:-e2eae711ddb8e9f27888593b8b566163bba86b45}" before
+# The last commit whose calls answer a refusal as one of their answers.
+beside "${1:-8163796e7f8c32af567bf1a4b1952804204e2783}" before

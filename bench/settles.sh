@@ -7,5 +7,5 @@ set -eu
 cd "$(dirname "$0")/.."
 . bench/earlier.sh
 
-# The last commit whose settle works out the sites anew for each block.
-beside "${1:-f956ce341ae6b5106f4c7cc448597489f0ddd133}" settles
+# The last commit whose calls answer a refusal as one of their answers.
+beside "${1:-8163796e7f8c32af567bf1a4b1952804204e2783}" settles

@@ -25,7 +25,7 @@ use Rattle.cabinet_rules.specs.Cabinet.{place_rows, rules_of, tran_ok}
 use Rattle.cabinet_rules.specs.Delivery.{Delivery, PartOf, broken_wire, current, storable}
 use Rattle.cabinet_rules.specs.Places.{placed_row}
 use Rattle.cabinet_rules.specs.Retired.{any_value, below_wire, two_rails}
-use Rattle.cabinet_rules.specs.Images.{Image, after, answer_by, control_by, next_by, plan_by, refusal_by, state_by}
+use Rattle.cabinet_rules.specs.Images.{Image, answer_by, control_by, next_by, plan_by, refusal_by, state_by}
 use Rattle.cabinet_rules.specs.Images.{after_plan, form_by}
 
 -- The rules of A.5, and of the delivery before.

@@ -14,7 +14,7 @@ use Rattle.lists.proofs.Counts.{below_all}
 use Rattle.image.specs.Layout.{block_count, card_count, control_size, copy_count, least_members, most_placed, record_count, slot_count, tran_bound, value_bound}
 use Rattle.mask.specs.Masks.{Byte, has_card, is_within, size, without_card}
 use Rattle.mask.proofs.Masks.{has-card, has-none, has-with, has-without}
-use Rattle.mask.specs.Placements.{Placement, placed}
+use Rattle.mask.specs.Placements.{placed}
 use Rattle.mask.proofs.SiteLaws.{placed-sites, placed-usable, site-count, site-distinct, site-member}
 use Rattle.slot.specs.Blocks.{BlockBytes, end_slots, fresh_block, lock_slot, slot_at}
 use Rattle.slot.specs.Words.{entry_of, freed_slot, locked_slot, slot_of, state_of}
@@ -31,9 +31,8 @@ use Rattle.method.proofs.Refusals.{row-clear}
 use Rattle.method.proofs.Stopped.{Rests}
 use Rattle.cabinet_rules.specs.Cabinet.{place_rows, rules_of, slot_seen, start_row, tran_ok}
 use Rattle.control.specs.ControlBytes.{Setting}
-use Rattle.control.proofs.StampLaws.{same_refl}
 use Rattle.cabinet_rules.specs.Delivery.{Delivery, PartOf}
-use Rattle.cabinet_rules.specs.Places.{PlaceArgument, never_spent, placed_row}
+use Rattle.cabinet_rules.specs.Places.{never_spent, placed_row}
 use Rattle.cabinet_rules.specs.Retired.{again_marked, railed}
 
 -- ---- slots, as the rules see them

@@ -19,7 +19,6 @@ use Rattle.control.specs.ControlBytes.{Part}
 use Rattle.cabinet_rules.specs.Cabinet.{cabinet}
 use Rattle.cabinet_rules.specs.Claims.{NoisyCall, image_after, image_after_by, image_calls, noisy}
 use Rattle.cabinet_rules.specs.Delivery.{current}
-use Rattle.cabinet_rules.specs.Retired.{base}
 use Rattle.cabinet_rules.specs.Images.{Image, answer, control_in, next, state_by, state_in}
 use Rattle.cabinet_rules.specs.MoveLists.{AreMoves, ListSettles, NeverSettles, NoShorterList, NoneByLock, NoneIsFinal}
 use Rattle.cabinet_rules.specs.MoveLists.{NoneIsFinalFromEarlier, list_answer_on, list_refusal, moves_on, unless_refused_list}

@@ -7,7 +7,7 @@ use Rattle.slot.specs.Blocks.{BlockBytes, empty_block, end_slots, fresh_block, i
 use Rattle.slot.specs.Words.{state_of}
 use Rattle.method.specs.Parameters.{Parameters}
 use Rattle.method.specs.Slots.{Slot}
-use Rattle.control.specs.ControlBytes.{Setting, Serial}
+use Rattle.control.specs.ControlBytes.{Setting}
 use Rattle.cabinet_rules.specs.Delivery.{Delivery, current}
 unfoldable pub use Rattle.cabinet_rules.specs.Places.{place_rows, start_row}
 

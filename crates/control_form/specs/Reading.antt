@@ -1,16 +1,14 @@
 -- What the reader finds in an image, and what it looks at byte by byte. Assumes nothing.
-use Rattle.std.specs.Prelude.{Result, IfOk, ◌≡◌, Bool, ◌&&◌, ◌||◌, cond, ◌≢◌, List, [], ◌∷◌, ℕ, zero, suc, ◌%◌, ◌*◌, ◌/◌, ◌+◌, ◌-◌, eqb, leb, ltb, get_or, length}
+use Rattle.std.specs.Prelude.{Result, IfOk, ◌≡◌, Bool, ◌&&◌, ◌||◌, cond, List, [], ◌∷◌, ℕ, zero, suc, ◌%◌, ◌*◌, ◌/◌, ◌+◌, ◌-◌, eqb, leb, ltb, get_or, length}
 use Rattle.std.specs.Borrow.{Bor}
 use Rattle.std.specs.Int.Bits.{bit_and}
 use Rattle.lists.specs.Tests.{all_below}
 use Rattle.image.specs.Layout.{block_count, control_size, most_placed, pairs_size}
-use Rattle.mask.specs.Masks.{Byte, byte, is_within, no_cards, size}
+use Rattle.mask.specs.Masks.{Byte, byte, is_within, size}
 use Rattle.mask.specs.Pairs.{are_pairs_of, is_pair_of, pair_at}
-use Rattle.mask.specs.Placements.{from_mask}
-use Rattle.method.specs.ControlPart.{started}
-use Rattle.control.specs.ControlBytes.{Part, control_of, count_in, failed_at, field, front_part, home_byte, home_in, homes_at, homes_end}
+use Rattle.control.specs.ControlBytes.{control_of, count_in, failed_at, field, front_part, home_byte, home_in, homes_at, homes_end}
 use Rattle.control.specs.ControlBytes.{last_mask_at, marks_at, masks_at, pairs_in, serial_at, serial_end, stopped_in, table_mark_in, tail_at, working_at}
-use Rattle.control.specs.Serials.{first_serial, serial_in, serial_most}
+use Rattle.control.specs.Serials.{serial_in, serial_most}
 use Rattle.control.specs.Meaning.{Is, free_marks}
 use Rattle.control_form.specs.ControlForm.{chain_ok, form_refusal, home_ok, is_safe, members_ok}
 use Rattle.control.specs.declared.Control.{Control}

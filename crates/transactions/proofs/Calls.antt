@@ -6,7 +6,7 @@ use Rattle.refusals.proofs.HandedOn.{HandsOn}
 use Rattle.refusals.specs.declared.Refusal.{Refusal}
 use lib.Dec.{eqb}
 use mathlib.Core.Bool.{Bool}
-use mathlib.Core.Path.{◌∙◌, ◌≡◌, ap, refl, sym}
+use mathlib.Core.Path.{◌∙◌, ◌≡◌, ap, refl}
 use Rattle.slot.specs.Blocks.{in_set}
 use Rattle.method.specs.ControlPart.{closed, opened}
 use Rattle.method.specs.Rules.{View, begin, end_held, look, refusal}

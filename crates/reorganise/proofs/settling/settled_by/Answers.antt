@@ -2,7 +2,7 @@
 use Prim.Native.Nat.{◌%◌, ◌*◌, ◌+◌, ◌<◌, ℕ}
 use borrow.Author.Tests.{not-false, not-true}
 use lib.ListN.{get_or}
-use mathlib.Core.Bool.{Bool, not, true}
+use mathlib.Core.Bool.{Bool, not}
 use mathlib.Core.List.{List}
 use mathlib.Core.Path.{◌∙◌, ◌≡◌, ap, refl, sym}
 use native.Mathlib.Nat.{zero-mod}
