@@ -1,7 +1,7 @@
 -- The sites that are left are looked at one by one, and a put on one changes nothing of what another holds. Assumes nothing.
 use Prim.Native.Nat.{◌<◌, ℕ}
 use lib.ListN.{drop, length}
-use mathlib.Core.Bool.{cond, true}
+use mathlib.Core.Bool.{cond}
 use mathlib.Core.List.{List}
 use mathlib.Core.Path.{◌∙◌, ◌≡◌, ap, refl, sym}
 use native.Mathlib.Omega.{arith}

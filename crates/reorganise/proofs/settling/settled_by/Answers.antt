@@ -1,8 +1,7 @@
 -- All blocks before the next two are settled; the place of the first of these among the masks is counted round. Assumes nothing.
 use Prim.Native.Nat.{◌%◌, ◌*◌, ◌+◌, ◌<◌, ℕ}
-use borrow.Author.Tests.{not-false, not-true}
 use lib.ListN.{get_or}
-use mathlib.Core.Bool.{Bool, not, true}
+use mathlib.Core.Bool.{Bool}
 use mathlib.Core.List.{List}
 use mathlib.Core.Path.{◌∙◌, ◌≡◌, ap, refl, sym}
 use native.Mathlib.Nat.{zero-mod}
@@ -44,7 +43,7 @@ returns-then-not-block_settled c =
     let b = 2 * c.loop-two.two in
     let h : b < block_count = omega arith in
     let f = found c.requires.given c.requires.sites_len.1 b c.loop-two.place c.loop-two.invariant.at h _ c.held_by_two-held.ensures.0 c.block_settled.ensures in
-    some-fails (control_in g) (view_of g) b h (sym f ∙ not-true _ (ap not c.if-not-block_settled.true))
+    some-fails (control_in g) (view_of g) b h (sym f ∙ c.if-not-block_settled.true)
 
 pub next_place-next-requires : goal.next_place-next-requires
 next_place-next-requires c = place-counts c.requires.sites_len.1 (2 * c.loop-two.two) c.loop-two.place c.loop-two.invariant.at
@@ -64,7 +63,7 @@ returns-then-not-block_settled-2 c =
     let h : b + 1 < block_count = omega arith in
     let at = place-next s b c.loop-two.place c.loop-two.invariant.at c.next_place-next.result c.next_place-next.ensures in
     let f = found c.requires.given s (b + 1) c.next_place-next.result at h _ c.held_by_two-held.ensures.1 c.block_settled-in-loop-two.ensures in
-    some-fails (control_in g) (view_of g) (b + 1) h (sym f ∙ not-true _ (ap not c.if-not-block_settled-2.true))
+    some-fails (control_in g) (view_of g) (b + 1) h (sym f ∙ c.if-not-block_settled-2.true)
 
 pub next_place-place-requires : goal.next_place-place-requires
 next_place-place-requires c =
@@ -85,8 +84,8 @@ loop-two-preserved c =
     record {
       at = place-next s (b + 1) c.next_place-next.result at c.next_place-place.result c.next_place-place.ensures ∙ ap (λ (x : ℕ). x % c.args.round) more;
       before = ap (λ (x : ℕ). all_below x all) (sym more)
-          ∙ all_more all (b + 1) (sym second ∙ not-false _ (ap not c.if-not-block_settled-2.false))
-          (all_more all b (sym first ∙ not-false _ (ap not c.if-not-block_settled.false)) c.loop-two.invariant.before);
+          ∙ all_more all (b + 1) (sym second ∙ c.if-not-block_settled-2.false)
+          (all_more all b (sym first ∙ c.if-not-block_settled.false) c.loop-two.invariant.before);
     }
 
 pub returns : goal.returns
