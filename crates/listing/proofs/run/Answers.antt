@@ -1,13 +1,11 @@
 -- `run` meets its contract: a turn puts one line more. Assumes nothing.
 use mathlib.Core.Path.{◌∙◌, ◌≡◌, ap, refl, subst, sym}
-use mathlib.Core.Bool.{not}
 use Prim.Native.Nat.{◌*◌, ◌+◌, ◌-◌, ◌≤◌, min, zero-le, ℕ}
 use native.Mathlib.Omega.{arith}
 use lib.ListN.{drop, length, length-drop}
 use borrow.Author.Rules.{rules}
 use Rattle.std.specs.Iterator.Adapters.{enumerate_count, enumerate_source}
 use Rattle.std.specs.Slice.Iter.{chunks_rest}
-use Rattle.lists.proofs.Bools.{not_is, not-not-is}
 use borrow.Rule.Slice.PartMut.{mid_of, put_mid}
 use Rattle.lines.specs.Lines.{longest_line}
 use Rattle.lines.specs.Text.{Puts}
@@ -18,7 +16,7 @@ use Rattle.listing.proofs.Steps.{chunk-is, image-more, listing-more, no_run, roo
 use Rattle.listing.proofs.run.Goals as goal
 
 pub returns-then-not-has_room_for_all : goal.returns-then-not-has_room_for_all
-returns-then-not-has_room_for_all c = (no_run _ _ _ _ (sym (not_is _ (ap not c.if-not-has_room_for_all.true)) ∙ c.has_room_for_all.ensures), zero-le)
+returns-then-not-has_room_for_all c = (no_run _ _ _ _ (sym c.if-not-has_room_for_all.true ∙ c.has_room_for_all.ensures), zero-le)
 
 pub loop-i-init : goal.loop-i-init
 unfolding image_behind listing
@@ -49,7 +47,7 @@ loop-i-preserved c =
     let s = c.in-Some.ensures.steps in
     let p = c.step-at in
     let w : command_count a.input.now * longest_line command_size ≤ length a.out.now =
-    (room_out a.number a.input.now a.out.now (sym c.has_room_for_all.ensures ∙ not-not-is _ (ap not c.if-not-has_room_for_all.false))).0 in
+    (room_out a.number a.input.now a.out.now (sym c.has_room_for_all.ensures ∙ c.if-not-has_room_for_all.false)).0 in
     let left : length (chunks_rest (enumerate_source it)) ≡ length a.input.now - n * command_size = ap length v.3 ∙ length-drop (n * command_size) a.input.now in
     let some : n + 1 ≤ command_count a.input.now = omega (arith, left, s.0.1.2) in
     let b = chunk-is a.input.now _ c.in-Some.bytes.now _ n v.3 s.0.1.0 (s.0.1.1 ∙ ap (λ (k : ℕ). min k (length (chunks_rest (enumerate_source it)))) v.2) in
@@ -75,8 +73,7 @@ returns c =
     let l = c.loop-i in
     let v = l.invariant in
     let n : ℕ = enumerate_count l.i-iterator in
-    let yes = not-not-is _ (ap not c.if-not-has_room_for_all.false) in
-    let w : command_count a.input.now * longest_line command_size ≤ length a.out.now = (room_out a.number a.input.now a.out.now (sym c.has_room_for_all.ensures ∙ yes)).0 in
+    let w : command_count a.input.now * longest_line command_size ≤ length a.out.now = (room_out a.number a.input.now a.out.now (sym c.has_room_for_all.ensures ∙ c.if-not-has_room_for_all.false)).0 in
     let left : length (chunks_rest (enumerate_source l.i-iterator)) ≡ length a.input.now - n * command_size = ap length v.3 ∙ length-drop (n * command_size) a.input.now in
     let done : n ≡ command_count a.input.now = omega (arith, left, c.in-None.ensures.steps.0.1.0, v.4) in
-    (whole_run a.number n l.at a.input.now a.out.now l.out a.image.now l.image (sym yes ∙ c.has_room_for_all.ensures) done v.9 v.8, omega (arith, v.7, w, done))
+    (whole_run a.number n l.at a.input.now a.out.now l.out a.image.now l.image (sym c.if-not-has_room_for_all.false ∙ c.has_room_for_all.ensures) done v.9 v.8, omega (arith, v.7, w, done))

@@ -1,6 +1,5 @@
 -- The tests of the lent block are those of the rules' rows 11 and 12. Assumes nothing.
 use Prim.Native.Nat.{◌+◌, ◌-◌, ◌≤◌, ℕ}
-use borrow.Author.Tests.{not-false, not-true}
 use borrow.Rule.Slice.PartMut.{mid_of}
 use lib.ListN.{length}
 use Rattle.refusals.proofs.HandedOn.{row-handed-on}
@@ -15,7 +14,6 @@ use Rattle.method.specs.Rules.{move, row}
 use Rattle.promise.proofs.SharedRows.{card-given}
 use Rattle.promise.specs.Given.{rows_on}
 use Rattle.reorganise.proofs.MoveRows.{copy-card, copy-end, copy-rows, refused-block, refused-card}
-use mathlib.Core.Path.{ap}
 use Rattle.reorganise.proofs.moving.check.Goals as goal
 
 pub returns-then-block-ge-BLOCK_COUNT : goal.returns-then-block-ge-BLOCK_COUNT
@@ -51,7 +49,7 @@ returns-then-not-is_held c =
     let t = c.block_address-start.result in
     copy-rows a.k a.image.now c.requires a.card.0 a.block.0 c.if-block-ge-BLOCK_COUNT.false c.in_ok-check_card.ensures
     t c.block_address-start.ensures (t + block_size - t) (omega arith) c.is_held.result locked c.is_held.ensures e in
-    rw (not-true c.is_held.result (ap not c.if-not-is_held.true)) at (rows (some_locked (of_list lent)) refl)
+    rw c.if-not-is_held.true at (rows (some_locked (of_list lent)) refl)
 
 pub slice_bounds-any_locked-end : goal.slice_bounds-any_locked-end
 slice_bounds-any_locked-end c =
@@ -72,7 +70,7 @@ returns-then-any_locked c =
     let t = c.block_address-start.result in
     copy-rows a.k a.image.now c.requires a.card.0 a.block.0 c.if-block-ge-BLOCK_COUNT.false c.in_ok-check_card.ensures
     t c.block_address-start.ensures (t + block_size - t) (omega arith) c.is_held.result locked c.is_held.ensures e in
-    rw (not-false c.is_held.result (ap not c.if-not-is_held.false), c.if-any_locked.true) at (rows c.any_locked.result c.any_locked.ensures)
+    rw (c.if-not-is_held.false, c.if-any_locked.true) at (rows c.any_locked.result c.any_locked.ensures)
 
 pub returns : goal.returns
 returns c =
@@ -85,4 +83,4 @@ returns c =
     let t = c.block_address-start.result in
     copy-rows a.k a.image.now c.requires a.card.0 a.block.0 c.if-block-ge-BLOCK_COUNT.false c.in_ok-check_card.ensures
     t c.block_address-start.ensures (t + block_size - t) (omega arith) c.is_held.result locked c.is_held.ensures e in
-    rw (not-false c.is_held.result (ap not c.if-not-is_held.false), c.if-any_locked.false) at (rows c.any_locked.result c.any_locked.ensures)
+    rw (c.if-not-is_held.false, c.if-any_locked.false) at (rows c.any_locked.result c.any_locked.ensures)
