@@ -1,9 +1,9 @@
 -- A plan of an image: why the call is refused, the answer and the lent list after it, the n-th move. Assumes nothing.
 use Prim.Native.Nat.{◌+◌, ◌-◌, ◌<◌, ◌≤◌, suc, zero, ℕ}
-use borrow.Author.Tests.{eq-eqb, ltb-false, ne_eqb}
-use lib.Dec.{eqb, ltb}
+use borrow.Author.Tests.{ltb-false}
+use lib.Dec.{ltb}
 use lib.ListN.{get_or-eq_default, drop, get_or, length, length-append, length-map, take}
-use mathlib.Core.Bool.{Bool, cond, false, not, true}
+use mathlib.Core.Bool.{Bool, cond, false, true}
 use lib.Seq.{take-length, take-suc}
 use mathlib.Core.List.{List, [], ◌++◌, ◌∷◌, map, map-append}
 use mathlib.Core.Logic.{◌≢◌, ◌⊎◌, inl, inr}
@@ -12,7 +12,6 @@ use native.Mathlib.Numerals.{add-one}
 use native.Mathlib.Omega.{arith}
 use Rattle.lists.specs.Tests.{concat_map, numbers_below}
 use Rattle.lists.proofs.Bools.{split, tf}
-use Rattle.lists.proofs.Cases.{by-eq}
 use Rattle.lists.proofs.Lists.{concat-more}
 use Rattle.lists.proofs.Numbers.{get_or-concat}
 use Rattle.image.specs.Layout.{block_count}

@@ -31,7 +31,7 @@ fn check<'a>(k: Control, bytes: &'a [u8]) -> Result<Lines<'a>, Refusal>
     if k.stopped {
         return Err(Refusal::Stopped);
     }
-    if !table_lines::work(bytes, k.working) {
+    if !table_lines::work(lines.bytes, k.working) {
         return Err(Refusal::Placement);
     }
     let covered = lines.coverage();

@@ -1,7 +1,6 @@
 -- The moves of the blocks before b are passed over: what is left of n counts from block b. Assumes nothing.
-use Prim.Native.Nat.{◌+◌, ◌-◌, ◌≤◌}
+use Prim.Native.Nat.{◌+◌}
 use mathlib.Core.Path.{◌≡◌}
-use Rattle.image.specs.Layout.{block_count}
 use Rattle.move_list.proofs.MovePlans.{moves_below}
 use Rattle.move_list.proofs.Plan.nth.Given as goal
 

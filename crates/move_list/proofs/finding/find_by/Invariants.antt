@@ -1,5 +1,5 @@
 -- The moves of the blocks before b have been found and counted, and none of their copies has a lock. Assumes nothing.
-use Prim.Native.Nat.{◌%◌, ◌*◌, ◌-◌, ◌≤◌}
+use Prim.Native.Nat.{◌%◌, ◌*◌, ◌≤◌}
 use lib.ListN.{length}
 use mathlib.Core.Bool.{false}
 use mathlib.Core.Path.{◌≡◌}

@@ -1,6 +1,5 @@
 -- No member before c has a locked slot: a search that stops at the first that has one. Assumes nothing.
 use Prim.Native.Nat.{ℕ}
-use mathlib.Core.Bool.{false}
 use mathlib.Core.Path.{◌∙◌, ◌≡◌, ap, sym}
 use native.Mathlib.Omega.{arith}
 use Rattle.lists.specs.Tests.{any_below}

@@ -1,5 +1,5 @@
 -- The first i moves are put, and the entries beyond are as lent.
-use Rattle.std.proofs.Common.{◌-◌, ◌++◌, ◌≡◌, ◌≤◌, drop, length}
+use Rattle.std.proofs.Common.{◌++◌, ◌≡◌, drop, length}
 use Rattle.move_list.specs.Plans.{first_moves, moves_in}
 use Rattle.store.proofs.moves.fill.Given as goal
 

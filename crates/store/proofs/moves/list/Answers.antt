@@ -1,8 +1,7 @@
 -- Refused, none or too short: the list is as lent; else the moves that were found are put. Assumes nothing.
-use Rattle.std.specs.Prelude.{None, Option, Some}
+use Rattle.std.specs.Prelude.{Some}
 use mathlib.Core.Path.{subst}
 use Rattle.move_list.specs.Plans.{Finds}
-use Rattle.move_list.specs.declared.Plan.{Plan}
 use Rattle.move_list.proofs.MovePlans.{filled-done, locked-done, refused-done, short-done, listed-le}
 use Rattle.store.proofs.moves.list.Goals as goal
 

@@ -1,5 +1,5 @@
 -- The load of the blocks before b has been added up, and it is at most eight a block. Assumes nothing.
-use Prim.Native.Nat.{◌+◌, ◌-◌, ◌≤◌}
+use Prim.Native.Nat.{◌+◌, ◌≤◌}
 use mathlib.Core.Path.{◌∙◌, ◌≡◌, ap}
 use native.Mathlib.Omega.{arith}
 use Rattle.image.specs.Layout.{block_count, slot_count}
