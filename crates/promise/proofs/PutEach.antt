@@ -1,4 +1,5 @@
--- One block put on each card of a list, as by a loop over the members of a mask: card by card it is the write of the rules. Assumes nothing.
+-- What is done to each card of a list in turn, as by a loop over the members of a mask; and of it one block put on each card: card by card it is the write of
+-- the rules. Assumes nothing.
 use Prim.Native.Nat.{◌<◌, ℕ}
 use lib.Dec.{eqb}
 use mathlib.Core.Bool.{Bool, ◌&&◌, ◌||◌, and-false, cond, false, true}

@@ -1,5 +1,5 @@
 -- The bytes of the entries before i stand at the front, one entry more at each turn. Assumes nothing.
-use Prim.Native.Nat.{◌*◌, ◌-◌, ℕ}
+use Prim.Native.Nat.{◌*◌, ℕ}
 use borrow.Author.Rules.{rules}
 use lib.ListN.{get_or, length}
 use mathlib.Core.List.{List}
