@@ -7,9 +7,7 @@ use mathlib.Core.Bool.{false, true}
 use mathlib.Core.Path.{◌∙◌, ◌≡◌, sym}
 use Rattle.image.specs.Layout.{least_members}
 use Rattle.mask.specs.Masks.{byte, size}
-use Rattle.control.specs.Meaning.{meaning}
-use Rattle.cabinet_rules.specs.Places.{again_by_rails}
-use Rattle.cards.proofs.Rows.{again-says-9, few-says-9, full-says-10, idle-says-9, room-says-0, spent-says-20, says-4, few, works}
+use Rattle.cards.proofs.Rows.{again-says-9, few-says-9, full-says-10, idle-says-9, room-says-0, spent-says-20, says-4}
 use Rattle.cards.proofs.check_place.Goals as goal
 
 -- fewer members than copies, and not
@@ -29,45 +27,41 @@ returns-then-members-lt-LEAST_MEMBERS c =
 pub returns-then-not-within : goal.returns-then-not-within
 returns-then-not-within c =
     -- the mask has members enough
-    let usable_at : few c.args.k c.requires c.args.mask ≡ false = enough-at c.args.mask c.members.ensures c.if-members-lt-LEAST_MEMBERS.false in
+    let usable_at = enough-at c.args.mask c.members.ensures c.if-members-lt-LEAST_MEMBERS.false in
     idle-says-9 c.args.k c.requires c.args.mask c.if-k.false usable_at (sym c.within.ensures ∙ c.if-not-within.true)
 
 pub returns-then-is_again : goal.returns-then-is_again
 returns-then-is_again c =
     -- the mask has members enough
-    let usable_at : few c.args.k c.requires c.args.mask ≡ false = enough-at c.args.mask c.members.ensures c.if-members-lt-LEAST_MEMBERS.false in
+    let usable_at = enough-at c.args.mask c.members.ensures c.if-members-lt-LEAST_MEMBERS.false in
     -- all members work
-    let works_at : works c.args.k c.requires c.args.mask ≡ true = sym c.within.ensures ∙ c.if-not-within.false in
-    let again-at : c.is_again.result ≡ again_by_rails (meaning c.args.k).newest (byte c.args.mask) = c.is_again.ensures in
+    let works_at = sym c.within.ensures ∙ c.if-not-within.false in
     again-says-9 c.args.k c.requires c.args.mask c.if-k.false usable_at works_at
-    (sym again-at ∙ c.if-is_again.true)
+    (sym c.is_again.ensures ∙ c.if-is_again.true)
 
 pub returns-then-k-ge-MOST_PLACED : goal.returns-then-k-ge-MOST_PLACED
 returns-then-k-ge-MOST_PLACED c =
     -- the mask has members enough
-    let usable_at : few c.args.k c.requires c.args.mask ≡ false = enough-at c.args.mask c.members.ensures c.if-members-lt-LEAST_MEMBERS.false in
+    let usable_at = enough-at c.args.mask c.members.ensures c.if-members-lt-LEAST_MEMBERS.false in
     -- all members work
-    let works_at : works c.args.k c.requires c.args.mask ≡ true = sym c.within.ensures ∙ c.if-not-within.false in
-    let again-at : c.is_again.result ≡ again_by_rails (meaning c.args.k).newest (byte c.args.mask) = c.is_again.ensures in
+    let works_at = sym c.within.ensures ∙ c.if-not-within.false in
     full-says-10 c.args.k c.requires c.args.mask c.if-k.false usable_at works_at
-    (sym again-at ∙ c.if-is_again.false) c.if-k-ge-MOST_PLACED.true
+    (sym c.is_again.ensures ∙ c.if-is_again.false) c.if-k-ge-MOST_PLACED.true
 
 pub returns-then-k-ge-LIMIT : goal.returns-then-k-ge-LIMIT
 returns-then-k-ge-LIMIT c =
     -- the mask has members enough
-    let usable_at : few c.args.k c.requires c.args.mask ≡ false = enough-at c.args.mask c.members.ensures c.if-members-lt-LEAST_MEMBERS.false in
+    let usable_at = enough-at c.args.mask c.members.ensures c.if-members-lt-LEAST_MEMBERS.false in
     -- all members work
-    let works_at : works c.args.k c.requires c.args.mask ≡ true = sym c.within.ensures ∙ c.if-not-within.false in
-    let again-at : c.is_again.result ≡ again_by_rails (meaning c.args.k).newest (byte c.args.mask) = c.is_again.ensures in
+    let works_at = sym c.within.ensures ∙ c.if-not-within.false in
     spent-says-20 c.args.k c.requires c.args.mask c.if-k.false usable_at works_at
-    (sym again-at ∙ c.if-is_again.false) c.if-k-ge-MOST_PLACED.false c.if-k-ge-LIMIT.true
+    (sym c.is_again.ensures ∙ c.if-is_again.false) c.if-k-ge-MOST_PLACED.false c.if-k-ge-LIMIT.true
 
 pub returns : goal.returns
 returns c =
     -- the mask has members enough
-    let usable_at : few c.args.k c.requires c.args.mask ≡ false = enough-at c.args.mask c.members.ensures c.if-members-lt-LEAST_MEMBERS.false in
+    let usable_at = enough-at c.args.mask c.members.ensures c.if-members-lt-LEAST_MEMBERS.false in
     -- all members work
-    let works_at : works c.args.k c.requires c.args.mask ≡ true = sym c.within.ensures ∙ c.if-not-within.false in
-    let again-at : c.is_again.result ≡ again_by_rails (meaning c.args.k).newest (byte c.args.mask) = c.is_again.ensures in
+    let works_at = sym c.within.ensures ∙ c.if-not-within.false in
     room-says-0 c.args.k c.requires c.args.mask c.if-k.false usable_at works_at
-    (sym again-at ∙ c.if-is_again.false) c.if-k-ge-MOST_PLACED.false c.if-k-ge-LIMIT.false
+    (sym c.is_again.ensures ∙ c.if-is_again.false) c.if-k-ge-MOST_PLACED.false c.if-k-ge-LIMIT.false
