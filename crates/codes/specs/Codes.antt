@@ -10,21 +10,40 @@ use Rattle.codes.specs.declared.Kind.{Kind}
 use Rattle.codes.specs.declared.Kind.TheVariants.{Absent, Copies, Done, Listed, Load, Nothing, Number, Placed, Protected, Refused, Retired}
 use Rattle.codes.specs.declared.Kind.TheVariants.{Stopped, Unplaced, Unprotected, Value, Written}
 
--- The kind of each answer, and its number: 0 where it has none. Kinds 11 and 12 are of the move list (ListCodes), 12 and 13 of
--- questions (ToldCodes), 14 is of calls that fill lent bytes (FilledCodes).
+-- The number of each kind of answer. Listed and Nothing are of the move list (ListCodes), Nothing and Number of questions
+-- (ToldCodes), Written of calls that fill lent bytes (FilledCodes).
+abbrev pub number_of_kind : Kind → ℕ
+number_of_kind Done = 0
+number_of_kind Value = 1
+number_of_kind Absent = 2
+number_of_kind Placed = 3
+number_of_kind Unplaced = 4
+number_of_kind Stopped = 5
+number_of_kind Copies = 6
+number_of_kind Retired = 7
+number_of_kind Protected = 8
+number_of_kind Unprotected = 9
+number_of_kind Load = 10
+number_of_kind Listed = 11
+number_of_kind Nothing = 12
+number_of_kind Number = 13
+number_of_kind Written = 14
+number_of_kind Refused = 15
+
+-- The number of the kind of an answer, and its own number: 0 where it has none.
 unfoldable pub kind_of : Answer cabinet → ℕ
-kind_of ok = 0
-kind_of (value n) = 1
-kind_of absent = 2
-kind_of (placed m) = 3
-kind_of unplaced = 4
-kind_of stops = 5
-kind_of (copied n) = 6
-kind_of (retired n) = 7
-kind_of protected = 8
-kind_of unprotected = 9
-kind_of (loaded n) = 10
-kind_of (refused n) = 15
+kind_of ok = number_of_kind Done
+kind_of (value n) = number_of_kind Value
+kind_of absent = number_of_kind Absent
+kind_of (placed m) = number_of_kind Placed
+kind_of unplaced = number_of_kind Unplaced
+kind_of stops = number_of_kind Stopped
+kind_of (copied n) = number_of_kind Copies
+kind_of (retired n) = number_of_kind Retired
+kind_of protected = number_of_kind Protected
+kind_of unprotected = number_of_kind Unprotected
+kind_of (loaded n) = number_of_kind Load
+kind_of (refused n) = number_of_kind Refused
 
 unfoldable pub answer_number : Answer cabinet → ℕ
 answer_number ok = 0
@@ -49,25 +68,6 @@ coded kind number = kind * number_range + number
 
 abbrev pub code_of : Answer cabinet → ℕ
 code_of a = coded (kind_of a) (answer_number a)
-
--- The number of a kind of the code.
-abbrev pub number_of_kind : Kind → ℕ
-number_of_kind Done = 0
-number_of_kind Value = 1
-number_of_kind Absent = 2
-number_of_kind Placed = 3
-number_of_kind Unplaced = 4
-number_of_kind Stopped = 5
-number_of_kind Copies = 6
-number_of_kind Retired = 7
-number_of_kind Protected = 8
-number_of_kind Unprotected = 9
-number_of_kind Load = 10
-number_of_kind Listed = 11
-number_of_kind Nothing = 12
-number_of_kind Number = 13
-number_of_kind Written = 14
-number_of_kind Refused = 15
 
 -- Each answer, of those whose number has 16 bits, has a code of its own.
 abbrev pub OneNumberEach : Type 0

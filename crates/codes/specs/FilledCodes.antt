@@ -4,12 +4,13 @@ use Rattle.cabinet_rules.specs.Converting.{Filling, buffer_after, convert_answer
 use Rattle.cabinet_rules.specs.Delivery.{Delivery, resuming}
 use Rattle.cabinet_rules.specs.Images.{Image}
 use Rattle.cabinet_rules.specs.Retired.{below_wire, by_tables}
-use Rattle.codes.specs.Codes.{coded, number_range}
+use Rattle.codes.specs.Codes.{coded, number_of_kind, number_range}
+use Rattle.codes.specs.declared.Kind.TheVariants.{Refused, Written}
 
 -- The kind, beside those of the other answers, and the number. A refusal has the kind that it has there.
 unfoldable pub filled_kind : Filling → ℕ
-filled_kind (written n) = 14
-filled_kind (unfilled n) = 15
+filled_kind (written n) = number_of_kind Written
+filled_kind (unfilled n) = number_of_kind Refused
 
 unfoldable pub filled_number : Filling → ℕ
 filled_number (written n) = n

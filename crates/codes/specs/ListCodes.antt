@@ -4,14 +4,15 @@ use Rattle.method.specs.MoveList.{ListAnswer, listed, no_list, not_listed}
 use Rattle.cabinet_rules.specs.Images.{Image}
 use Rattle.cabinet_rules.specs.MoveLists.{list_answer_on}
 use Rattle.move_bytes.specs.MoveBytes.{bytes_after, room_of}
-use Rattle.codes.specs.Codes.{coded, number_range}
+use Rattle.codes.specs.Codes.{coded, number_of_kind, number_range}
+use Rattle.codes.specs.declared.Kind.TheVariants.{Listed, Nothing, Refused}
 
 -- The kind of each answer, beside those of the other calls, and its number: 0 where it has none. A refusal has the kind
 -- that it has there.
 unfoldable pub list_kind : ListAnswer → ℕ
-list_kind (listed n) = 11
-list_kind no_list = 12
-list_kind (not_listed n) = 15
+list_kind (listed n) = number_of_kind Listed
+list_kind no_list = number_of_kind Nothing
+list_kind (not_listed n) = number_of_kind Refused
 
 unfoldable pub list_number : ListAnswer → ℕ
 list_number (listed n) = n

@@ -1,14 +1,15 @@
 -- What questions are told, as numbers of 32 bits, for callers in other languages. Assumes nothing.
 use Rattle.std.specs.Prelude.{◌<◌, ℕ, ◌≡◌}
 use Rattle.queries.specs.Queries.{Told, not_told, tells, tells_none}
-use Rattle.codes.specs.Codes.{coded, number_range}
+use Rattle.codes.specs.Codes.{coded, number_of_kind, number_range}
+use Rattle.codes.specs.declared.Kind.TheVariants.{Nothing, Number, Refused}
 
 -- The kind, beside those of the answers, and the number: 0 where there is none. None and a refusal have the kinds that they
 -- have there.
 unfoldable pub told_kind : Told → ℕ
-told_kind (tells n) = 13
-told_kind tells_none = 12
-told_kind (not_told n) = 15
+told_kind (tells n) = number_of_kind Number
+told_kind tells_none = number_of_kind Nothing
+told_kind (not_told n) = number_of_kind Refused
 
 unfoldable pub told_number : Told → ℕ
 told_number (tells n) = n

@@ -11,6 +11,7 @@ ghost use Rattle.codes.specs.CommandCodes.{form_code};
 ghost use Rattle.codes.specs.FilledCodes.{filled_code};
 ghost use Rattle.codes.specs.ListCodes.{list_code};
 ghost use Rattle.codes.specs.ToldCodes.{told_code};
+ghost use Rattle.codes.specs.declared.Kind.TheVariants.{Refused};
 
 use promise::Answer;
 use refusals::Refusal;
@@ -48,7 +49,7 @@ fn pair(kind: Kind, number: u16) -> u32
 
 // The code of a refusal.
 fn refused(refusal: Refusal) -> u32
-    ensures { result ≡ coded 15 (number refusal) }
+    ensures { result ≡ coded (number_of_kind Refused) (number refusal) }
 {
     pair(Kind::Refused, refusal.number() as u16)
 }
