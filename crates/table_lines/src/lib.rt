@@ -46,7 +46,8 @@ fn line_count(lines: &[u8]) -> usize
     lines.len() / LINE_SIZE
 }
 
-// Line i.
+// Line i. Inlined, so that a loop over lines reads only the bytes that it uses.
+#[inline(always)]
 fn line_at(lines: &[u8], i: usize) -> Line
     requires { i < line_count lines.now }
     ensures { meant result ≡ line_at lines.now i }
@@ -129,9 +130,13 @@ impl Covered {
     fn with_block(self, n: usize) -> Covered
         ensures { (result.gap ≡ (eqb n 0 || self.gap)) × (result.overlap ≡ (ltb 1 n || self.overlap)) }
     {
-        Covered {
-            gap: n == 0 || self.gap,
-            overlap: n > 1 || self.overlap,
+        match n {
+            0 => Covered { gap: true, ..self },
+            1 => self,
+            _ => Covered {
+                overlap: true,
+                ..self
+            },
         }
     }
 }
@@ -162,7 +167,8 @@ impl<'a> Lines<'a> {
         line_count(self.bytes)
     }
 
-    // Line i.
+    // Line i. Inlined as the read below it is.
+    #[inline(always)]
     fn line(self, i: usize) -> Line
         requires { i < line_count self.bytes.now }
         ensures is { meant result ≡ line_at self.entry.bytes.now i }
