@@ -9,7 +9,7 @@ use Prim.Native.Nat.{ℕ, zero, suc, ◌+◌, ◌≤◌, ◌<◌}
 use native.Mathlib.Omega.{arith}
 use lib.Dec.{eqb}
 use lib.ListN.{get_or, length}
-use borrow.Author.Tests.{eqb-true, lt-ltb, le-ltb}
+use borrow.Author.Tests.{eq-eqb, eqb-true, lt-ltb, le-ltb}
 use Rattle.lists.specs.Tabulate.{tabulate}
 use Rattle.lists.proofs.Bools.{and_in, and_l, and_r, eqb-self, split, tf}
 use Rattle.lists.proofs.Cases.{lt-eq-gt, lt-or-ge}
@@ -65,6 +65,11 @@ same-stamp m n e = λ i. record {
 pub stamp-test : (e : ℕ → ℕ) (ν b : ℕ) (m : Stamp) → ν ≡ serial_in e → b ≡ e serial_size → (eqb ν m.serial && eqb b m.mask) ≡ same_stamp (stamp_in e) m
 unfolding same_stamp
 stamp-test e ν b m is its = ap₂ (λ (x y : ℕ). eqb x m.serial && eqb y m.mask) is its
+
+-- With the same serial the mask decides.
+pub by_mask_lem : (e : ℕ → ℕ) (ν b : ℕ) (m : Stamp) → ν ≡ serial_in e → ν ≡ m.serial → b ≡ e serial_size → eqb b m.mask ≡ same_stamp (stamp_in e) m
+unfolding same_stamp
+by_mask_lem e ν b m is same its = rw (eq-eqb (serial_in e) m.serial (sym is ∙ same), its)
 
 -- ---- the stamp of one card
 module _ (g : List ℕ) (w : Whole g) (c : ℕ) (hc : c < card_count) (m : Stamp) where

@@ -72,8 +72,7 @@ pub fn mask_at(image: &[u8], i: usize, block: Block) -> u8
     requires usable { Usable (placement_at (λ n. get_or image.now n 0) (tail_at image.now) i) }
     ensures { AreMembers result (is_site (placement_at (λ n. get_or image.now n 0) (tail_at image.now) i) block.0) }
 {
-    let [first, second] = at(image, i, block);
-    mask::pair(first, second)
+    mask::of_sites(at(image, i, block))
 }
 
 // The masks of the sites of the first blocks, until the sites come again: of how many blocks. By table it is all blocks.

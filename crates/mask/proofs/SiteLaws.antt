@@ -146,16 +146,20 @@ are-sites s p b u h is = record {
 pub site-card : (p : Placement) (b c : ℕ) → Usable p → b < block_count → elem c (sites_of p b) ≡ true → c < card_count
 site-card p b c u h e = has-card p.mask c (site-member p b c u h e)
 
+-- a card of any list, and its number
+pub site-number : (s : List Card) (i : ℕ) (d : Card) → (get_or s i d).0 ≡ get_or (site_list s) i d.0
+site-number s i d = sym (get_or-map (λ (c : Card). c.0) s i d)
+
 -- the cards of the list, one by one
 module _ {s : List Card} {p : Placement} {b : ℕ} (at : AreSites s p b) where
   pub listed-long : length (site_list s) ≡ copy_count
   listed-long = ap length at.listed ∙ site-count p b
 
-  pub listed_at : (i : ℕ) (d : Card) → (get_or s i d).0 ≡ get_or (site_list s) i d.0
-  listed_at i d = sym (get_or-map (λ (c : Card). c.0) s i d)
+  pub listed_at : (i : ℕ) (d : Card) → (get_or s i d).0 ≡ get_or (sites_of p b) i d.0
+  listed_at i d = site-number s i d ∙ ap (λ (l : List ℕ). get_or l i d.0) at.listed
 
   pub listed-card : (i : ℕ) (d : Card) → i < copy_count → (get_or s i d).0 < card_count
-  listed-card i d h = has-card p.mask _ (at.are-members _ (rw (listed_at i d) (elem_at (site_list s) i d.0 (omega (arith, h, listed-long)))))
+  listed-card i d h = has-card p.mask _ (at.are-members _ (rw (site-number s i d) (elem_at (site_list s) i d.0 (omega (arith, h, listed-long)))))
     where
       elem_at : (l : List ℕ) (i d : ℕ) → i < length l → elem (get_or l i d) l ≡ true
       elem_at [] i d h = absurd (omega arith)

@@ -1,7 +1,7 @@
 // Masks of cards, and what a mask gives: members, and the sites of a placement whose choice is not by table.
 #![tactic(auto)]
 
-ghost use Rattle.std.specs.Prelude.{◌≡◌, ◌&&◌, cond, not, ◌∷◌, [], ◌+◌, ◌-◌, ◌<◌, ◌≤◌, leb, length, get_or, drop, take};
+ghost use Rattle.std.specs.Prelude.{◌≡◌, ◌&&◌, cond, not, ◌∷◌, [], ◌+◌, ◌-◌, ◌<◌, ◌≤◌, All, leb, length, get_or, drop, take};
 ghost use Rattle.std.specs.Int.Bits.{bit_and};
 ghost use Rattle.std.specs.Iterator.{YieldsFirstBy, item_count};
 ghost use Rattle.lists.specs.Tests.{elem};
@@ -31,6 +31,7 @@ ghost use Rattle.mask.specs.Placements.{
   member_at,
   other_rail,
   placed,
+  site_list,
 };
 
 pub mod pairs;
@@ -110,6 +111,15 @@ pub fn pair(a: Card, b: Card) -> u8
     ensures { AreMembers result (λ c. elem c (a.0 ∷ b.0 ∷ [])) }
 {
     with_card(with_card(0, a), b)
+}
+
+// The mask of the sites of a block.
+pub fn of_sites(sites: [Card; image::COPY_COUNT]) -> u8
+    requires { All (λ card. card.0 < card_count) sites }
+    ensures { AreMembers result (λ c. elem c (site_list sites)) }
+{
+    let [first, second] = sites;
+    pair(first, second)
 }
 
 // The mask without the card.

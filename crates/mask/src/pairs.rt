@@ -96,8 +96,7 @@ fn mask_in(bits: u64, place: u8) -> u8
     requires { place < blocks_in_group }
     ensures { AreMembers result (λ c. elem c (first_card (pair_in_group bits place) ∷ second_card (pair_in_group bits place) ∷ [])) }
 {
-    let [first, second] = sites(pair_in(bits, place));
-    crate::pair(first, second)
+    crate::of_sites(sites(pair_in(bits, place)))
 }
 
 // The masks of the sites of all blocks, group by group.

@@ -1,5 +1,9 @@
 -- One site more is a card, and is added where it holds the block. Assumes nothing.
+use mathlib.Core.List.{List}
+use mathlib.Core.Path.{◌∙◌, ap, sym}
+use Prim.Native.Nat.{ℕ}
 use native.Mathlib.Omega.{arith}
+use lib.ListN.{get_or}
 use Rattle.mask.specs.Masks.{byte}
 use Rattle.mask.specs.Placements.{site_list}
 use Rattle.mask.proofs.SiteLaws.{listed_at, listed-card, listed-long}
@@ -17,4 +21,4 @@ loop-card-preserved c =
     let a = c.args in
     let are = c.at-sites.ensures in
     add-more (holds_at a.image.now (byte a.working) a.block.0) (site_list c.at-sites.result) l.card-index _ (omega (arith, c.loop-card-test.true, listed-long are))
-    (listed_at are l.card-index record { 0 = 0 }) a.found l.all c.push-all.result l.invariant c.push-all.ensures
+    (listed_at are l.card-index record { 0 = 0 } ∙ ap (λ (z : List ℕ). get_or z l.card-index 0) (sym are.listed)) a.found l.all c.push-all.result l.invariant c.push-all.ensures

@@ -3,6 +3,5 @@ use native.Mathlib.Omega.{arith}
 use Rattle.mask.proofs.SiteLaws.{listed-card}
 use Rattle.control.proofs.sites.mask_at.Goals as goal
 
-pub pair-requires : goal.pair-requires
-pair-requires c =
-    let card = listed-card c.at.ensures in (card 0 record { 0 = 0 } (omega arith), card 1 record { 0 = 0 } (omega arith))
+pub of_sites-requires : goal.of_sites-requires
+of_sites-requires c k d h = listed-card c.at.ensures k d (omega (arith, h, c.at.type_inv))
