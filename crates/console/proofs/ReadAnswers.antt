@@ -2,8 +2,11 @@
 use mathlib.Core.Path.{◌∙◌, ◌≡◌, ap, refl, subst, sym}
 use mathlib.Core.Bool.{Bool, cond, false, true}
 use mathlib.Core.List.{List, []}
-use Prim.Native.Nat.{zero-le, ℕ}
+use Prim.Native.Nat.{◌≤◌, zero-le, ℕ}
+use native.Mathlib.Omega.{arith}
+use lib.ListN.{length}
 use Rattle.std.specs.Prelude.{Err, IsErrAnd, MatchResult, None, Ok, OnOk, Result, is_ok}
+use Rattle.std.specs.Io.{ReadsAtMost}
 use Rattle.console.specs.declared.ending.Failure.{Failure}
 use Rattle.lists.specs.Segments.{segment}
 use Rattle.lists.proofs.Bools.{tf}
@@ -15,6 +18,11 @@ use Rattle.console.specs.declared.Step.{Step}
 use Rattle.console.specs.Readings.{Advanced, Given, Standing, gave, given_by, given_size, numbers_fit, performed, read_failed, standing}
 
 -- ---- the answer: a number of bytes, or an error
+-- a read into a part of a buffer answers at most the bytes of the part
+pub size-within : {E : Type 0} (n : ℕ) (b : List ℕ) (r : Result ℕ E) → length b ≤ n → ReadsAtMost r b → given_size r ≤ n
+size-within n b (Ok k) m h = omega (arith, h.0, m)
+size-within n b (Err e) m h = zero-le
+
 -- what a read gave, by its answer
 pub size-ok : {E : Type 0} (r : Result ℕ E) (k : ℕ) → r ≡ Ok k → given_size r ≡ k
 size-ok {E} r k e = ap (λ (x : Result ℕ E). given_size x) e

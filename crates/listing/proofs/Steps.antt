@@ -16,7 +16,7 @@ use Rattle.std.specs.Prelude.{min}
 use Rattle.std.proofs.lemmas.List.{nil_from_length}
 use Rattle.lists.proofs.Cases.{lt-or-ge}
 use Rattle.lists.specs.Segments.{segment}
-use Rattle.lists.proofs.Bools.{and_l, and_r}
+use Rattle.lists.proofs.Bools.{and_l, and_r, same_test}
 use Rattle.image.proofs.Parts.{length_part}
 use Rattle.cabinet_rules.specs.Images.{Image}
 use Rattle.promise.specs.Promise.{Answered, shown}
@@ -137,3 +137,10 @@ room_out n input out h = (
   leb-true (command_count input * longest_line command_size) (length out) (and_l (leb (command_count input * longest_line command_size) (length out)) _ h),
   leb-true (n + command_count input) (2 ^ 64) (and_r (leb (command_count input * longest_line command_size) (length out)) _ h),
 )
+
+-- Numbers that have room below the greatest of 64 bits are those that have 64 bits.
+pub numbers_fit_lem : (n k : ℕ) → n < 2 ^ 64 → 1 ≤ k → leb (k - 1) (18446744073709551615 - n) ≡ leb (n + k) (2 ^ 64)
+numbers_fit_lem n k h e =
+    same_test (leb (k - 1) (18446744073709551615 - n)) (leb (n + k) (2 ^ 64))
+    (λ p. le-leb (n + k) (2 ^ 64) (omega (arith, leb-true (k - 1) (18446744073709551615 - n) p)))
+    (λ p. le-leb (k - 1) (18446744073709551615 - n) (omega (arith, leb-true (n + k) (2 ^ 64) p)))
