@@ -2,10 +2,9 @@
 #![tactic(auto)]
 
 ghost use Rattle.std.specs.Prelude.{◌≡◌};
-ghost use Rattle.refusals.specs.Refusals.{number};
-ghost use Rattle.promise.specs.Promise.{said, shown, shown_filled};
-ghost use Rattle.move_list.specs.Promise.{shown_list};
-ghost use Rattle.queries.specs.Queries.{shown_told};
+ghost use Rattle.promise.specs.Promise.{said, shown_by, shown_filled_by};
+ghost use Rattle.move_list.specs.Promise.{shown_list_by};
+ghost use Rattle.queries.specs.Queries.{shown_told_by};
 ghost use Rattle.codes.specs.Codes.{code_of, coded, number_of_kind};
 ghost use Rattle.codes.specs.CommandCodes.{form_code};
 ghost use Rattle.codes.specs.FilledCodes.{filled_code};
@@ -14,7 +13,7 @@ ghost use Rattle.codes.specs.ToldCodes.{told_code};
 ghost use Rattle.codes.specs.declared.Kind.TheVariants.{Refused};
 
 use promise::Answer;
-use refusals::Refusal;
+use refusals::{Numbered, Refusal};
 
 // Kinds of answers, each by its number at the C boundary, where `Done` is OK and `Nothing` is NONE.
 #[derive(Clone, Copy, Debug, PartialEq, Eq)]
@@ -47,9 +46,9 @@ fn pair(kind: Kind, number: u16) -> u32
     kind as u32 * NUMBER_RANGE + number as u32
 }
 
-// The code of a refusal.
-fn refused(refusal: Refusal) -> u32
-    ensures { result ≡ coded (number_of_kind Refused) (number refusal) }
+// The code of a refusal, or of a number in its place.
+fn refused<E: Numbered>(refusal: E) -> u32
+    ensures { result ≡ coded (number_of_kind Refused) (E.numbered refusal) }
 {
     pair(Kind::Refused, refusal.number() as u16)
 }
@@ -74,10 +73,10 @@ fn accepted(answer: Answer) -> u32
     }
 }
 
-// The code of an answer.
+// The code of an answer: its refusal is one of the table, or any number in its place. So too below.
 #[tactic(auto, unfolding(crate::specs::Codes::kind_of, crate::specs::Codes::answer_number))]
-pub fn code(answer: Result<Answer, Refusal>) -> u32
-    ensures { result ≡ code_of (shown answer) }
+pub fn code<E: Numbered>(answer: Result<Answer, E>) -> u32
+    ensures { result ≡ code_of (shown_by E.numbered answer) }
 {
     match answer {
         Ok(said) => accepted(said),
@@ -87,8 +86,8 @@ pub fn code(answer: Result<Answer, Refusal>) -> u32
 
 // The code of an answer of the move list.
 #[tactic(auto, unfolding(crate::specs::ListCodes::list_kind, crate::specs::ListCodes::list_number))]
-pub fn list_code(listed: Result<Option<u16>, Refusal>) -> u32
-    ensures { result ≡ list_code (shown_list listed) }
+pub fn list_code<E: Numbered>(listed: Result<Option<u16>, E>) -> u32
+    ensures { result ≡ list_code (shown_list_by E.numbered listed) }
 {
     match listed {
         Ok(Some(n)) => pair(Kind::Listed, n),
@@ -100,8 +99,8 @@ pub fn list_code(listed: Result<Option<u16>, Refusal>) -> u32
 // The code of what a question is told. Beside the one above it has another kind and 8 bits; one function over both would
 // take both as parameters, and is no plainer.
 #[tactic(auto, unfolding(crate::specs::ToldCodes::told_kind, crate::specs::ToldCodes::told_number))]
-pub fn told_code(told: Result<Option<u8>, Refusal>) -> u32
-    ensures { result ≡ told_code (shown_told told) }
+pub fn told_code<E: Numbered>(told: Result<Option<u8>, E>) -> u32
+    ensures { result ≡ told_code (shown_told_by E.numbered told) }
 {
     match told {
         Ok(Some(n)) => pair(Kind::Number, n as u16),
@@ -112,8 +111,8 @@ pub fn told_code(told: Result<Option<u8>, Refusal>) -> u32
 
 // The code of an answer of a call that fills lent bytes.
 #[tactic(auto, unfolding(crate::specs::FilledCodes::filled_kind, crate::specs::FilledCodes::filled_number))]
-pub fn filled_code(filled: Result<u16, Refusal>) -> u32
-    ensures { result ≡ filled_code (shown_filled filled) }
+pub fn filled_code<E: Numbered>(filled: Result<u16, E>) -> u32
+    ensures { result ≡ filled_code (shown_filled_by E.numbered filled) }
 {
     match filled {
         Ok(n) => pair(Kind::Written, n),

@@ -7,7 +7,7 @@ use native.Mathlib.Omega.{arith}
 use lib.ListN.{length, length-append}
 use Rattle.method.specs.Rules.{Answer}
 use Rattle.cabinet_rules.specs.Cabinet.{cabinet}
-use Rattle.promise.specs.Promise.{said, shown}
+use Rattle.promise.specs.Promise.{said}
 use Rattle.promise.specs.declared.Answer.TheVariants.{Placed}
 use Rattle.lines.specs.Lines.{has_room, line, line_head, line_in, words}
 use Rattle.lines.specs.Text.{decimal, hex_byte, hex_bytes, text}

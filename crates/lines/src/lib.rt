@@ -4,13 +4,13 @@
 mod text;
 
 ghost use Rattle.std.specs.Prelude.{◌+◌, ◌≤◌, ◌++◌, ◌≡◌, length};
-ghost use Rattle.promise.specs.Promise.{shown};
+ghost use Rattle.promise.specs.Promise.{shown_by};
 ghost use Rattle.lines.specs.Text.{Puts, decimal, hex_byte, text};
 ghost use Rattle.lines.specs.Lines.{has_room, line, line_head, line_in, longest_answer, longest_line, words, words_in};
 
 use crate::text::{put_byte, put_decimal, put_hex, put_hexes, put_word};
 use promise::Answer;
-use refusals::Refusal;
+use refusals::Numbered;
 
 // Digits of the greatest line number and letters of the longest answer; with two spaces and a newline, all of a line
 // but its command.
@@ -46,11 +46,11 @@ fn put_mask(out: &mut [u8], at: usize, mask: u8) -> usize
     put_hex(out, next, mask)
 }
 
-// An answer in words.
+// An answer in words: its refusal is one of the table, or any number in its place. So too below.
 #[tactic(auto, using(crate::proofs::Digits::length_16, crate::proofs::Digits::length_8, crate::proofs::Lines::placed_words), unfolding(crate::specs::Lines::words))]
-fn put_answer(out: &mut [u8], at: usize, answer: Result<Answer, Refusal>) -> usize
+fn put_answer<E: Numbered>(out: &mut [u8], at: usize, answer: Result<Answer, E>) -> usize
     requires { at + longest_answer ≤ length out.old }
-    ensures { Puts (words (shown answer)) out.old at result out.new
+    ensures { Puts (words (shown_by E.numbered answer)) out.old at result out.new
         × (result ≤ at + longest_answer) }
 {
     match answer {
@@ -72,8 +72,8 @@ fn put_answer(out: &mut [u8], at: usize, answer: Result<Answer, Refusal>) -> usi
 // Puts the words of an answer at the start of the buffer: the number of bytes put. Where there is no room for
 // the longest answer nothing is put, and the answer is 0: it stays a number by its public clause (`words_in`).
 #[tactic(auto, using(crate::proofs::Puts::puts_none), unfolding(crate::specs::Lines::words_in))]
-pub fn put_words(out: &mut [u8], answer: Result<Answer, Refusal>) -> usize
-    ensures { Puts (words_in out.old (shown answer)) out.old 0 result out.new
+pub fn put_words<E: Numbered>(out: &mut [u8], answer: Result<Answer, E>) -> usize
+    ensures { Puts (words_in out.old (shown_by E.numbered answer)) out.old 0 result out.new
         × (result ≤ length out.old) }
 {
     if out.len() < LONGEST_ANSWER {
@@ -96,14 +96,14 @@ fn put_head(out: &mut [u8], number: u64, command: &[u8]) -> usize
 
 // A line at the start of the buffer, which has room for it.
 #[tactic(auto, using(crate::proofs::Lines::head_length), unfolding(crate::specs::Lines::line))]
-fn put_whole_line(
+fn put_whole_line<E: Numbered>(
     out: &mut [u8],
     number: u64,
     command: &[u8],
-    answer: Result<Answer, Refusal>,
+    answer: Result<Answer, E>,
 ) -> usize
     requires { longest_line (length command.now) ≤ length out.old }
-    ensures { Puts (line number command.now (shown answer)) out.old 0 result out.new
+    ensures { Puts (line number command.now (shown_by E.numbered answer)) out.old 0 result out.new
         × (result ≤ longest_line (length command.now)) }
 {
     let at = put_head(out, number, command);
@@ -114,13 +114,13 @@ fn put_whole_line(
 // Puts a line at the start of the buffer: the number of bytes put. Where there is no room for the longest line of this
 // command nothing is put, and the answer is 0: it stays a number by its public clause (`line_in`).
 #[tactic(auto, using(crate::proofs::Puts::puts_none), unfolding(crate::specs::Lines::line_in, crate::specs::Lines::has_room))]
-pub fn put_line(
+pub fn put_line<E: Numbered>(
     out: &mut [u8],
     number: u64,
     command: &[u8],
-    answer: Result<Answer, Refusal>,
+    answer: Result<Answer, E>,
 ) -> usize
-    ensures { Puts (line_in out.old number command.now (shown answer)) out.old 0 result
+    ensures { Puts (line_in out.old number command.now (shown_by E.numbered answer)) out.old 0 result
         out.new
         × (result ≤ longest_line (length command.now)) }
 {

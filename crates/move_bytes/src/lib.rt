@@ -38,15 +38,15 @@ fn put_entries(bytes: &mut [u8], moves: &[Move; MOST_MOVES], n: usize)
 pub fn list(image: &[u8], bytes: &mut [u8]) -> Result<Option<u16>, Refusal>
     ensures { BytesDone image.now bytes.old result bytes.new }
 {
-    let mut moves = move_list::blank();
-    let listed = store::moves::list(image, &mut moves)?;
+    let found = store::moves::all(image);
+    let listed = found.listed?;
     match listed {
         Some(count) => {
             let n = count as usize;
             if bytes.len() / ENTRY_SIZE < n {
                 return Err(Refusal::List);
             }
-            put_entries(bytes, &moves, n);
+            put_entries(bytes, &found.moves, n);
             Ok(Some(count))
         }
         None => Ok(None),

@@ -1,14 +1,14 @@
 -- What the code finds of the moves in an image. Assumes nothing.
-use Rattle.std.specs.Prelude.{Option, is_none, IfSome, Result, Ok, Err, IfOk, suc, zero, ℕ, ltb, get_or, length, cond, List, [], ◌++◌, ◌∷◌, map, ◌≡◌}
+use Rattle.std.specs.Prelude.{Option, Some, None, is_none, IfSome, Result, Ok, Err, IfOk, suc, zero, ℕ, ltb, get_or, length, cond, List, [], ◌++◌, ◌∷◌, map, ◌≡◌}
 use Rattle.lists.specs.Tests.{concat_map, numbers_below}
 use Rattle.image.specs.Layout.{block_count}
 use Rattle.mask.specs.Masks.{byte, members}
-use Rattle.method.specs.MoveList.{Entry, any_move_locked, entry_at}
+use Rattle.method.specs.MoveList.{Entry, ListAnswer, any_move_locked, entry_at, listed, no_list, not_listed}
 use Rattle.cabinet_rules.specs.Cabinet.{cabinet}
 use Rattle.cabinet_rules.specs.Images.{Image, control_in}
 use Rattle.cabinet_rules.specs.MoveLists.{list_refusal, moves_on}
 use Rattle.promise.specs.Given.{view_of}
-use Rattle.refusals.specs.Refusals.{row_of}
+use Rattle.refusals.specs.Refusals.{number, row_of}
 use Rattle.refusals.specs.declared.Refusal.{Refusal}
 use Rattle.refusals.specs.declared.Refusal.TheVariants.{List as TooShort}
 use Rattle.move_list.specs.declared.Move.{Move}
@@ -48,3 +48,15 @@ pub record Plans (g : Image) (p : Result (Option Plan) Refusal) : Type 0 where
 -- How many moves are listed in a lent list with so much room: all that there are, or the list is too short.
 unfoldable pub plan_answer : Plan → ℕ → Result ℕ Refusal
 plan_answer p room = cond (ltb room p.count) (Err TooShort) (Ok p.count)
+
+-- What is answered to such a list by what was found, whose refusal stands for a number: the same, that a move is locked, or
+-- the refusal. And how many entries of the list are then filled: none but where moves are listed.
+unfoldable pub found_answer : {E : Type 0} → (E → ℕ) → Result (Option Plan) E → ℕ → ListAnswer
+found_answer numbered (Ok (Some p)) room = cond (ltb room p.count) (not_listed (number TooShort)) (listed p.count)
+found_answer numbered (Ok None) room = no_list
+found_answer numbered (Err r) room = not_listed (numbered r)
+
+abbrev pub entries_of : ListAnswer → ℕ
+entries_of (listed n) = n
+entries_of no_list = 0
+entries_of (not_listed n) = 0

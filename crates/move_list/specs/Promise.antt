@@ -13,11 +13,14 @@ use Rattle.move_list.specs.declared.Move.{Move}
 abbrev pub Listed : Type 0
 Listed = Result (Option ℕ) Refusal
 
--- The answer of the rules for it.
+-- The answer of the rules for it, by the number that its refusal stands for; and where that is a refusal of the table.
+abbrev pub shown_list_by : {E : Type 0} → (E → ℕ) → Result (Option ℕ) E → ListAnswer
+shown_list_by numbered (Ok (Some n)) = listed n
+shown_list_by numbered (Ok None) = no_list
+shown_list_by numbered (Err r) = not_listed (numbered r)
+
 abbrev pub shown_list : Listed → ListAnswer
-shown_list (Ok (Some n)) = listed n
-shown_list (Ok None) = no_list
-shown_list (Err r) = not_listed (number r)
+shown_list = shown_list_by number
 
 -- The lent list after the call: the moves in its first entries, those beyond their number as lent; the whole list as
 -- lent where the answer is 'none' or a refusal.

@@ -3,15 +3,15 @@
 #![tactic(auto)]
 
 ghost use Rattle.std.specs.Prelude.{◌≡◌};
-ghost use Rattle.move_list.specs.Plans.{Plans, move_at, moves_in, plan_answer};
-ghost use Rattle.move_list.specs.Promise.{blank_list};
+ghost use Rattle.move_list.specs.Plans.{Plans, entries_of, found_answer, move_at, moves_in, plan_answer};
+ghost use Rattle.move_list.specs.Promise.{blank_list, shown_list_by};
 
 mod finding;
 mod origins;
 
 use image::{BLOCK_COUNT, Block, Card};
 use mask::Placement;
-use refusals::Refusal;
+use refusals::{Numbered, Refusal};
 
 // The most moves that a list can need: every block from every card.
 pub const MOST_MOVES: usize = BLOCK_COUNT * Placement::MOST_CARDS as usize;
@@ -21,10 +21,10 @@ pub const MOST_MOVES: usize = BLOCK_COUNT * Placement::MOST_CARDS as usize;
 pub struct Move(pub Card, pub Block);
 
 // What the call answers, beside a list that has room for every list of moves: the number of moves, none where one of them
-// is locked, or a refusal. A struct, since `ListDone` has both, also where there is none.
+// is locked, or a refusal, or any number in its place. A struct, since `ListDone` has both, also where there is none.
 #[derive(Clone, Copy)]
-pub struct AllMoves {
-    pub listed: Result<Option<u16>, Refusal>,
+pub struct AllMoves<E = Refusal> {
+    pub listed: Result<Option<u16>, E>,
     pub moves: [Move; MOST_MOVES],
 }
 
@@ -42,8 +42,8 @@ pub fn blank() -> [Move; MOST_MOVES]
     [Move(Card(0), Block(0)); MOST_MOVES]
 }
 
-impl AllMoves {
-    pub fn new(listed: Result<Option<u16>, Refusal>, moves: [Move; MOST_MOVES]) -> AllMoves
+impl<E> AllMoves<E> {
+    pub fn new(listed: Result<Option<u16>, E>, moves: [Move; MOST_MOVES]) -> AllMoves<E>
         ensures { (result.listed ≡ listed) × (result.moves ≡ moves) }
     {
         AllMoves {
@@ -53,7 +53,9 @@ impl AllMoves {
     }
 }
 
-// The moves of an image, found in one pass over its tables: none where one of them is locked.
+// The moves of an image, found in one pass over its tables: none where one of them is locked. It is not inlined, so that
+// what it needs of the stack is free again where its caller fills a list.
+#[inline(never)]
 pub fn find_moves(image: &[u8]) -> Result<Option<Plan>, Refusal>
     ensures { Plans image.now result }
 {
@@ -90,5 +92,34 @@ impl Plan {
             return Err(Refusal::List);
         }
         Ok(count)
+    }
+}
+
+// What is answered to a lent list with this room by what was found: how many moves are listed, none where one of them is
+// locked, or the refusal, which is one of the table or any number in its place.
+#[tactic(auto, unfolding(crate::specs::Plans::found_answer, crate::specs::Plans::plan_answer))]
+pub fn answer<E: Numbered>(found: Result<Option<Plan>, E>, room: usize) -> Result<Option<u16>, E>
+    ensures { shown_list_by E.numbered result ≡ found_answer E.numbered found room }
+{
+    match found {
+        Ok(Some(plan)) => {
+            if room < plan.count as usize {
+                return Err(E::of(Refusal::List));
+            }
+            Ok(Some(plan.count))
+        }
+        Ok(None) => Ok(None),
+        Err(refusal) => Err(refusal),
+    }
+}
+
+// How many entries of that list are then filled: none but where moves are listed.
+pub fn stored<E: Numbered>(found: Result<Option<Plan>, E>, room: usize) -> usize
+    ensures { result ≡ entries_of (found_answer E.numbered found room) }
+{
+    match answer(found, room) {
+        Ok(Some(count)) => count as usize,
+        Ok(None) => 0,
+        Err(_) => 0,
     }
 }

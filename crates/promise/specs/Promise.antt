@@ -53,15 +53,23 @@ said (Loaded n) = loaded n
 abbrev pub Answered : Type 0
 Answered = Result AnswerValue Refusal
 
--- The answer of the rules for it.
-abbrev pub shown : Answered → Answer cabinet
-shown (Ok a) = said a
-shown (Err r) = refused (number r)
+-- The answer of the rules for one of these, or for what stands for a refusal by a number.
+abbrev pub shown_by : {E : Type 0} → (E → ℕ) → Result AnswerValue E → Answer cabinet
+shown_by numbered (Ok a) = said a
+shown_by numbered (Err r) = refused (numbered r)
 
--- The answer of the rules for what a call that fills lent bytes answers: how many were written, or a refusal.
+-- The answer of the rules for what a call answers.
+abbrev pub shown : Answered → Answer cabinet
+shown = shown_by number
+
+-- The answer of the rules for what a call that fills lent bytes answers: how many were written, or what stands for a
+-- refusal by a number; and the same where that is a refusal of the table.
+abbrev pub shown_filled_by : {E : Type 0} → (E → ℕ) → Result ℕ E → Filling
+shown_filled_by numbered (Ok n) = written n
+shown_filled_by numbered (Err r) = unfilled (numbered r)
+
 abbrev pub shown_filled : Result ℕ Refusal → Filling
-shown_filled (Ok n) = written n
-shown_filled (Err r) = unfilled (number r)
+shown_filled = shown_filled_by number
 
 -- A call on an image answered a and left the image behind.
 pub record Done (c : Call cabinet) (before : Image) (a : Answered) (behind : Image) : Type 0 where

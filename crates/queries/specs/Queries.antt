@@ -25,11 +25,14 @@ pub data Told : Type 0 where
   tells_none : Told
   not_told : ℕ → Told
 
--- The same for what the code answers.
+-- The same for what the code answers, by the number that its refusal stands for; and where that is a refusal of the table.
+abbrev pub shown_told_by : {E : Type 0} → (E → ℕ) → Result (Option ℕ) E → Told
+shown_told_by numbered (Ok (Some n)) = tells n
+shown_told_by numbered (Ok None) = tells_none
+shown_told_by numbered (Err r) = not_told (numbered r)
+
 abbrev pub shown_told : Result (Option ℕ) Refusal → Told
-shown_told (Ok (Some n)) = tells n
-shown_told (Ok None) = tells_none
-shown_told (Err r) = not_told (number r)
+shown_told = shown_told_by number
 
 -- The refusal's number; where it is 0, what is told.
 abbrev pub unless_row : ℕ → Told → Told

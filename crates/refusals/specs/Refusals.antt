@@ -28,7 +28,11 @@ number Overlap = 18
 number Stale = 19
 number Serials = 20
 
--- The row of the table that an answer gives: 0 where it is no refusal.
+-- The row of the table that an answer gives, by the number that its error stands for: 0 where it is no refusal.
+abbrev pub row_by : {A E : Type 0} → (E → ℕ) → Result A E → ℕ
+row_by numbered (Ok a) = 0
+row_by numbered (Err r) = numbered r
+
+-- The same of an answer whose error is a refusal of the table.
 abbrev pub row_of : {A : Type 0} → Result A Refusal → ℕ
-row_of (Ok a) = 0
-row_of (Err r) = number r
+row_of = row_by number

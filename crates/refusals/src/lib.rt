@@ -4,6 +4,10 @@
 ghost use Rattle.std.specs.Prelude.{◌≡◌};
 ghost use Rattle.refusals.specs.Refusals.{number};
 
+mod standing;
+
+pub use standing::Numbered;
+
 // Why a call is refused, each by its number in the table (RULES, "Refusals").
 #[derive(Clone, Copy, Debug, PartialEq, Eq)]
 pub enum Refusal {

@@ -1,6 +1,6 @@
 // Lines of the report: a title, an answer, or a slot of the image. What cannot be written is left out.
 use promise::Answer;
-use refusals::Refusal;
+use refusals::Numbered;
 
 fn write(rt: &impl Print, words: &[u8]) {
     let _ = rt.write_all(words);
@@ -23,13 +23,13 @@ pub fn slot(rt: &impl Print, bytes: [u8; 5]) {
 }
 
 // An answer's words, by way of a lent buffer.
-fn write_words(rt: &impl Print, space: &mut [u8], given: Result<Answer, Refusal>) {
+fn write_words<E: Numbered>(rt: &impl Print, space: &mut [u8], given: Result<Answer, E>) {
     let put = lines::put_words(space, given);
     write(rt, &space[..put]);
 }
 
-// An answer in the words of the listing.
-pub fn answer(rt: &impl Print, given: Result<Answer, Refusal>) {
+// An answer in the words of the listing: its refusal is one of the table, or any number in its place.
+pub fn answer<E: Numbered>(rt: &impl Print, given: Result<Answer, E>) {
     let mut space = [0u8; lines::LONGEST_ANSWER];
     write(rt, b" ");
     write_words(rt, &mut space, given);

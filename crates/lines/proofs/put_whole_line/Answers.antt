@@ -12,7 +12,7 @@ use Rattle.lines.proofs.put_whole_line.Goals as goal
 
 pub returns : goal.returns
 unfolding line
-returns c =
+returns g c =
     let a = c.args in
     let pre = c.requires in
     let f : Fits w64 a.number = search rules in

@@ -4,9 +4,7 @@ use Rattle.std.specs.Prelude.{◌≡◌, Ok, Option, None, Some}
 use mathlib.Core.List.{List}
 use mathlib.Core.Path.{◌∙◌, ap, subst, sym}
 use native.Mathlib.Omega.{arith}
-use Rattle.cabinet_rules.specs.Images.{Image}
-use Rattle.move_list.specs.Promise.{Listed, ListDone, blank_list}
-use Rattle.move_list.specs.declared.Move.{Move}
+use Rattle.move_list.specs.Promise.{Listed}
 use Rattle.move_bytes.specs.MoveBytes.{BytesDone}
 use Rattle.move_bytes.proofs.ByteLists.{few, fit-done, none_done, refused-done, short-done}
 use Rattle.move_bytes.proofs.list.Goals as goal
@@ -15,36 +13,27 @@ use Rattle.move_bytes.proofs.list.Goals as goal
 answered : {a : Listed} {o p : Option ℕ} → a ≡ Ok o → o ≡ p → a ≡ Ok p
 answered e f = e ∙ ap (λ (x : Option ℕ). Ok x) f
 
--- the list that was lent has room for every list of moves
-of-blank : {g : Image} {l : List Move} {a : Listed} {ms : List Move} → l ≡ blank_list → ListDone g l a ms → ListDone g blank_list a ms
-of-blank {g} {l} {a} {ms} e d = subst (λ (x : List Move). ListDone g x a ms) e d
-
 pub returns-in_err-listed : goal.returns-in_err-listed
 returns-in_err-listed c =
-    let d = of-blank c.blank-moves.ensures c.list.ensures in
-    refused-done c.args.image.now c.list.result _ d c.args.bytes.now _ _ (c.in_err-listed.was) c.from_residual.ensures
+    refused-done c.args.image.now c.all-found.result.listed _ c.all-found.ensures c.args.bytes.now _ _ (c.in_err-listed.was) c.from_residual.ensures
 
 pub returns-then-bytes-n : goal.returns-then-bytes-n
 returns-then-bytes-n c =
-    let d = of-blank c.blank-moves.ensures c.list.ensures in
-    let e : c.list.result ≡ Ok (Some c.in-Some.count) = answered (c.in_ok-listed.was) c.in-Some.is in
-    short-done c.args.image.now c.list.result _ d c.args.bytes.now c.in-Some.count e c.if-bytes-n.true
+    let e : c.all-found.result.listed ≡ Ok (Some c.in-Some.count) = answered (c.in_ok-listed.was) c.in-Some.is in
+    short-done c.args.image.now c.all-found.result.listed _ c.all-found.ensures c.args.bytes.now c.in-Some.count e c.if-bytes-n.true
 
 pub put_entries-requires : goal.put_entries-requires
 put_entries-requires c =
-    let d = of-blank c.blank-moves.ensures c.list.ensures in
-    let e : c.list.result ≡ Ok (Some c.in-Some.count) = answered (c.in_ok-listed.was) c.in-Some.is in
-    (few c.args.image.now c.list.result _ d c.args.bytes.now c.in-Some.count e, omega arith)
+    let e : c.all-found.result.listed ≡ Ok (Some c.in-Some.count) = answered (c.in_ok-listed.was) c.in-Some.is in
+    (few c.args.image.now c.all-found.result.listed _ c.all-found.ensures c.args.bytes.now c.in-Some.count e, omega arith)
 
 pub returns-else-bytes-n : goal.returns-else-bytes-n
 returns-else-bytes-n c =
-    let d = of-blank c.blank-moves.ensures c.list.ensures in
-    let e : c.list.result ≡ Ok (Some c.in-Some.count) = answered (c.in_ok-listed.was) c.in-Some.is in
+    let e : c.all-found.result.listed ≡ Ok (Some c.in-Some.count) = answered (c.in_ok-listed.was) c.in-Some.is in
     subst (λ (b : List ℕ). BytesDone c.args.image.now c.args.bytes.now (Ok (Some c.in-Some.count)) b) (sym c.put_entries.ensures)
-    (fit-done c.args.image.now c.list.result _ d c.args.bytes.now c.in-Some.count e c.if-bytes-n.false)
+    (fit-done c.args.image.now c.all-found.result.listed _ c.all-found.ensures c.args.bytes.now c.in-Some.count e c.if-bytes-n.false)
 
 pub returns-in-None : goal.returns-in-None
 returns-in-None c =
-    let d = of-blank c.blank-moves.ensures c.list.ensures in
-    let e : c.list.result ≡ Ok None = answered (c.in_ok-listed.was) c.in-None.is in
-    none_done c.args.image.now c.list.result _ d c.args.bytes.now e
+    let e : c.all-found.result.listed ≡ Ok None = answered (c.in_ok-listed.was) c.in-None.is in
+    none_done c.args.image.now c.all-found.result.listed _ c.all-found.ensures c.args.bytes.now e
