@@ -49,13 +49,19 @@ pub record Plans (g : Image) (p : Result (Option Plan) Refusal) : Type 0 where
 unfoldable pub plan_answer : Plan → ℕ → Result ℕ Refusal
 plan_answer p room = cond (ltb room p.count) (Err TooShort) (Ok p.count)
 
--- What is answered to such a list by what was found, whose refusal stands for a number: the same, that a move is locked, or
--- the refusal. And how many entries of the list are then filled: none but where moves are listed.
+-- The answer of the rules for that.
+abbrev pub plan_listed : Result ℕ Refusal → ListAnswer
+plan_listed (Ok n) = listed n
+plan_listed (Err r) = not_listed (number r)
+
+-- What is answered to such a list by what was found, whose refusal stands for a number: what a plan answers, that a move is
+-- locked, or the refusal.
 unfoldable pub found_answer : {E : Type 0} → (E → ℕ) → Result (Option Plan) E → ℕ → ListAnswer
-found_answer numbered (Ok (Some p)) room = cond (ltb room p.count) (not_listed (number TooShort)) (listed p.count)
+found_answer numbered (Ok (Some p)) room = plan_listed (plan_answer p room)
 found_answer numbered (Ok None) room = no_list
 found_answer numbered (Err r) room = not_listed (numbered r)
 
+-- How many entries of the list are then filled: none but where moves are listed.
 abbrev pub entries_of : ListAnswer → ℕ
 entries_of (listed n) = n
 entries_of no_list = 0

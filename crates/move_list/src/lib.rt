@@ -102,12 +102,10 @@ pub fn answer<E: Numbered>(found: Result<Option<Plan>, E>, room: usize) -> Resul
     ensures { shown_list_by E.numbered result ≡ found_answer E.numbered found room }
 {
     match found {
-        Ok(Some(plan)) => {
-            if room < plan.count as usize {
-                return Err(E::of(Refusal::List));
-            }
-            Ok(Some(plan.count))
-        }
+        Ok(Some(plan)) => match plan.answer(room) {
+            Ok(_) => Ok(Some(plan.count)),
+            Err(refusal) => Err(E::of(refusal)),
+        },
         Ok(None) => Ok(None),
         Err(refusal) => Err(refusal),
     }
